@@ -7,7 +7,7 @@ use mathlib.Core.Path.{_≡_}
 use mathlib.Core.Bool.{Bool, true, false}
 use mathlib.Core.List.{List, [], _∷_}
 use lib.Dec.{T, eqb, ltb}
-use lib.ListN.{getD}
+use lib.ListN.{getD, length}
 
 -- One line of a table. A value has the standard's name and is what the table is read and written for. Reserved bits are
 -- ignored in reading and written as 1. Fixed bits, markers and prefixes, have the number that the standard prints.
@@ -37,6 +37,10 @@ bytes t = bits t / 8
 abbrev pub and : Bool → Bool → Bool
 and true b = b
 and false b = false
+
+-- a list of bytes: each element is below 256 (past the end of a list stands 0)
+abbrev pub AreBytes : List ℕ → Type 0
+AreBytes l = (i : ℕ) → getD l i 0 < 256
 
 -- k bytes of a list, from place i on, as one number, the first byte most significant (as bslbf and uimsbf are sent)
 abbrev pub numberFrom : ℕ → ℕ → List ℕ → ℕ
@@ -85,6 +89,18 @@ joined (fixed w b ∷ t) vs = b * 2 ^ bits t + joined t vs
 
 abbrev pub writeTable : Table → List ℕ → List ℕ
 writeTable t vs = bytesOf (bytes t) (joined t vs)
+
+-- What writing means, of a number and of bytes: reading gives the values, fixed bits are as printed, reserved bits are 1. `joined`
+-- and `writeTable` meet it, and nothing else of the same size does (Laws.antt).
+pub record Carries (t : Table) (vs : List ℕ) (n : ℕ) : Type 0 where
+  pub values : valuesOf t n ≡ vs
+  pub fixed-bits : fixedHold t n ≡ true
+  pub reserved-bits : reservedOnes t n ≡ true
+
+pub record Written (t : Table) (vs l : List ℕ) : Type 0 where
+  pub as-long : length l ≡ bytes t
+  pub in-bytes : AreBytes l
+  pub carries : Carries t vs (number (bytes t) l)
 
 -- Values that a table can hold: one for each value field, each below two to its width.
 pub data Fit : Table → List ℕ → Type 0 where
