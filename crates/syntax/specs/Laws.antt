@@ -3,27 +3,17 @@
 -- Assumes nothing.
 use Prim.Native.Nat.{ℕ, zero, suc, _+_, _-_, _*_, _/_, _%_, _^_, _≤_, _<_}
 use mathlib.Core.Path.{_≡_, refl, sym, ap, ap₂, _∙_, subst}
-use mathlib.Core.Bool.{Bool, true, false}
+use mathlib.Core.Bool.{Bool, true, _&&_, and-eq-true-iff}
 use mathlib.Core.List.{List, [], _∷_, _++_, append-nil}
 use native.Mathlib.Nat.{le-of-eq, mul-assoc, mod-lt, mod-one, mod-eq-of-lt}
-use borrow.Author.Tests.{eqb-true, eq-eqb}
+use borrow.Author.Tests.{eqb-true, eq-eqb, ltb-true}
 use lib.Arith.{digits-lt}
-use lib.Dec.{T, eqb, ltb, ltb→lt, lit<}
+use lib.Dec.{eqb, ltb, lit<}
 use lib.ListN.{length, getD, take}
 use lib.Pow.{pow-add, pow-pos, high, mod-pow-add, ones-lt}
 use lib.Seq.{take-all}
-use Rattle.syntax.specs.Table.{Field, value, reserved, fixed, Table, width, bits, bytes, and, AreBytes, number, bytesOf, valuesOf, readTable, fixedHold, reservedOnes, joined, writeTable, Fit, none, at-value, at-reserved, at-fixed, fixedFit, Sound, Carries, Written}
+use Rattle.syntax.specs.Table.{Field, value, reserved, fixed, Table, width, bits, bytes, AreBytes, number, bytesOf, valuesOf, readTable, fixedHold, reservedOnes, joined, writeTable, Fit, none, at-value, at-reserved, at-fixed, fixedFit, Sound, Carries, Written}
 use Rattle.syntax.specs.Number.{byte-power, digit-high, number-append, number-below, length-bytesOf, bytesOf-bytes, number-bytesOf, bytesOf-number}
-
--- ---- both of two tests
-
-T-and : (a b : Bool) → T (and a b) → T a × T b
-T-and true b h = (tt, h)
-T-and false b h = absurd h
-
-of-and : (a b : Bool) → and a b ≡ true → (a ≡ true) × (b ≡ true)
-of-and true b h = (refl, h)
-of-and false b h = absurd (subst T (sym h) tt)
 
 -- ---- one field, of w bits, with k bits after it
 
@@ -47,9 +37,9 @@ alike-field : (f : Field) {t : Table} {m n : ℕ} → m / 2 ^ bits t % 2 ^ width
 alike-field (value w name) e a =
     record { values = ap₂ (λ (v : ℕ) (vs : List ℕ). v ∷ vs) e (a .values); fixed-bits = a .fixed-bits; reserved-bits = a .reserved-bits }
 alike-field (reserved w) e a =
-    record { values = a .values; fixed-bits = a .fixed-bits; reserved-bits = ap₂ (λ (x : ℕ) (b : Bool). and (eqb x (2 ^ w - 1)) b) e (a .reserved-bits) }
+    record { values = a .values; fixed-bits = a .fixed-bits; reserved-bits = ap₂ (λ (x : ℕ) (b : Bool). eqb x (2 ^ w - 1) && b) e (a .reserved-bits) }
 alike-field (fixed w bits) e a =
-    record { values = a .values; fixed-bits = ap₂ (λ (x : ℕ) (b : Bool). and (eqb x bits) b) e (a .fixed-bits); reserved-bits = a .reserved-bits }
+    record { values = a .values; fixed-bits = ap₂ (λ (x : ℕ) (b : Bool). eqb x bits && b) e (a .fixed-bits); reserved-bits = a .reserved-bits }
 
 -- what stands above a table's bits changes nothing in it
 above : (t : Table) (h n : ℕ) → Alike t (h * 2 ^ bits t + n) n
@@ -67,20 +57,20 @@ reserved-above t h n = above t h n .reserved-bits
 
 -- ---- the number that carries given values: `joined`, and no other of so many bits
 
-pub joined-below : {t : Table} {vs : List ℕ} → T (fixedFit t) → Fit t vs → joined t vs < 2 ^ bits t
+pub joined-below : {t : Table} {vs : List ℕ} → fixedFit t ≡ true → Fit t vs → joined t vs < 2 ^ bits t
 joined-below s none = lit< tt
 joined-below s (at-value {w} {name} {t} h fit) = field-below w (bits t) h (joined-below s fit)
 joined-below s (at-reserved {w} {t} fit) = field-below w (bits t) (ones-lt w) (joined-below s fit)
 joined-below s (at-fixed {w} {b} {t} fit) =
-    let both : T (ltb b (2 ^ w)) × T (fixedFit t) = T-and (ltb b (2 ^ w)) (fixedFit t) s in
-    field-below w (bits t) (ltb→lt b (2 ^ w) (both .0)) (joined-below (both .1) fit)
+    let both : (ltb b (2 ^ w) ≡ true) × (fixedFit t ≡ true) = and-eq-true-iff (ltb b (2 ^ w)) (fixedFit t) .0 s in
+    field-below w (bits t) (ltb-true b (2 ^ w) (both .0)) (joined-below (both .1) fit)
 
 carries-above : {t : Table} {vs : List ℕ} {n : ℕ} (h : ℕ) → Carries t vs n → Carries t vs (h * 2 ^ bits t + n)
 carries-above {t} {vs} {n} h c =
     let a : Alike t (h * 2 ^ bits t + n) n = above t h n in
     record { values = a .values ∙ c .values; fixed-bits = a .fixed-bits ∙ c .fixed-bits; reserved-bits = a .reserved-bits ∙ c .reserved-bits }
 
-pub joined-carries : {t : Table} {vs : List ℕ} → T (fixedFit t) → Fit t vs → Carries t vs (joined t vs)
+pub joined-carries : {t : Table} {vs : List ℕ} → fixedFit t ≡ true → Fit t vs → Carries t vs (joined t vs)
 joined-carries s none = record { values = refl; fixed-bits = refl; reserved-bits = refl }
 joined-carries s (at-value {w} {name} {t} {v} {vs} h fit) =
     let c : Carries t vs (v * 2 ^ bits t + joined t vs) = carries-above v (joined-carries s fit) in
@@ -94,14 +84,14 @@ joined-carries s (at-reserved {w} {t} {vs} fit) =
     record {
       values = c .values;
       fixed-bits = c .fixed-bits;
-      reserved-bits = ap₂ and (eq-eqb _ _ (field-of w (bits t) (ones-lt w) (joined-below s fit))) (c .reserved-bits);
+      reserved-bits = ap₂ _&&_ (eq-eqb _ _ (field-of w (bits t) (ones-lt w) (joined-below s fit))) (c .reserved-bits);
     }
 joined-carries s (at-fixed {w} {b} {t} {vs} fit) =
-    let both : T (ltb b (2 ^ w)) × T (fixedFit t) = T-and (ltb b (2 ^ w)) (fixedFit t) s in
+    let both : (ltb b (2 ^ w) ≡ true) × (fixedFit t ≡ true) = and-eq-true-iff (ltb b (2 ^ w)) (fixedFit t) .0 s in
     let c : Carries t vs (b * 2 ^ bits t + joined t vs) = carries-above b (joined-carries (both .1) fit) in
     record {
       values = c .values;
-      fixed-bits = ap₂ and (eq-eqb _ _ (field-of w (bits t) (ltb→lt b (2 ^ w) (both .0)) (joined-below (both .1) fit))) (c .fixed-bits);
+      fixed-bits = ap₂ _&&_ (eq-eqb _ _ (field-of w (bits t) (ltb-true b (2 ^ w) (both .0)) (joined-below (both .1) fit))) (c .fixed-bits);
       reserved-bits = c .reserved-bits;
     }
 
@@ -110,10 +100,10 @@ joined-values [] n f r = sym (mod-one n)
 joined-values (value w name ∷ t) n f r =
     ap (λ (x : ℕ). n / 2 ^ bits t % 2 ^ w * 2 ^ bits t + x) (joined-values t n f r) ∙ sym (mod-pow-add n w (bits t))
 joined-values (reserved w ∷ t) n f r =
-    let both : (eqb (n / 2 ^ bits t % 2 ^ w) (2 ^ w - 1) ≡ true) × (reservedOnes t n ≡ true) = of-and _ _ r in
+    let both : (eqb (n / 2 ^ bits t % 2 ^ w) (2 ^ w - 1) ≡ true) × (reservedOnes t n ≡ true) = and-eq-true-iff _ _ .0 r in
     ap₂ (λ (x y : ℕ). x * 2 ^ bits t + y) (sym (eqb-true _ _ (both .0))) (joined-values t n f (both .1)) ∙ sym (mod-pow-add n w (bits t))
 joined-values (fixed w b ∷ t) n f r =
-    let both : (eqb (n / 2 ^ bits t % 2 ^ w) b ≡ true) × (fixedHold t n ≡ true) = of-and _ _ f in
+    let both : (eqb (n / 2 ^ bits t % 2 ^ w) b ≡ true) × (fixedHold t n ≡ true) = and-eq-true-iff _ _ .0 f in
     ap₂ (λ (x y : ℕ). x * 2 ^ bits t + y) (sym (eqb-true _ _ (both .0))) (joined-values t n (both .1) r) ∙ sym (mod-pow-add n w (bits t))
 
 pub carries-joined : {t : Table} {vs : List ℕ} {n : ℕ} → Carries t vs n → n < 2 ^ bits t → n ≡ joined t vs
@@ -139,8 +129,8 @@ whole-power {t} s = byte-power (bytes t) ∙ ap (λ (k : ℕ). 2 ^ k) (sym (s .w
 pub length-written : (t : Table) (vs : List ℕ) → length (writeTable t vs) ≡ bytes t
 length-written t vs = length-bytesOf (bytes t) (joined t vs)
 
-pub bytes-written : (t : Table) (vs : List ℕ) → AreBytes (writeTable t vs)
-bytes-written t vs = bytesOf-bytes (bytes t) (joined t vs)
+pub written-bytes : (t : Table) (vs : List ℕ) → AreBytes (writeTable t vs)
+written-bytes t vs = bytesOf-bytes (bytes t) (joined t vs)
 
 -- the number of what was written
 pub number-written : {t : Table} {vs : List ℕ} → Sound t → Fit t vs → (rest : List ℕ) → number (bytes t) (writeTable t vs ++ rest) ≡ joined t vs
@@ -172,7 +162,7 @@ write-read {t} s l b long f r =
 
 -- `writeTable` meets what writing means, and nothing else does
 pub writes : {t : Table} {vs : List ℕ} → Sound t → Fit t vs → Written t vs (writeTable t vs)
-writes {t} {vs} s fit = record { as-long = length-written t vs; in-bytes = bytes-written t vs; carries = rw (append-nil) at (written-carries s fit []) }
+writes {t} {vs} s fit = record { as-long = length-written t vs; in-bytes = written-bytes t vs; carries = rw (append-nil) at (written-carries s fit []) }
 
 pub writes-only : {t : Table} {vs l : List ℕ} → Sound t → Written t vs l → l ≡ writeTable t vs
 writes-only {t} {vs} {l} s w =

@@ -10,6 +10,7 @@ use lib.Arith.{digits-lt, digits-div, mod-mul}
 use lib.Dec.{lit<}
 use lib.ListN.{length, getD, take, drop}
 use lib.Pow.{pow-add}
+use lib.Seq.{getD-drop}
 use Rattle.syntax.specs.Table.{number, numberFrom, bytesOf, AreBytes}
 
 -- a power of 256, as the count of numbers that so many bytes hold
@@ -31,6 +32,22 @@ digit-high high n m {c} positive =
     ap (λ (x : ℕ). (x + n) / c % m) (sym (mul-assoc high m c))
     ∙ ap (λ (x : ℕ). x % m) (mul-add-div-right positive (high * m) n)
     ∙ mul-add-mod-self-right high m (n / c)
+
+-- ---- parts of a list of bytes
+
+pub drop-bytes : (i : ℕ) (l : List ℕ) → AreBytes l → AreBytes (drop i l)
+drop-bytes i l b j = rw getD-drop (b (i + j))
+
+pub take-bytes : (k : ℕ) (l : List ℕ) → AreBytes l → AreBytes (take k l)
+take-bytes zero l b i = lit< tt
+take-bytes (suc k) [] b i = lit< tt
+take-bytes (suc k) (x ∷ l) b zero = b 0
+take-bytes (suc k) (x ∷ l) b (suc i) = take-bytes k l (λ j. b (suc j)) i
+
+pub append-bytes : (l m : List ℕ) → AreBytes l → AreBytes m → AreBytes (l ++ m)
+append-bytes [] m b b′ i = b′ i
+append-bytes (x ∷ l) m b b′ zero = b 0
+append-bytes (x ∷ l) m b b′ (suc i) = append-bytes l m (λ j. b (suc j)) b′ i
 
 -- ---- a number by its first byte
 
