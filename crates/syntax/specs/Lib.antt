@@ -1,1 +1,5 @@
 pub mod Table
+pub mod Number
+pub mod Laws
+pub mod Parts
+pub mod Examples

@@ -4,10 +4,10 @@
 use Prim.Native.Nat.{ℕ, zero, suc, _+_, _-_, _*_, _/_, _%_, _^_, _<_}
 use Prim.Native.String.{String}
 use mathlib.Core.Path.{_≡_}
-use mathlib.Core.Bool.{Bool, true, false}
+use mathlib.Core.Bool.{Bool, true, false, _&&_}
 use mathlib.Core.List.{List, [], _∷_}
-use lib.Dec.{T, eqb, ltb}
-use lib.ListN.{getD}
+use lib.Dec.{eqb, ltb}
+use lib.ListN.{getD, length}
 
 -- One line of a table. A value has the standard's name and is what the table is read and written for. Reserved bits are
 -- ignored in reading and written as 1. Fixed bits, markers and prefixes, have the number that the standard prints.
@@ -33,10 +33,9 @@ bits (f ∷ t) = width f + bits t
 abbrev pub bytes : Table → ℕ
 bytes t = bits t / 8
 
--- both of two tests
-abbrev pub and : Bool → Bool → Bool
-and true b = b
-and false b = false
+-- a list of bytes: each element is below 256 (past the end of a list stands 0)
+abbrev pub AreBytes : List ℕ → Type 0
+AreBytes l = (i : ℕ) → getD l i 0 < 256
 
 -- k bytes of a list, from place i on, as one number, the first byte most significant (as bslbf and uimsbf are sent)
 abbrev pub numberFrom : ℕ → ℕ → List ℕ → ℕ
@@ -66,13 +65,13 @@ abbrev pub fixedHold : Table → ℕ → Bool
 fixedHold [] n = true
 fixedHold (value w name ∷ t) n = fixedHold t n
 fixedHold (reserved w ∷ t) n = fixedHold t n
-fixedHold (fixed w b ∷ t) n = and (eqb (n / 2 ^ bits t % 2 ^ w) b) (fixedHold t n)
+fixedHold (fixed w b ∷ t) n = eqb (n / 2 ^ bits t % 2 ^ w) b && fixedHold t n
 
 -- whether the reserved bits are 1, as a writer leaves them
 abbrev pub reservedOnes : Table → ℕ → Bool
 reservedOnes [] n = true
 reservedOnes (value w name ∷ t) n = reservedOnes t n
-reservedOnes (reserved w ∷ t) n = and (eqb (n / 2 ^ bits t % 2 ^ w) (2 ^ w - 1)) (reservedOnes t n)
+reservedOnes (reserved w ∷ t) n = eqb (n / 2 ^ bits t % 2 ^ w) (2 ^ w - 1) && reservedOnes t n
 reservedOnes (fixed w b ∷ t) n = reservedOnes t n
 
 -- WRITING. The values laid into a table, in its order, reserved bits as 1 and fixed bits as printed.
@@ -86,6 +85,18 @@ joined (fixed w b ∷ t) vs = b * 2 ^ bits t + joined t vs
 abbrev pub writeTable : Table → List ℕ → List ℕ
 writeTable t vs = bytesOf (bytes t) (joined t vs)
 
+-- What writing means, of a number and of bytes: reading gives the values, fixed bits are as printed, reserved bits are 1. `joined`
+-- and `writeTable` meet it, and nothing else of the same size does (Laws.antt).
+pub record Carries (t : Table) (vs : List ℕ) (n : ℕ) : Type 0 where
+  pub values : valuesOf t n ≡ vs
+  pub fixed-bits : fixedHold t n ≡ true
+  pub reserved-bits : reservedOnes t n ≡ true
+
+pub record Written (t : Table) (vs l : List ℕ) : Type 0 where
+  pub as-long : length l ≡ bytes t
+  pub in-bytes : AreBytes l
+  pub carries : Carries t vs (number (bytes t) l)
+
 -- Values that a table can hold: one for each value field, each below two to its width.
 pub data Fit : Table → List ℕ → Type 0 where
   none : Fit [] []
@@ -98,9 +109,9 @@ abbrev pub fixedFit : Table → Bool
 fixedFit [] = true
 fixedFit (value w name ∷ t) = fixedFit t
 fixedFit (reserved w ∷ t) = fixedFit t
-fixedFit (fixed w b ∷ t) = and (ltb b (2 ^ w)) (fixedFit t)
+fixedFit (fixed w b ∷ t) = ltb b (2 ^ w) && fixedFit t
 
 -- A table that can be written: it fills whole bytes, and its fixed bits fit their widths.
 pub record Sound (t : Table) : Type 0 where
   pub whole : bits t ≡ 8 * bytes t
-  pub fixed-fit : T (fixedFit t)
+  pub fixed-fit : fixedFit t ≡ true
