@@ -2,4 +2,5 @@ pub mod Table
 pub mod Number
 pub mod Laws
 pub mod Parts
+pub mod Equations
 pub mod Examples

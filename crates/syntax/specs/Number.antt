@@ -2,9 +2,9 @@
 -- In order: a number by its first byte; of a part of a list; in two parts; its bound; the bytes of a number; the two joined both ways.
 -- Assumes nothing.
 use Prim.Native.Nat.{ℕ, zero, suc, _+_, _*_, _/_, _%_, _^_, _≤_, _<_}
-use mathlib.Core.Path.{_≡_, refl, sym, ap, ap₂, _∙_, subst}
+use mathlib.Core.Path.{_≡_, refl, sym, ap, ap₂, _∙_}
 use mathlib.Core.List.{List, [], _∷_, _++_}
-use native.Mathlib.Nat.{add-zero, zero-add, suc-add, add-suc, zero-mul, mul-assoc, mul-add-div-right, mul-add-mod-self-right, mul-comm, mod-lt, mod-one, mod-eq-of-lt, one-le-pow, pow-succ', div-div-eq-div-mul, not-suc-le-zero, le-of-suc-le-suc, add-mul, add-assoc}
+use native.Mathlib.Nat.{add-zero, zero-add, suc-add, add-suc, zero-mul, mul-assoc, mul-add-div-right, mul-add-mod-self-right, mul-comm, mod-lt, mod-one, mod-eq-of-lt, one-le-pow, pow-succ', div-div-eq-div-mul, not-suc-le-zero, le-of-suc-le-suc}
 use native.Mathlib.Omega.{arith}
 use lib.Arith.{digits-lt, digits-div, mod-mul}
 use lib.Dec.{lit<}

@@ -1,16 +1,16 @@
 -- A table in two parts that meet at a whole byte: reading and writing take the parts one after the other.
 -- Assumes nothing.
-use Prim.Native.Nat.{ℕ, zero, suc, _+_, _-_, _*_, _/_, _%_, _^_, _≤_, _<_}
-use mathlib.Core.Path.{_≡_, refl, sym, ap, ap₂, _∙_, subst}
+use Prim.Native.Nat.{ℕ, _+_, _-_, _*_, _/_, _%_, _^_}
+use mathlib.Core.Path.{_≡_, refl, sym, ap, ap₂, _∙_}
 use mathlib.Core.Bool.{Bool, _&&_, and-eq-true-iff, and-assoc}
-use mathlib.Core.List.{List, [], _∷_, _++_, append-assoc}
-use native.Mathlib.Nat.{add-assoc, add-comm, zero-add, div-one}
+use mathlib.Core.List.{List, [], _∷_, _++_}
+use native.Mathlib.Nat.{add-assoc, add-comm, zero-add}
 use native.Mathlib.Omega.{arith}
 use lib.Arith.{digits-div}
-use lib.Dec.{eqb, ltb}
-use lib.ListN.{length, getD, take, drop}
+use lib.Dec.{ltb}
+use lib.ListN.{drop}
 use lib.Pow.{pow-add, shr-shr}
-use Rattle.syntax.specs.Table.{Field, value, reserved, fixed, Table, width, bits, bytes, AreBytes, number, bytesOf, valuesOf, readTable, fixedHold, reservedOnes, joined, writeTable, Fit, none, at-value, at-reserved, at-fixed, fixedFit, Sound, Carries, Written}
+use Rattle.syntax.specs.Table.{value, reserved, fixed, Table, width, bits, bytes, AreBytes, number, bytesOf, valuesOf, readTable, fixedHold, reservedOnes, joined, writeTable, Fit, none, at-value, at-reserved, at-fixed, fixedFit, Sound}
 use Rattle.syntax.specs.Number.{drop-bytes, number-split, number-below, bytesOf-split}
 use Rattle.syntax.specs.Laws.{whole-power, values-above, fixed-above, reserved-above, joined-below}
 
