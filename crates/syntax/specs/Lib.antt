@@ -1,3 +1,4 @@
+-- What the crate says of syntax tables: the definitions, and their laws.
 pub mod Table
 pub mod Number
 pub mod Laws

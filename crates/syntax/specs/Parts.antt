@@ -1,4 +1,5 @@
--- A table in two parts that meet at a whole byte: reading and writing take the parts one after the other.
+-- A table in two parts that meet at a whole byte: reading and writing take the parts one after the other (`read-append`,
+-- `fixed-append`, `reserved-append`, `write-append`). No law asks how long the list is: past its end stands 0 for both sides.
 -- Assumes nothing.
 use Prim.Native.Nat.{ℕ, _+_, _-_, _*_, _/_, _%_, _^_}
 use mathlib.Core.Path.{_≡_, refl, sym, ap, ap₂, _∙_}
@@ -13,6 +14,8 @@ use lib.Pow.{pow-add, shr-shr}
 use Rattle.syntax.specs.Table.{value, reserved, fixed, Table, width, bits, bytes, AreBytes, number, bytesOf, valuesOf, readTable, fixedHold, reservedOnes, joined, writeTable, Fit, none, at-value, at-reserved, at-fixed, fixedFit, Sound}
 use Rattle.syntax.specs.Number.{drop-bytes, number-split, number-below, bytesOf-split}
 use Rattle.syntax.specs.Laws.{whole-power, values-above, fixed-above, reserved-above, joined-below}
+
+-- ---- the two parts as one table
 
 pub bits-append : (t u : Table) → bits (t ++ u) ≡ bits t + bits u
 bits-append [] u = sym (zero-add (bits u))
@@ -107,6 +110,7 @@ module _ {t u : Table} (s : Sound t) (s′ : Sound u) (l : List ℕ) (b : AreByt
 
 -- ---- writing
 
+-- a value of the first part stands above the bits of both
 field-place : (t u : Table) (v : ℕ) (first second : ℕ) → v * 2 ^ bits (t ++ u) + (first * 2 ^ bits u + second) ≡ (v * 2 ^ bits t + first) * 2 ^ bits u + second
 field-place t u v first second = rw (bits-append t u, pow-add) (omega arith)
 
