@@ -1,9 +1,9 @@
 -- What the two loops over an extension's list know after each turn.
 -- Assumes nothing.
-use Prim.Native.Nat.{ℕ, zero, suc, _+_, _≤_, _<_, min}
+use Prim.Native.Nat.{ℕ, suc, _+_, _≤_, _<_, min}
 use mathlib.Core.Path.{_≡_, refl, sym, _∙_, ap}
 use mathlib.Core.Bool.{Bool, true, false, _||_, or-true, or-false}
-use mathlib.Core.List.{List, [], _∷_, _++_, map, map-append}
+use mathlib.Core.List.{List, [], _∷_, map, map-append}
 use native.Mathlib.Decide.{decLt, ℕ-discrete}
 use native.Mathlib.Numerals.{add-one}
 use native.Mathlib.Omega.{arith}
@@ -13,11 +13,11 @@ use lib.ListN.{length, getD, set, take, replicate, length-set, length-replicate,
 use lib.Seq.{take-suc, take-all, length-take-le, getD-take, getD-set-same, getD-set-other}
 use Rattle.combinators.specs.Bools.{either-left, either-right}
 use Rattle.combinators.specs.Below.{some, some-at}
-use Rattle.combinators.specs.Members.{member}
+use Rattle.combinators.specs.Members.{member, member-last}
 use Rattle.vocabulary.specs.declared.LayerIndex.{LayerIndex}
 use Rattle.descriptors.specs.Records.{noLayer}
 use Rattle.judging.specs.Judging.{plain, wrongAt, wrongList}
-use Rattle.judging.specs.Sets.{withIndex, withIndices, member-last, indices-last}
+use Rattle.judging.specs.Sets.{withIndex, withIndices, indices-last}
 
 -- THE LIST. The first `count` layers of the array as numbers: how many, and what stands at each place.
 module _ (embedded : List LayerIndex) (count : ℕ) (room : count ≤ length embedded) where

@@ -33,12 +33,12 @@ sameIndex a b = isLayer a && isLayer b && eqb (indexOf a) (indexOf b)
 
 -- NAMES. The layers that a record names: a hierarchy record its embedded layer, but a base layer (type 15) none, whatever its embedded
 -- index says; an extension as many of the list beside it as it counts.
-abbrev pub embeddedOfType : ℕ → LayerIndex → List LayerIndex
-embeddedOfType hierarchyType embedded = cond (eqb hierarchyType 15) [] (embedded ∷ [])
+abbrev pub isBase : HierarchyRecord → Bool
+isBase h = eqb (h .«hierarchy_type») 15
 
 abbrev pub listed : Record → List LayerIndex → List LayerIndex
 listed NoRecord layers = []
-listed (Hierarchy h) layers = embeddedOfType (h .«hierarchy_type») (h .«embedded_layer_index»)
+listed (Hierarchy h) layers = cond (isBase h) [] (h .«embedded_layer_index» ∷ [])
 listed (Extension x) layers = take (x .«num_embedded_layers») layers
 
 abbrev pub plain : LayerIndex → ℕ
@@ -48,7 +48,8 @@ plain index = index .0
 abbrev pub named : Record → List LayerIndex → List ℕ
 named r layers = map plain (listed r layers)
 
--- 6. 'type not allowed on this stream, or an extension on 0x1B, 0x1F, 0x20'
+-- 6. 'type not allowed on this stream, or an extension on 0x1B, 0x1F, 0x20 in the 2015 reading'. The 2009 reading skips every extension,
+-- and so has no such record.
 abbrev pub noExtensionOn : List ℕ
 noExtensionOn = 0x1B ∷ 0x1F ∷ 0x20 ∷ []
 

@@ -8,7 +8,7 @@ ghost use mathlib.Core.List.{[], map};
 ghost use Prim.Native.Nat.{_≤_, _<_, min};
 ghost use lib.ListN.{take, replicate};
 ghost use Rattle.combinators.specs.Members.{member};
-ghost use Rattle.judging.specs.Judging.{isLayer, indexOf, plain, noExtensionOn, typeNotAllowed, at0, flagsAt0, flagsWrongFor, wrongFlags, wrongList, wrongEmbedded, tooManyEmbedded};
+ghost use Rattle.judging.specs.Judging.{isLayer, indexOf, isBase, plain, noExtensionOn, typeNotAllowed, at0, flagsAt0, flagsWrongFor, wrongFlags, wrongList, wrongEmbedded, tooManyEmbedded};
 ghost use Rattle.judging.specs.Sets.{withIndex, withIndices, namesOf};
 use descriptors::HierarchyRecord;
 use descriptors::Record;
@@ -140,11 +140,17 @@ fn wrong_list(own: LayerIndex, count: usize, embedded: [LayerIndex; 63]) -> bool
     false
 }
 
-// A base layer's embedded index names nothing.
+// Type 15 is a base layer: its embedded index names nothing.
+fn is_base(hierarchy: HierarchyRecord) -> bool
+    ensures { λ r. ⌜ r ≡ isBase hierarchy ⌝ }
+{
+    hierarchy.hierarchy_type == 15
+}
+
 fn wrong_hierarchy_index(hierarchy: HierarchyRecord) -> bool
     ensures { λ r. ⌜ r ≡ wrongEmbedded (Record.Hierarchy hierarchy) [] ⌝ }
 {
-    if hierarchy.hierarchy_type == 15 {
+    if is_base(hierarchy) {
         return false;
     }
     hierarchy.layer_index.0 <= hierarchy.embedded_layer_index.0
@@ -205,7 +211,7 @@ fn names_in(count: usize, embedded: [LayerIndex; 63]) -> u64
 fn names_of_hierarchy(hierarchy: HierarchyRecord) -> u64
     ensures { λ r. ⌜ r ≡ namesOf (Record.Hierarchy hierarchy) [] ⌝ }
 {
-    if hierarchy.hierarchy_type == 15 {
+    if is_base(hierarchy) {
         return 0;
     }
     with_index(0, hierarchy.embedded_layer_index)

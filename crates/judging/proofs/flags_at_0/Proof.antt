@@ -1,3 +1,5 @@
+-- `judging::flags_at_0` meets its contract: each flag counts 1 at the most, so that the sum fits.
+-- Assumes nothing.
 use Prim.Native.Nat.{_≤_}
 use mathlib.Core.Bool.{Bool, true, false}
 use native.Mathlib.Omega.{arith}
@@ -5,49 +7,38 @@ use Rattle.judging.specs.Judging.{at0}
 use borrow.Author.Needs.{needs}
 use Rattle.judging.proofs.flags_at_0.Statement.{statement}
 use Rattle.judging.proofs.flags_at_0.Tie as tie
-use Rattle.judging.proofs.flags_at_0.Reads as reads
-use Rattle.judging.proofs.flags_at_0.Lts as lts
-use Rattle.judging.proofs.at_0.Reads as at-0-reads
 
 small : (flag : Bool) → at0 flag ≤ 1
 small true = omega arith
 small false = omega arith
 
--- src/lib.rt:71:5
 at-0-requires : tie.Need-at-0-requires
 at-0-requires c κs = search needs
 
--- src/lib.rt:71:31
 at-0-requires-2 : tie.Need-at-0-requires-2
 at-0-requires-2 c κs = search needs
 
--- src/lib.rt:71:5
 add-result : tie.Need-add-result
 add-result c =
     let h = c .before .before .args .hierarchy in
     omega (arith, c .before .at-0 .ensures, c .at-02 .ensures, small (h .«no_view»), small (h .«no_temporal»))
 
--- src/lib.rt:71:61
 at-0-requires-3 : tie.Need-at-0-requires-3
 at-0-requires-3 c κs = search needs
 
--- src/lib.rt:71:5
 add-result-2 : tie.Need-add-result-2
 add-result-2 c =
     let h = c .before .before .before .args .hierarchy in
     omega (arith, c .before .before .at-0 .ensures, c .before .at-02 .ensures, c .at-03 .ensures, small (h .«no_view»), small (h .«no_temporal»), small (h .«no_spatial»))
 
--- src/lib.rt:71:90
 at-0-requires-4 : tie.Need-at-0-requires-4
 at-0-requires-4 c κs = search needs
 
--- src/lib.rt:71:5
 add-result-3 : tie.Need-add-result-3
 add-result-3 c =
     let h = c .before .before .before .before .args .hierarchy in
     omega (arith, c .before .before .before .at-0 .ensures, c .before .before .at-02 .ensures, c .before .at-03 .ensures, c .at-04 .ensures, small (h .«no_view»), small (h .«no_temporal»), small (h .«no_spatial»), small (h .«no_quality»))
 
--- src/lib.rt:68:1
 returns : tie.Need-returns
 returns c = search needs
 

@@ -1,33 +1,27 @@
+-- `judging::layer_index` meets its contract: which arm was taken says where the index stands.
+-- Assumes nothing.
 use mathlib.Core.Path.{ap, sym}
 use Rattle.descriptors.specs.declared.records.Record.{Record}
 use Rattle.judging.specs.Judging.{indexOf}
 use borrow.Author.Needs.{needs}
 use Rattle.judging.proofs.layer_index.Statement.{statement}
 use Rattle.judging.proofs.layer_index.Tie as tie
-use Rattle.judging.proofs.layer_index.Reads as reads
-use Rattle.judging.proofs.layer_index.Lts as lts
 
--- src/lib.rt:34:29
 enum-told : tie.Need-enum-told
 enum-told c = search needs
 
--- src/lib.rt:35:27
 enum-known-record : tie.Need-enum-known-record
 enum-known-record c = search needs
 
--- src/lib.rt:36:27
 enum-known-record-2 : tie.Need-enum-known-record-2
 enum-known-record-2 c = search needs
 
--- src/lib.rt:30:1
 returns : tie.Need-returns
 returns c = sym (ap (λ (r : Record). record { 0 = indexOf r }) (c .enum-told .given .1))
 
--- src/lib.rt:30:1
 returns-2 : tie.Need-returns-2
 returns-2 c = sym (ap (λ (r : Record). record { 0 = indexOf r }) (c .before .before .«record» .given .1))
 
--- src/lib.rt:30:1
 returns-3 : tie.Need-returns-3
 returns-3 c = sym (ap (λ (r : Record). record { 0 = indexOf r }) (c .before .before .record2 .given .1))
 

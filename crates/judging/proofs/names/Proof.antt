@@ -1,3 +1,5 @@
+-- `judging::names` meets its contract: which arm was taken says which record it is, and the callee gathers what it lists.
+-- Assumes nothing.
 use mathlib.Core.Path.{_≡_, _∙_, ap, sym}
 use mathlib.Core.List.{List, map}
 use native.Mathlib.Omega.{arith}
@@ -10,47 +12,33 @@ use Rattle.judging.proofs.Loops.{all-listed}
 use borrow.Author.Needs.{needs}
 use Rattle.judging.proofs.names.Statement.{statement}
 use Rattle.judging.proofs.names.Tie as tie
-use Rattle.judging.proofs.names.Reads as reads
-use Rattle.judging.proofs.names.Lts as lts
-use Rattle.judging.proofs.listed_count.Reads as listed-count-reads
-use Rattle.judging.proofs.names_in.Reads as names-in-reads
-use Rattle.judging.proofs.names_of_hierarchy.Reads as names-of-hierarchy-reads
 
--- src/lib.rt:209:29
 enum-told : tie.Need-enum-told
 enum-told c = search needs
 
--- src/lib.rt:210:27
 enum-known-record : tie.Need-enum-known-record
 enum-known-record c = search needs
 
--- src/lib.rt:210:41
 names-of-hierarchy-requires : tie.Need-names-of-hierarchy-requires
 names-of-hierarchy-requires c κs = search needs
 
--- src/lib.rt:211:27
 enum-known-record-2 : tie.Need-enum-known-record-2
 enum-known-record-2 c = search needs
 
--- src/lib.rt:211:50
 listed-count-requires : tie.Need-listed-count-requires
 listed-count-requires c κs = search needs
 
--- src/lib.rt:211:41
 names-in-requires : tie.Need-names-in-requires
 names-in-requires c κs = search needs
 
--- src/lib.rt:205:1
 returns : tie.Need-returns
 returns c = search needs
 
--- src/lib.rt:205:1
 returns-2 : tie.Need-returns-2
 returns-2 c =
     let a = c .before .before .before .before .args in
     c .names-of-hierarchy .ensures ∙ sym (ap (λ (r : Record). namesOf r (a .embedded)) (c .before .before .«record» .given .1))
 
--- src/lib.rt:205:1
 returns-3 : tie.Need-returns-3
 returns-3 c =
     let a = c .before .before .before .before .before .args in

@@ -1,6 +1,8 @@
+-- `judging::names_in` meets its contract. The loop's invariant: the set is that of the indices passed.
+-- Assumes nothing.
 use Prim.Native.Nat.{ℕ, _≤_, _-_}
 use borrow.Author.Needs.{needs}
-use mathlib.Core.Path.{_≡_, _∙_, ap, sym, refl}
+use mathlib.Core.Path.{_≡_, _∙_, ap, refl}
 use mathlib.Core.List.{map}
 use native.Mathlib.Omega.{arith}
 use lib.ListN.{length, take}
@@ -9,9 +11,6 @@ use Rattle.judging.specs.Sets.{withIndices}
 use Rattle.judging.proofs.Loops.{named-step}
 use Rattle.judging.proofs.names_in.Statement.{statement}
 use Rattle.judging.proofs.names_in.Tie as tie
-use Rattle.judging.proofs.names_in.Reads as reads
-use Rattle.judging.proofs.names_in.Lts as lts
-use Rattle.judging.proofs.with_index.Reads as with-index-reads
 
 abbrev Inv-loop : tie.InvT-loop
 Inv-loop count embedded set₀ i₀ set i = (i ≤ count) × (set ≡ withIndices 0 (map plain (take i embedded)))
@@ -19,27 +18,21 @@ Inv-loop count embedded set₀ i₀ set i = (i ≤ count) × (set ≡ withIndice
 abbrev μ-loop : tie.MeasureT-loop
 μ-loop count embedded set₀ i₀ set i = count - i
 
--- src/lib.rt:188:5
 loop-holds : tie.Need-loop-holds Inv-loop μ-loop
 loop-holds c = (omega arith, refl)
 
--- src/lib.rt:189:31
 array-copy-out-with-index : tie.Need-array-copy-out-with-index Inv-loop μ-loop
 array-copy-out-with-index c = search needs
 
--- src/lib.rt:189:9
 with-index-requires : tie.Need-with-index-requires Inv-loop μ-loop
 with-index-requires c κs = search needs
 
--- src/lib.rt:190:9
 add-i : tie.Need-add-i Inv-loop μ-loop
 add-i c = search needs
 
--- src/lib.rt:188:5
 loop-less : tie.Need-loop-less Inv-loop μ-loop
 loop-less c = search needs
 
--- src/lib.rt:188:5
 loop-again : tie.Need-loop-again Inv-loop μ-loop
 loop-again c =
     let i = c .before .before .before .loop .i in
@@ -47,7 +40,6 @@ loop-again c =
     let room : length embedded ≡ 63 = omega arith in
     (omega arith, c .with-index .ensures ∙ named-step embedded (c .before .before .before .loop .set) i (omega arith) (c .before .before .before .loop .inv .1))
 
--- src/lib.rt:182:1
 returns : tie.Need-returns Inv-loop μ-loop
 returns c =
     let embedded = c .before .before .args .t2 in

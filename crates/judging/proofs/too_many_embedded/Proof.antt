@@ -1,32 +1,26 @@
+-- `judging::too_many_embedded` meets its contract: which arm was taken says which record it is.
+-- Assumes nothing.
 use mathlib.Core.Path.{ap, sym}
 use Rattle.judging.specs.Judging.{tooManyEmbedded}
 use borrow.Author.Needs.{needs}
 use Rattle.judging.proofs.too_many_embedded.Statement.{statement}
 use Rattle.judging.proofs.too_many_embedded.Tie as tie
-use Rattle.judging.proofs.too_many_embedded.Reads as reads
-use Rattle.judging.proofs.too_many_embedded.Lts as lts
 
--- src/lib.rt:165:29
 enum-told : tie.Need-enum-told
 enum-told c = search needs
 
--- src/lib.rt:166:33
 enum-told-2 : tie.Need-enum-told-2
 enum-told-2 c = search needs
 
--- src/lib.rt:167:27
 enum-known-record : tie.Need-enum-known-record
 enum-known-record c = search needs
 
--- src/lib.rt:161:1
 returns : tie.Need-returns
 returns c = search needs
 
--- src/lib.rt:161:1
 returns-2 : tie.Need-returns-2
 returns-2 c = search needs
 
--- src/lib.rt:161:1
 returns-3 : tie.Need-returns-3
 returns-3 c = sym (ap tooManyEmbedded (c .before .before .«record» .given .1))
 

@@ -1,45 +1,35 @@
+-- `judging::type_not_allowed` meets its contract: which arm was taken says which record it is, and the callee judges it.
+-- Assumes nothing.
 use mathlib.Core.Path.{_∙_, ap, sym}
 use mathlib.Core.Bool.{not}
 use Rattle.judging.specs.Judging.{typeNotAllowed}
 use borrow.Author.Needs.{needs}
 use Rattle.judging.proofs.type_not_allowed.Statement.{statement}
 use Rattle.judging.proofs.type_not_allowed.Tie as tie
-use Rattle.judging.proofs.type_not_allowed.Reads as reads
-use Rattle.judging.proofs.type_not_allowed.Lts as lts
-use Rattle.judging.proofs.no_extension_on.Reads as no-extension-on-reads
-use Rattle.vocabulary.proofs.may_stand_on.Reads as may-stand-on-reads
 
--- src/lib.rt:55:29
 enum-told : tie.Need-enum-told
 enum-told c = search needs
 
--- src/lib.rt:56:27
 enum-known-record : tie.Need-enum-known-record
 enum-known-record c = search needs
 
--- src/lib.rt:56:42
 may-stand-on-requires : tie.Need-may-stand-on-requires
 may-stand-on-requires c κs = search needs
 
--- src/lib.rt:57:33
 enum-told-2 : tie.Need-enum-told-2
 enum-told-2 c = search needs
 
--- src/lib.rt:57:33
 no-extension-on-requires : tie.Need-no-extension-on-requires
 no-extension-on-requires c κs = search needs
 
--- src/lib.rt:51:1
 returns : tie.Need-returns
 returns c = search needs
 
--- src/lib.rt:51:1
 returns-2 : tie.Need-returns-2
 returns-2 c =
     let a = c .before .before .before .before .args in
     ap not (c .may-stand-on .ensures) ∙ sym (ap (typeNotAllowed (a .stream-type)) (c .before .before .«record» .given .1))
 
--- src/lib.rt:51:1
 returns-3 : tie.Need-returns-3
 returns-3 c =
     let a = c .before .before .before .args in

@@ -1,3 +1,5 @@
+-- `judging::wrong_embedded` meets its contract: which arm was taken says which record it is, and the callee judges what it lists.
+-- Assumes nothing.
 use mathlib.Core.Path.{_≡_, _∙_, ap, sym}
 use mathlib.Core.List.{List, map}
 use native.Mathlib.Omega.{arith}
@@ -9,47 +11,33 @@ use Rattle.judging.proofs.Loops.{all-listed}
 use borrow.Author.Needs.{needs}
 use Rattle.judging.proofs.wrong_embedded.Statement.{statement}
 use Rattle.judging.proofs.wrong_embedded.Tie as tie
-use Rattle.judging.proofs.wrong_embedded.Reads as reads
-use Rattle.judging.proofs.wrong_embedded.Lts as lts
-use Rattle.judging.proofs.listed_count.Reads as listed-count-reads
-use Rattle.judging.proofs.wrong_hierarchy_index.Reads as wrong-hierarchy-index-reads
-use Rattle.judging.proofs.wrong_list.Reads as wrong-list-reads
 
--- src/lib.rt:152:29
 enum-told : tie.Need-enum-told
 enum-told c = search needs
 
--- src/lib.rt:153:27
 enum-known-record : tie.Need-enum-known-record
 enum-known-record c = search needs
 
--- src/lib.rt:153:41
 wrong-hierarchy-index-requires : tie.Need-wrong-hierarchy-index-requires
 wrong-hierarchy-index-requires c κs = search needs
 
--- src/lib.rt:154:27
 enum-known-record-2 : tie.Need-enum-known-record-2
 enum-known-record-2 c = search needs
 
--- src/lib.rt:155:47
 listed-count-requires : tie.Need-listed-count-requires
 listed-count-requires c κs = search needs
 
--- src/lib.rt:155:13
 wrong-list-requires : tie.Need-wrong-list-requires
 wrong-list-requires c κs = search needs
 
--- src/lib.rt:148:1
 returns : tie.Need-returns
 returns c = search needs
 
--- src/lib.rt:148:1
 returns-2 : tie.Need-returns-2
 returns-2 c =
     let a = c .before .before .before .before .args in
     c .wrong-hierarchy-index .ensures ∙ sym (ap (λ (r : Record). wrongEmbedded r (a .embedded)) (c .before .before .«record» .given .1))
 
--- src/lib.rt:148:1
 returns-3 : tie.Need-returns-3
 returns-3 c =
     let a = c .before .before .before .before .before .args in

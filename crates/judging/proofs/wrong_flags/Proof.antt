@@ -1,44 +1,34 @@
+-- `judging::wrong_flags` meets its contract: which arm was taken says which record it is, and the callee judges its flags.
+-- Assumes nothing.
 use mathlib.Core.Path.{_∙_, ap, sym}
 use Rattle.judging.specs.Judging.{flagsWrongFor, wrongFlags}
 use borrow.Author.Needs.{needs}
 use Rattle.judging.proofs.wrong_flags.Statement.{statement}
 use Rattle.judging.proofs.wrong_flags.Tie as tie
-use Rattle.judging.proofs.wrong_flags.Reads as reads
-use Rattle.judging.proofs.wrong_flags.Lts as lts
-use Rattle.judging.proofs.flags_at_0.Reads as flags-at-0-reads
-use Rattle.judging.proofs.flags_wrong_for.Reads as flags-wrong-for-reads
 
--- src/lib.rt:85:29
 enum-told : tie.Need-enum-told
 enum-told c = search needs
 
--- src/lib.rt:86:27
 enum-known-record : tie.Need-enum-known-record
 enum-known-record c = search needs
 
--- src/lib.rt:86:83
 flags-at-0-requires : tie.Need-flags-at-0-requires
 flags-at-0-requires c κs = search needs
 
--- src/lib.rt:86:41
 flags-wrong-for-requires : tie.Need-flags-wrong-for-requires
 flags-wrong-for-requires c κs = search needs
 
--- src/lib.rt:87:33
 enum-told-2 : tie.Need-enum-told-2
 enum-told-2 c = search needs
 
--- src/lib.rt:81:1
 returns : tie.Need-returns
 returns c = search needs
 
--- src/lib.rt:81:1
 returns-2 : tie.Need-returns-2
 returns-2 c =
     let told = c .before .before .before .«record» .given in
     c .flags-wrong-for .ensures ∙ ap (flagsWrongFor (told .0 .0 .«hierarchy_type»)) (c .before .flags-at-0 .ensures) ∙ sym (ap wrongFlags (told .1))
 
--- src/lib.rt:81:1
 returns-3 : tie.Need-returns-3
 returns-3 c = search needs
 
