@@ -39,6 +39,10 @@ sizeOf left = cond (ltb (length left) 5) 5 (5 + esInfoLength left)
 abbrev pub seenIn : Reading → ℕ → List ℕ → Seen
 seenIn reading t info = cond (known reading t) (seenOf reading info) nothingSeen
 
+-- bytes that hold no whole entry: they have no PID (each is below 8,192), no type and no descriptors
+abbrev pub noStream : Stream
+noStream = record { fits = false; «stream_type» = 0; pid = 8192; seen = nothingSeen }
+
 -- An entry that does not fit in the loop, or one of whose descriptors does not fit in it, does not fit.
 abbrev pub streamOf : Reading → Item → Stream
 streamOf reading (whole head info) =
@@ -48,7 +52,7 @@ streamOf reading (whole head info) =
       pid = elementaryPid head;
       seen = seenIn reading (streamType head) info;
     }
-streamOf reading broken = record { fits = false; «stream_type» = 0; pid = 0; seen = nothingSeen }
+streamOf reading broken = noStream
 
 -- the entries of a loop, in order
 abbrev pub streamsOf : Reading → List ℕ → List Stream

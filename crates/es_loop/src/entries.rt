@@ -39,7 +39,7 @@ pub fn blank_entries() -> [Entry; 201]
     [blank; 201]
 }
 
-fn wide(byte: u8) -> usize
+pub fn wide(byte: u8) -> usize
     ensures { λ r. ⌜ r ≡ byte ⌝ }
 {
     byte as usize
