@@ -1,0 +1,50 @@
+-- A set of small numbers, such as layer indices, held in one number: i is a member when bit i is 1.
+-- The membership, and what each function of this crate answers. What these mean is proved in Laws.
+-- Assumes nothing.
+use Prim.Native.Nat.{ℕ, zero, suc, _+_, _/_, _%_, _^_}
+use mathlib.Core.Bool.{Bool, true, false, cond}
+use mathlib.Core.List.{List, [], _∷_, _++_}
+use lib.Bits.{bitAnd, bitOr, bitXor}
+use lib.Count.{ones, trailingZeros}
+use lib.Dec.{eqb, ltb}
+
+-- whether i is a member: bit i is 1
+abbrev pub has : ℕ → ℕ → Bool
+has s i = eqb (s / 2 ^ i % 2) 1
+
+-- the members of both sets together
+abbrev pub joined : ℕ → ℕ → ℕ
+joined s t = bitOr s t
+
+-- the set of i alone
+abbrev pub only : ℕ → ℕ
+only i = 2 ^ i
+
+-- the members of s, and i, of which a set in 64 bits can hold only those below 64
+abbrev pub added : ℕ → ℕ → ℕ
+added s i = cond (ltb i 64) (joined s (only i)) s
+
+-- the members of s that t lacks
+abbrev pub without : ℕ → ℕ → ℕ
+without s t = bitXor s (bitAnd s t)
+
+-- the members of s below i
+abbrev pub below : ℕ → ℕ → ℕ
+below s i = s % 2 ^ i
+
+-- the lowest member of a set of numbers below 64, and 64 for the empty set
+abbrev pub lowest : ℕ → ℕ
+lowest s = trailingZeros 64 s
+
+-- the number of members
+abbrev pub size : ℕ → ℕ
+size s = ones s
+
+-- the list of the members below n, in rising order
+abbrev pub append-if : Bool → ℕ → List ℕ → List ℕ
+append-if true i l = l ++ (i ∷ [])
+append-if false i l = l
+
+abbrev pub membersBelow : ℕ → ℕ → List ℕ
+membersBelow zero s = []
+membersBelow (suc n) s = append-if (has s n) n (membersBelow n s)
