@@ -2,22 +2,21 @@
 -- number of members.
 -- Assumes nothing.
 use Prim.Native.Nat.{ℕ, zero, suc, _+_, _-_, _*_, _/_, _%_, _^_, _≤_, _<_}
-use mathlib.Core.Bool.{Bool, true, false, not, _&&_, _||_, true≢false}
-use mathlib.Core.List.{List, [], _∷_, _++_}
-use mathlib.Core.Path.{_≡_, refl, sym, ap, ap₂, _∙_, subst}
-use mathlib.Core.Logic.{_⊎_, inl, inr, ⊎-elim}
-use native.Mathlib.Nat.{mod-lt, mod-eq-of-lt, mod-one, le-of-suc-le-suc, not-suc-le-zero, div-one, div-eq-of-lt, one-mul, lt-of-lt-of-le}
+use mathlib.Core.Bool.{Bool, true, false, not, cond, _&&_, _||_, true≢false}
+use mathlib.Core.Path.{_≡_, refl, sym, ap, ap₂, _∙_}
+use mathlib.Core.Logic.{_⊎_, inl, inr}
+use native.Mathlib.Nat.{mod-lt, mod-eq-of-lt, mod-one, le-of-suc-le-suc, not-suc-le-zero, div-one, div-eq-of-lt, one-mul, lt-of-lt-of-le, lt-of-le-of-lt}
 use native.Mathlib.Decide.{decLt}
 use native.Mathlib.Numerals.{add-one, one-add}
 use native.Mathlib.Omega.{arith}
-use borrow.Author.Tests.{eqb-true, eq-eqb, ne-eqb, lt-ltb, le-ltb}
+use borrow.Author.Tests.{ne-eqb, lt-ltb, le-ltb}
 use lib.Arith.{bin-ind}
-use lib.Bits.{bitAnd, bitOr, bitXor, and-shr, or-shr, xor-shr, and-mod, or-mod, xor-mod, shifted-half, shifted-even, and-lt, or-lt, xor-lt}
+use lib.Bits.{bitAnd, bitOr, bitXor, and-shr, or-shr, xor-shr, and-mod, or-mod, xor-mod, shifted-half, shifted-even, and-le-l, or-lt, xor-lt}
 use lib.Count.{ones, onesIn, ones-cat, trailingZeros, under, trailing-le}
 use lib.Dec.{eqb, ltb, eqb·suc-suc}
-use lib.ListN.{length, length-append}
 use lib.Pow.{pow-pos, pow-mono, pow-lt, shr-shr, shl-exact, field, mod-mod-pow, mod-pow-add}
-use Rattle.sets.specs.Sets.{has, joined, only, without, below, lowest, size, membersBelow, append-if}
+use Rattle.combinators.specs.Below.{some, count, seek-first, seek-inside, first-seek, none-at}
+use Rattle.sets.specs.Sets.{has, joined, only, without, below, lowest, size}
 
 -- ---- a bit is 0 or 1
 
@@ -189,8 +188,8 @@ none-without s t h = same-members (without s t) 0 (λ i. has-without s t i ∙ g
 pub joined-within : (w s t : ℕ) → s < 2 ^ w → t < 2 ^ w → joined s t < 2 ^ w
 joined-within = or-lt
 
-pub without-within : (w s t : ℕ) → s < 2 ^ w → t < 2 ^ w → without s t < 2 ^ w
-without-within w s t hs ht = xor-lt w s (bitAnd s t) hs (and-lt w s t hs ht)
+pub without-within : (w s t : ℕ) → s < 2 ^ w → without s t < 2 ^ w
+without-within w s t h = xor-lt w s (bitAnd s t) h (lt-of-le-of-lt (and-le-l s t) h)
 
 pub only-within : (w i : ℕ) → i < w → only i < 2 ^ w
 only-within w i h = pow-lt h
@@ -200,18 +199,27 @@ below-within w s i h = lt-of-lt-of-le (mod-lt s (pow-pos i)) (pow-mono h)
 
 -- ---- the lowest member
 
--- i is a member, and no member is less
-pub record Lowest (s i : ℕ) : Type 0 where
-  pub member : has s i ≡ true
-  pub least : (j : ℕ) → has s j ≡ true → i ≤ j
+pub lowest-member : (s : ℕ) → s < 2 ^ 64 → (s ≡ 0 → ⊥) → has s (lowest s) ≡ true
+lowest-member s within not-empty = seek-first (has s) 64 .found (seek-inside (has s) 64 (some-member (some (has s) 64) refl))
+  where
+    some-member : (b : Bool) → some (has s) 64 ≡ b → some (has s) 64 ≡ true
+    some-member true e = e
+    some-member false e =
+        absurd (not-empty (same-members-within 64 s 0 within (pow-pos 64) (λ i h. none-at (has s) 64 e i h ∙ sym (has-none i))))
 
-pub one-lowest : (s i j : ℕ) → Lowest s i → Lowest s j → i ≡ j
-one-lowest s i j p q = omega (arith, p .least j (q .member), q .least i (p .member))
+pub lowest-least : (s i : ℕ) → has s i ≡ true → lowest s ≤ i
+lowest-least s i m = go (decLt i (lowest s))
+  where
+    go : Dec (i < lowest s) → lowest s ≤ i
+    go (yes h) = absurd (true≢false (sym m ∙ seek-first (has s) 64 .before i h))
+    go (no n) = omega arith
 
-none-before : (w s i : ℕ) → i < trailingZeros w s → has s i ≡ false
+-- it stands after as many zeros as the processor counts
+
+no-member-before : (w s i : ℕ) → i < trailingZeros w s → has s i ≡ false
 unfolding trailingZeros
-none-before zero s i h = absurd (omega arith)
-none-before (suc w) s i h = go (bit s) i h (none-before w (s / 2))
+no-member-before zero s i h = absurd (omega arith)
+no-member-before (suc w) s i h = go (bit s) i h (no-member-before w (s / 2))
   where
     go : (s % 2 ≡ 0) ⊎ (s % 2 ≡ 1) → (i : ℕ) → i < under (s % 2) (trailingZeros w (s / 2))
         → ((j : ℕ) → j < trailingZeros w (s / 2) → has (s / 2) j ≡ false) → has s i ≡ false
@@ -219,10 +227,10 @@ none-before (suc w) s i h = go (bit s) i h (none-before w (s / 2))
     go (inl e) (suc i) h ih = has-suc s i ∙ ih i (le-of-suc-le-suc (rw e at h))
     go (inr e) i h ih = absurd (not-suc-le-zero (rw e at h))
 
-then-member : (w s : ℕ) → trailingZeros w s < w → has s (trailingZeros w s) ≡ true
+member-after : (w s : ℕ) → trailingZeros w s < w → has s (trailingZeros w s) ≡ true
 unfolding trailingZeros
-then-member zero s h = absurd (omega arith)
-then-member (suc w) s h = go (bit s) h (then-member w (s / 2))
+member-after zero s h = absurd (omega arith)
+member-after (suc w) s h = go (bit s) h (member-after w (s / 2))
   where
     go : (s % 2 ≡ 0) ⊎ (s % 2 ≡ 1) → under (s % 2) (trailingZeros w (s / 2)) < suc w
         → (trailingZeros w (s / 2) < w → has (s / 2) (trailingZeros w (s / 2)) ≡ true)
@@ -230,24 +238,12 @@ then-member (suc w) s h = go (bit s) h (then-member w (s / 2))
     go (inl e) h ih = rw e (has-suc s (trailingZeros w (s / 2)) ∙ ih (le-of-suc-le-suc (rw e at h)))
     go (inr e) h ih = rw e (has-zero s ∙ ap (λ (n : ℕ). eqb n 1) e)
 
-pub lowest-is : (s : ℕ) → s < 2 ^ 64 → (s ≡ 0 → ⊥) → Lowest s (lowest s)
-lowest-is s within some = record { member = then-member 64 s found; least = least }
-  where
-    found : lowest s < 64
-    found = go (decLt (lowest s) 64)
-      where
-        go : Dec (lowest s < 64) → lowest s < 64
-        go (yes l) = l
-        go (no n) = absurd (some (same-members-within 64 s 0 within (pow-pos 64) (λ i l. none-before 64 s i (omega arith) ∙ sym (has-none i))))
+pub trailing-zeros-lowest : (s : ℕ) → trailingZeros 64 s ≡ lowest s
+trailing-zeros-lowest s =
+    first-seek (has s) 64 (trailingZeros 64 s)
+    (record { within = trailing-le 64 s; before = no-member-before 64 s; found = member-after 64 s })
 
-    least : (j : ℕ) → has s j ≡ true → lowest s ≤ j
-    least j m = go (decLt j (lowest s))
-      where
-        go : Dec (j < lowest s) → lowest s ≤ j
-        go (yes l) = absurd (true≢false (sym m ∙ none-before 64 s j l))
-        go (no n) = omega arith
-
--- ---- the number of members
+-- ---- the number of members is the number of ones
 
 ones-of-bit : (n : ℕ) → ones (n % 2) ≡ n % 2
 unfolding ones onesIn
@@ -257,22 +253,22 @@ ones-of-bit n = go (bit n)
     go (inl e) = rw e
     go (inr e) = rw e
 
-length-append-if : (n i : ℕ) (l : List ℕ) → length (append-if (eqb (n % 2) 1) i l) ≡ n % 2 + length l
-length-append-if n i l = go (bit n)
+one-more-if : (n c : ℕ) → cond (eqb (n % 2) 1) (suc c) c ≡ n % 2 + c
+one-more-if n c = go (bit n)
   where
-    go : (n % 2 ≡ 0) ⊎ (n % 2 ≡ 1) → length (append-if (eqb (n % 2) 1) i l) ≡ n % 2 + length l
+    go : (n % 2 ≡ 0) ⊎ (n % 2 ≡ 1) → cond (eqb (n % 2) 1) (suc c) c ≡ n % 2 + c
     go (inl e) = rw e (omega arith)
-    go (inr e) = rw e (length-append l (i ∷ []) ∙ omega arith)
+    go (inr e) = rw e (omega arith)
 
-count-below : (n s : ℕ) → length (membersBelow n s) ≡ ones (s % 2 ^ n)
+count-ones : (n s : ℕ) → count (has s) n ≡ ones (s % 2 ^ n)
 unfolding ones onesIn
-count-below zero s = sym (ap ones (mod-one s))
-count-below (suc n) s =
-    length-append-if (s / 2 ^ n) n (membersBelow n s)
-    ∙ ap₂ (λ (x y : ℕ). x + y) (sym (ones-of-bit (s / 2 ^ n))) (count-below n s)
+count-ones zero s = sym (ap ones (mod-one s))
+count-ones (suc n) s =
+    one-more-if (s / 2 ^ n) (count (has s) n)
+    ∙ ap₂ (λ (x y : ℕ). x + y) (sym (ones-of-bit (s / 2 ^ n))) (count-ones n s)
     ∙ sym (ones-cat n (s / 2 ^ n % 2) (s % 2 ^ n) (mod-lt s (pow-pos n)))
     ∙ ap ones (sym (mod-pow-add s 1 n))
     ∙ ap (λ (k : ℕ). ones (s % 2 ^ k)) (one-add n)
 
-pub size-is-count : (n s : ℕ) → s < 2 ^ n → size s ≡ length (membersBelow n s)
-size-is-count n s h = ap ones (sym (mod-eq-of-lt h)) ∙ sym (count-below n s)
+pub ones-size : (s : ℕ) → s < 2 ^ 64 → ones s ≡ size s
+ones-size s h = ap ones (sym (mod-eq-of-lt h)) ∙ sym (count-ones 64 s)

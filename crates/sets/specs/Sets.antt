@@ -1,12 +1,11 @@
 -- A set of small numbers, such as layer indices, held in one number: i is a member when bit i is 1.
 -- The membership, and what each function of this crate answers. What these mean is proved in Laws.
 -- Assumes nothing.
-use Prim.Native.Nat.{ℕ, zero, suc, _+_, _/_, _%_, _^_}
-use mathlib.Core.Bool.{Bool, true, false, cond}
-use mathlib.Core.List.{List, [], _∷_, _++_}
+use Prim.Native.Nat.{ℕ, _/_, _%_, _^_}
+use mathlib.Core.Bool.{Bool, cond}
 use lib.Bits.{bitAnd, bitOr, bitXor}
-use lib.Count.{ones, trailingZeros}
 use lib.Dec.{eqb, ltb}
+use Rattle.combinators.specs.Below.{seek, count}
 
 -- whether i is a member: bit i is 1
 abbrev pub has : ℕ → ℕ → Bool
@@ -34,17 +33,8 @@ below s i = s % 2 ^ i
 
 -- the lowest member of a set of numbers below 64, and 64 for the empty set
 abbrev pub lowest : ℕ → ℕ
-lowest s = trailingZeros 64 s
+lowest s = seek (has s) 64
 
--- the number of members
+-- the number of members below 64
 abbrev pub size : ℕ → ℕ
-size s = ones s
-
--- the list of the members below n, in rising order
-abbrev pub append-if : Bool → ℕ → List ℕ → List ℕ
-append-if true i l = l ++ (i ∷ [])
-append-if false i l = l
-
-abbrev pub membersBelow : ℕ → ℕ → List ℕ
-membersBelow zero s = []
-membersBelow (suc n) s = append-if (has s n) n (membersBelow n s)
+size s = count (has s) 64

@@ -1,7 +1,7 @@
 // Sets of numbers below 64, such as layer indices, each held in one u64: i is a member when bit i is 1.
 // specs/Sets.antt says what each function answers, specs/Laws.antt what that means.
 ghost use mathlib.Core.Path.{_≡_};
-ghost use Rattle.sets.specs.Sets.{has, added, without as withoutOf, lowest as lowestOf, size as sizeOf};
+ghost use Rattle.sets.specs.Sets.{has, added, without as withoutOf, below as belowOf, lowest as lowestOf, size as sizeOf};
 
 // Whether `index` is a member; no index above 63 is.
 pub fn member(set: u64, index: usize) -> bool
@@ -30,11 +30,21 @@ pub fn without(set: u64, other: u64) -> u64
     set ^ (set & other)
 }
 
+// The members of `set` below `index`.
+pub fn below(set: u64, index: usize) -> u64
+    ensures { λ r. ⌜ r ≡ belowOf set index ⌝ }
+{
+    if 64 <= index {
+        return set;
+    }
+    set % (1 << index)
+}
+
 // The lowest member, and 64 where there is none.
-pub fn lowest(set: u64) -> usize
+pub fn lowest(set: u64) -> u8
     ensures { λ r. ⌜ r ≡ lowestOf set ⌝ }
 {
-    u64::trailing_zeros(set) as usize
+    u64::trailing_zeros(set) as u8
 }
 
 // The number of members.

@@ -1,8 +1,8 @@
--- `sets::lowest` meets its contract: the count of zeros below the lowest 1 is the definition, and at most 64.
+-- `sets::lowest` meets its contract: as many zeros stand below the lowest 1 as its place says, and at most 64.
 -- Assumes nothing.
 use native.Mathlib.Omega.{arith}
-use borrow.Author.Needs.{needs}
 use lib.Count.{trailing-le}
+use Rattle.sets.specs.Laws.{trailing-zeros-lowest}
 use Rattle.sets.proofs.lowest.Statement.{statement}
 use Rattle.sets.proofs.lowest.Tie as tie
 
@@ -10,7 +10,7 @@ cast-result : tie.Need-cast-result
 cast-result c = omega (arith, trailing-le 64 (c .args .set))
 
 returns : tie.Need-returns
-returns c = search needs
+returns c = trailing-zeros-lowest (c .args .set)
 
 pub lowest-spec : {M : Type 1} → statement M
 lowest-spec = tie.close (tie.spec cast-result returns)
