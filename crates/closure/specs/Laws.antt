@@ -49,7 +49,7 @@ module _ (layers : Layers) where
         ap₂ (λ (a b : Bool). a && not b) (rests-on-member layers target j (m .rested-on)) (m .not-in-loop)
 
     module _ (here : isLayer layers target ≡ true) where
-      below-64 : (j : ℕ) → RestsOn layers target j → j < 64
+      pub below-64 : (j : ℕ) → RestsOn layers target j → j < 64
       below-64 j r = lt-of-le-of-lt (rests-on-at-most layers target j r) (layer-below-64 layers target here)
 
       -- ---- the answer where the target is a layer: by whether one is missing
