@@ -100,6 +100,7 @@ module _ (layers : Layers) (set missing : ℕ) (is-missing : missing ≡ without
       found = lowest-member missing within not-empty
 
   pub lowest-missing : lowest missing ≡ seek (lacks layers set) 64
+  unfolding lowest
   lowest-missing =
       let f = seek-first (has missing) 64 in
       first-seek (lacks layers set) 64 (lowest missing)

@@ -200,6 +200,7 @@ below-within w s i h = lt-of-lt-of-le (mod-lt s (pow-pos i)) (pow-mono h)
 -- ---- the lowest member
 
 pub lowest-member : (s : ℕ) → s < 2 ^ 64 → (s ≡ 0 → ⊥) → has s (lowest s) ≡ true
+unfolding lowest
 lowest-member s within not-empty = seek-first (has s) 64 .found (seek-inside (has s) 64 (some-member (some (has s) 64) refl))
   where
     some-member : (b : Bool) → some (has s) 64 ≡ b → some (has s) 64 ≡ true
@@ -208,6 +209,7 @@ lowest-member s within not-empty = seek-first (has s) 64 .found (seek-inside (ha
         absurd (not-empty (same-members-within 64 s 0 within (pow-pos 64) (λ i h. none-at (has s) 64 e i h ∙ sym (has-none i))))
 
 pub lowest-least : (s i : ℕ) → has s i ≡ true → lowest s ≤ i
+unfolding lowest
 lowest-least s i m = go (decLt i (lowest s))
   where
     go : Dec (i < lowest s) → lowest s ≤ i
@@ -239,6 +241,7 @@ member-after (suc w) s h = go (bit s) h (member-after w (s / 2))
     go (inr e) h ih = rw e (has-zero s ∙ ap (λ (n : ℕ). eqb n 1) e)
 
 pub trailing-zeros-lowest : (s : ℕ) → trailingZeros 64 s ≡ lowest s
+unfolding lowest
 trailing-zeros-lowest s =
     first-seek (has s) 64 (trailingZeros 64 s)
     (record { within = trailing-le 64 s; before = no-member-before 64 s; found = member-after 64 s })
@@ -271,4 +274,5 @@ count-ones (suc n) s =
     ∙ ap (λ (k : ℕ). ones (s % 2 ^ k)) (one-add n)
 
 pub ones-size : (s : ℕ) → s < 2 ^ 64 → ones s ≡ size s
+unfolding size
 ones-size s h = ap ones (sym (mod-eq-of-lt h)) ∙ sym (count-ones 64 s)

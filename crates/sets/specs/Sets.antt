@@ -32,9 +32,9 @@ abbrev pub below : ℕ → ℕ → ℕ
 below s i = s % 2 ^ i
 
 -- the lowest member of a set of numbers below 64, and 64 for the empty set
-abbrev pub lowest : ℕ → ℕ
+unfoldable pub lowest : ℕ → ℕ
 lowest s = seek (has s) 64
 
 -- the number of members below 64
-abbrev pub size : ℕ → ℕ
+unfoldable pub size : ℕ → ℕ
 size s = count (has s) 64

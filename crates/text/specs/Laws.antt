@@ -1,10 +1,10 @@
 -- The laws of text in a buffer: a text laid in after another is the two laid in as one; where there is room the whole text stands there,
 -- with everything before and after it as it was.
 -- Assumes nothing.
-use Prim.Native.Nat.{ℕ, zero, suc, _+_, _-_, _^_, _≤_, _<_, min}
+use Prim.Native.Nat.{ℕ, zero, suc, _+_, _-_, _*_, _/_, _%_, _^_, _≤_, _<_, zero-le, min}
 use mathlib.Core.List.{List, [], _∷_, _++_, append-nil}
 use mathlib.Core.Path.{_≡_, refl, sym, ap, ap₂, _∙_, subst}
-use native.Mathlib.Nat.{min-zero, zero-min, suc-min-suc, suc-add, zero-add, le-of-suc-le-suc, not-suc-le-zero, le-trans, pow-le-pow-right}
+use native.Mathlib.Nat.{min-zero, zero-min, suc-min-suc, suc-add, zero-add, le-of-suc-le-suc, not-suc-le-zero, le-trans, pow-le-pow-right, suc-mul}
 use native.Mathlib.Decide.{decLt}
 use native.Mathlib.Numerals.{add-one, sub-one}
 use native.Mathlib.Omega.{arith}
@@ -12,9 +12,9 @@ use borrow.Author.Tests.{lt-ltb, le-ltb}
 use lib.Dec.{ltb}
 use lib.ListN.{length, take, drop, set, getD, length-append, length-drop, take-append-drop, drop-of-length-le}
 use lib.Seq.{take-all, take-nil, drop-drop, take-suc, length-take-le}
-use Rattle.combinators.specs.Below.{first-seek}
-use Rattle.io.specs.Digits.{Fewest}
-use Rattle.text.specs.Text.{over, placed, Laid, texts, decimalWidth}
+use Rattle.combinators.specs.Below.{seek-first, first-seek}
+use Rattle.io.specs.Digits.{Fewest, digits, glyph}
+use Rattle.text.specs.Text.{over, placed, Laid, texts, decimal, decimalWidth}
 
 -- nothing is laid into an empty buffer
 over-none : (text : List ℕ) → over text [] ≡ []
@@ -40,6 +40,17 @@ length-placed [] at text = ap length (placed-none at text)
 length-placed (o ∷ old) zero text = length-over text (o ∷ old)
 length-placed (o ∷ old) (suc at) text = ap suc (length-placed old at text)
 
+pub laid-length : {old : List ℕ} {at : ℕ} {text : List ℕ} {next : ℕ} {new : List ℕ} → Laid old at text next new → length new ≡ length old
+laid-length {old} {at} {text} p = ap length (p .content) ∙ length-placed old at text
+
+-- the same text, otherwise written
+pub laid-as : {old : List ℕ} {at : ℕ} {a b : List ℕ} {next : ℕ} {new : List ℕ} → a ≡ b → Laid old at a next new → Laid old at b next new
+laid-as {old} {at} {a} {b} {next} {new} e p = subst (λ (text : List ℕ). Laid old at text next new) e p
+
+-- the place after a text is within the buffer
+pub laid-within : {old : List ℕ} {at : ℕ} {text : List ℕ} {next : ℕ} {new : List ℕ} → Laid old at text next new → next ≡ min (length new) next
+laid-within {old} {at} {text} {next} {new} p = let long : length new ≡ length old = laid-length p in omega (arith, p .place)
+
 -- one text after another
 over-then : (a b old : List ℕ) → placed (over a old) (length a) b ≡ over (a ++ b) old
 over-then [] b old = refl
@@ -61,10 +72,10 @@ placed-end (o ∷ old) (suc at) text =
     ap (λ (n : ℕ). placed (o ∷ old) n text) (suc-min-suc (length old) at) ∙ ap (λ (l : List ℕ). o ∷ l) (placed-end old at text)
 
 -- ONE TEXT AFTER ANOTHER is the two as one.
-pub laid-then : (old : List ℕ) (at : ℕ) (a : List ℕ) (between : ℕ) (mid b : List ℕ) (next : ℕ) (new : List ℕ)
+pub laid-then : {old : List ℕ} {at : ℕ} {a : List ℕ} {between : ℕ} {mid b : List ℕ} {next : ℕ} {new : List ℕ}
     → Laid old at a between mid → Laid mid between b next new → Laid old at (a ++ b) next new
-laid-then old at a between mid b next new p q =
-    let long : length mid ≡ length old = ap length (p .content) ∙ length-placed old at a in
+laid-then {old} {at} {a} {between} {mid} {b} {next} {new} p q =
+    let long : length mid ≡ length old = laid-length p in
     record {
       place = q .place ∙ omega (arith, p .place, long, length-append a b);
       content = q .content
@@ -78,12 +89,19 @@ pub laid-nothing : (old : List ℕ) (at next : ℕ) → next ≡ min (length old
 laid-nothing old at next e =
     record { place = omega arith; content = sym (take-append-drop at old) }
 
--- one of the `texts` more
-pub laid-next : (piece : ℕ → List ℕ) (i : ℕ) (old : List ℕ) (at between : ℕ) (mid : List ℕ) (next : ℕ) (new : List ℕ)
+-- the `texts` of a run of numbers: none yet, one more, and all of them
+pub laid-first : (piece : ℕ → List ℕ) (old : List ℕ) (at next : ℕ) → next ≡ min (length old) at → Laid old at (texts piece 0) next old
+unfolding texts
+laid-first piece old at next e = laid-nothing old at next e
+
+pub laid-next : (piece : ℕ → List ℕ) (i : ℕ) {old : List ℕ} {at between : ℕ} {mid : List ℕ} {next : ℕ} {new : List ℕ}
     → Laid old at (texts piece i) between mid → Laid mid between (piece i) next new → Laid old at (texts piece (i + 1)) next new
-laid-next piece i old at between mid next new p q =
-    subst (λ (n : ℕ). Laid old at (texts piece n) next new) (sym (add-one i))
-    (laid-then old at (texts piece i) between mid (piece i) next new p q)
+unfolding texts
+laid-next piece i p q = laid-as (ap (texts piece) (sym (add-one i))) (laid-then p q)
+
+pub laid-last : (piece : ℕ → List ℕ) (i n : ℕ) {old : List ℕ} {at between : ℕ} {mid : List ℕ} {next : ℕ} {new : List ℕ}
+    → Laid old at [] between mid → Laid mid between (texts piece i) next new → i ≡ n → Laid old at (texts piece n) next new
+laid-last piece i n p q e = laid-as (ap (texts piece) e) (laid-then p q)
 
 -- WHERE THERE IS ROOM the text stands whole, and all else as it was.
 over-whole : (text old : List ℕ) → length text ≤ length old → over text old ≡ text ++ drop (length text) old
@@ -108,6 +126,9 @@ pub shown : (old text : List ℕ) (next : ℕ) (new : List ℕ) → Laid old 0 t
 shown old text next new p =
     ap₂ (λ (n : ℕ) (l : List ℕ). take n l) (p .place ∙ ap (λ (n : ℕ). min (length old) n) (zero-add (length text))) (p .content)
     ∙ take-over text old
+
+pub shown-whole : (old text : List ℕ) (next : ℕ) (new : List ℕ) → Laid old 0 text next new → length text ≤ length old → take next new ≡ text
+shown-whole old text next new p h = shown old text next new p ∙ take-all (length old) text h
 
 -- ---- byte by byte, as the code lays a text in
 
@@ -175,3 +196,24 @@ fewest-width n (suc k) h f =
     at-most-20 : Dec (19 < k) → k ≤ 19
     at-most-20 (yes l) = let big : 10 ^ 20 ≤ n = le-trans (pow-le-pow-right (omega arith) l) (least (omega arith)) in absurd (omega arith)
     at-most-20 (no l) = omega arith
+
+-- ---- how long a text is
+
+length-digits : (b k n : ℕ) → length (digits b k n) ≡ k
+length-digits b zero n = refl
+length-digits b (suc k) n =
+    length-append (digits b k (n / b)) (glyph (n % b) ∷ []) ∙ ap (λ (m : ℕ). m + 1) (length-digits b k (n / b)) ∙ add-one k
+
+digits-at-most-20 : (b n : ℕ) → length (digits b (decimalWidth n) n) ≤ 20
+unfolding decimalWidth
+digits-at-most-20 b n = omega (arith, length-digits b (decimalWidth n) n, seek-first (λ k. ltb n (10 ^ suc k)) 19 .within)
+
+pub decimal-length : (n : ℕ) → length (decimal n) ≤ 20
+unfolding decimal
+decimal-length n = digits-at-most-20 _ n
+
+pub texts-length : (piece : ℕ → List ℕ) (each : ℕ) → ((i : ℕ) → length (piece i) ≤ each) → (n : ℕ) → length (texts piece n) ≤ n * each
+unfolding texts
+texts-length piece each h zero = zero-le
+texts-length piece each h (suc n) =
+    omega (arith, length-append (texts piece n) (piece n), texts-length piece each h n, h n, suc-mul n each)

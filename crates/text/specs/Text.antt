@@ -40,6 +40,6 @@ pub record Laid (old : List ℕ) (at : ℕ) (text : List ℕ) (next : ℕ) (new 
   pub content : new ≡ placed old at text
 
 -- the texts that belong to the numbers below n, one after another
-abbrev pub texts : (ℕ → List ℕ) → ℕ → List ℕ
+unfoldable pub texts : (ℕ → List ℕ) → ℕ → List ℕ
 texts piece zero = []
 texts piece (suc n) = texts piece n ++ piece n
