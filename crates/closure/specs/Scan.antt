@@ -9,7 +9,7 @@ use native.Mathlib.Omega.{arith}
 use borrow.Author.Tests.{lt-ltb, le-ltb}
 use lib.ListN.{getD}
 use Rattle.combinators.specs.Below.{some, seek, at-none, some-at, seek-first, first-seek}
-use Rattle.sets.specs.Sets.{has, joined, without, lowest}
+use Rattle.sets.specs.Sets.{has, joined, without, below, lowest}
 use Rattle.sets.specs.Laws.{one-shifted, has-none, has-within, has-without, lowest-member, without-within}
 use Rattle.vocabulary.specs.declared.refusal.Refusal.the-variants.{NoSuchLayer, EmbeddedLayerAbsent}
 use Rattle.closure.specs.declared.Layers.{Layers}
@@ -23,6 +23,13 @@ is-layer layers i h = ap (λ (b : Bool). b && has (layers .present) i) (lt-ltb i
 -- an index from 64 on is no layer's
 pub above-63 : (layers : Layers) (i : ℕ) → 64 ≤ i → isLayer layers i ≡ false
 above-63 layers i h = ap (λ (b : Bool). b && has (layers .present) i) (le-ltb i 64 h)
+
+-- what a layer names, by whether the loop has it
+pub names-nothing : (here : Bool) (embedded i : ℕ) → here ≡ false → 0 ≡ namedBy here embedded i
+names-nothing here embedded i h = sym (ap (λ (b : Bool). namedBy b embedded i) h)
+
+pub names-lower : (here : Bool) (embedded i : ℕ) → here ≡ true → below embedded i ≡ namedBy here embedded i
+names-lower here embedded i h = sym (ap (λ (b : Bool). namedBy b embedded i) h)
 
 -- where the scan starts: the target alone, with the target itself to be followed first
 pub start : (layers : Layers) (target : ℕ) → target < 64 → followedBelow layers (target + 1) (1 * 2 ^ target % 2 ^ 64) ≡ restedOn layers target
