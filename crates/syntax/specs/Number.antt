@@ -1,10 +1,10 @@
 -- Bytes as one number, and a number as bytes: the laws of `number` and `bytesOf`, for any count of bytes.
--- In order: a number by its first byte; of a part of a list; in two parts; its bound; the bytes of a number; the two joined both ways.
+-- In order: powers of 256; lists of bytes; a number by its first byte; of a part of a list; in two parts; its bound; the bytes of a number; the two joined both ways.
 -- Assumes nothing.
-use Prim.Native.Nat.{ℕ, zero, suc, _+_, _*_, _/_, _%_, _^_, _≤_, _<_}
-use mathlib.Core.Path.{_≡_, refl, sym, ap, ap₂, _∙_, subst}
+use Prim.Native.Nat.{ℕ, zero, suc, _+_, _*_, _/_, _%_, _^_, _≤_, _<_, suc-le-suc}
+use mathlib.Core.Path.{_≡_, refl, sym, ap, ap₂, _∙_}
 use mathlib.Core.List.{List, [], _∷_, _++_}
-use native.Mathlib.Nat.{add-zero, zero-add, suc-add, add-suc, zero-mul, mul-assoc, mul-add-div-right, mul-add-mod-self-right, mul-comm, mod-lt, mod-one, mod-eq-of-lt, one-le-pow, pow-succ', div-div-eq-div-mul, not-suc-le-zero, le-of-suc-le-suc, add-mul, add-assoc}
+use native.Mathlib.Nat.{add-zero, zero-add, suc-add, add-suc, zero-mul, mul-assoc, mul-add-div-right, mul-add-mod-self-right, mul-comm, mod-lt, mod-one, mod-eq-of-lt, one-le-pow, pow-succ', div-div-eq-div-mul, not-suc-le-zero, le-of-suc-le-suc, zero-lt-suc}
 use native.Mathlib.Omega.{arith}
 use lib.Arith.{digits-lt, digits-div, mod-mul}
 use lib.Dec.{lit<}
@@ -13,7 +13,8 @@ use lib.Pow.{pow-add}
 use lib.Seq.{getD-drop}
 use Rattle.syntax.specs.Table.{number, numberFrom, bytesOf, AreBytes}
 
--- a power of 256, as the count of numbers that so many bytes hold
+-- ---- powers of 256: k bytes hold so many numbers
+
 pub byte-power-positive : (k : ℕ) → 0 < 256 ^ k
 byte-power-positive k = one-le-pow k 256 (lit< tt)
 
@@ -33,7 +34,13 @@ digit-high high n m {c} positive =
     ∙ ap (λ (x : ℕ). x % m) (mul-add-div-right positive (high * m) n)
     ∙ mul-add-mod-self-right high m (n / c)
 
--- ---- parts of a list of bytes
+-- ---- lists of bytes
+
+-- it is enough to look within the list
+pub within-bytes : (l : List ℕ) → ((i : ℕ) → i < length l → getD l i 0 < 256) → AreBytes l
+within-bytes [] b i = lit< tt
+within-bytes (x ∷ l) b zero = b 0 (zero-lt-suc (length l))
+within-bytes (x ∷ l) b (suc i) = within-bytes l (λ j h. b (suc j) (suc-le-suc h)) i
 
 pub drop-bytes : (i : ℕ) (l : List ℕ) → AreBytes l → AreBytes (drop i l)
 drop-bytes i l b j = rw getD-drop (b (i + j))

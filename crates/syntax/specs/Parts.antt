@@ -1,18 +1,21 @@
--- A table in two parts that meet at a whole byte: reading and writing take the parts one after the other.
+-- A table in two parts that meet at a whole byte: reading and writing take the parts one after the other (`read-append`,
+-- `fixed-append`, `reserved-append`, `write-append`). No law asks how long the list is: past its end stands 0 for both sides.
 -- Assumes nothing.
-use Prim.Native.Nat.{ℕ, zero, suc, _+_, _-_, _*_, _/_, _%_, _^_, _≤_, _<_}
-use mathlib.Core.Path.{_≡_, refl, sym, ap, ap₂, _∙_, subst}
+use Prim.Native.Nat.{ℕ, _+_, _-_, _*_, _/_, _%_, _^_}
+use mathlib.Core.Path.{_≡_, refl, sym, ap, ap₂, _∙_}
 use mathlib.Core.Bool.{Bool, _&&_, and-eq-true-iff, and-assoc}
-use mathlib.Core.List.{List, [], _∷_, _++_, append-assoc}
-use native.Mathlib.Nat.{add-assoc, add-comm, zero-add, div-one}
+use mathlib.Core.List.{List, [], _∷_, _++_}
+use native.Mathlib.Nat.{add-assoc, add-comm, zero-add}
 use native.Mathlib.Omega.{arith}
 use lib.Arith.{digits-div}
-use lib.Dec.{eqb, ltb}
-use lib.ListN.{length, getD, take, drop}
+use lib.Dec.{ltb}
+use lib.ListN.{drop}
 use lib.Pow.{pow-add, shr-shr}
-use Rattle.syntax.specs.Table.{Field, value, reserved, fixed, Table, width, bits, bytes, AreBytes, number, bytesOf, valuesOf, readTable, fixedHold, reservedOnes, joined, writeTable, Fit, none, at-value, at-reserved, at-fixed, fixedFit, Sound, Carries, Written}
+use Rattle.syntax.specs.Table.{value, reserved, fixed, Table, width, bits, bytes, AreBytes, number, bytesOf, valuesOf, readTable, fixedHold, reservedOnes, joined, writeTable, Fit, none, at-value, at-reserved, at-fixed, fixedFit, Sound}
 use Rattle.syntax.specs.Number.{drop-bytes, number-split, number-below, bytesOf-split}
 use Rattle.syntax.specs.Laws.{whole-power, values-above, fixed-above, reserved-above, joined-below}
+
+-- ---- the two parts as one table
 
 pub bits-append : (t u : Table) → bits (t ++ u) ≡ bits t + bits u
 bits-append [] u = sym (zero-add (bits u))
@@ -107,6 +110,7 @@ module _ {t u : Table} (s : Sound t) (s′ : Sound u) (l : List ℕ) (b : AreByt
 
 -- ---- writing
 
+-- a value of the first part stands above the bits of both
 field-place : (t u : Table) (v : ℕ) (first second : ℕ) → v * 2 ^ bits (t ++ u) + (first * 2 ^ bits u + second) ≡ (v * 2 ^ bits t + first) * 2 ^ bits u + second
 field-place t u v first second = rw (bits-append t u, pow-add) (omega arith)
 

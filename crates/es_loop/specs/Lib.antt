@@ -1,0 +1,3 @@
+pub mod Entries
+pub mod Conditions
+pub mod Reading
