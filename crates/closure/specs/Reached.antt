@@ -115,7 +115,7 @@ module _ (layers : Layers) where
 
   module _ (target : ℕ) where
     only-itself : (j : ℕ) → has (only target) j ≡ true → target ≡ j
-    only-itself j m = eqb-true target j (sym (has-only target j) ∙ m)
+    only-itself j m = sym (eqb-true j target (sym (has-only target j) ∙ m))
 
     start-followed : Followed (suc target) (only target)
     unfolding Followed

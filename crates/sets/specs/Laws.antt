@@ -2,7 +2,7 @@
 -- number of members.
 -- Assumes nothing.
 use Prim.Native.Nat.{ℕ, zero, suc, _+_, _-_, _*_, _/_, _%_, _^_, _≤_, _<_}
-use mathlib.Core.Bool.{Bool, true, false, not, cond, _&&_, _||_, true≢false}
+use mathlib.Core.Bool.{Bool, true, false, not, cond, _&&_, _||_, or-false, true≢false}
 use mathlib.Core.Path.{_≡_, refl, sym, ap, ap₂, _∙_}
 use mathlib.Core.Logic.{_⊎_, inl, inr}
 use native.Mathlib.Nat.{mod-lt, mod-eq-of-lt, mod-one, le-of-suc-le-suc, not-suc-le-zero, div-one, div-eq-of-lt, one-mul, lt-of-lt-of-le, lt-of-le-of-lt}
@@ -16,7 +16,7 @@ use lib.Count.{ones, onesIn, ones-cat, trailingZeros, under, trailing-le}
 use lib.Dec.{eqb, ltb, eqb·suc-suc}
 use lib.Pow.{pow-pos, pow-mono, pow-lt, shr-shr, shl-exact, field, mod-mod-pow, mod-pow-add}
 use Rattle.combinators.specs.Below.{some, count, seek-first, seek-inside, first-seek, none-at}
-use Rattle.sets.specs.Sets.{has, joined, only, without, below, lowest, size}
+use Rattle.sets.specs.Sets.{has, joined, only, added, without, below, lowest, size}
 
 -- ---- a bit is 0 or 1
 
@@ -95,16 +95,26 @@ has-without s t i = has-xor s (bitAnd s t) i ∙ ap (differ (has s i)) (has-and 
     go false y = refl
 
 -- only: that one alone
-pub has-only : (i j : ℕ) → has (only i) j ≡ eqb i j
+pub has-only : (i j : ℕ) → has (only i) j ≡ eqb j i
 has-only zero zero = refl
-has-only zero (suc j) = has-suc 1 j ∙ has-none j ∙ sym (ne-eqb 0 (suc j) (λ e. omega arith))
+has-only zero (suc j) = has-suc 1 j ∙ has-none j ∙ sym (ne-eqb (suc j) 0 (λ e. omega arith))
 has-only (suc i) zero =
-    has-zero (2 ^ suc i) ∙ ap (λ (n : ℕ). eqb n 1) (ap (λ (n : ℕ). n % 2) (sym (one-mul (2 ^ suc i))) ∙ shifted-even 1 i)
-    ∙ sym (ne-eqb (suc i) 0 (λ e. omega arith))
+    has-zero (2 ^ suc i)
+    ∙ ap (λ (n : ℕ). eqb n 1) (ap (λ (n : ℕ). n % 2) (sym (one-mul (2 ^ suc i))) ∙ shifted-even 1 i)
+    ∙ sym (ne-eqb 0 (suc i) (λ e. omega arith))
 has-only (suc i) (suc j) =
     has-suc (2 ^ suc i) j
     ∙ ap (λ (n : ℕ). has n j) (ap (λ (n : ℕ). n / 2) (sym (one-mul (2 ^ suc i))) ∙ shifted-half 1 i ∙ one-mul (2 ^ i))
-    ∙ has-only i j ∙ sym (eqb·suc-suc i j)
+    ∙ has-only i j
+    ∙ sym (eqb·suc-suc j i)
+
+-- added: the members, and that one
+pub has-added : (s i j : ℕ) → j < 64 → has (added s i) j ≡ has s j || eqb j i
+has-added s i j h = go (decLt i 64)
+  where
+    go : Dec (i < 64) → has (added s i) j ≡ has s j || eqb j i
+    go (yes l) = rw (lt-ltb i 64 l) (has-joined s (only i) j ∙ ap (λ (b : Bool). has s j || b) (has-only i j))
+    go (no n) = rw (le-ltb i 64 (omega arith), ne-eqb j i (omega arith)) (sym (or-false (has s j)))
 
 -- the code's `1 << i`, in a width that holds bit i
 pub one-shifted : (w i : ℕ) → i < w → 1 * 2 ^ i % 2 ^ w ≡ only i
@@ -193,6 +203,13 @@ without-within w s t h = xor-lt w s (bitAnd s t) h (lt-of-le-of-lt (and-le-l s t
 
 pub only-within : (w i : ℕ) → i < w → only i < 2 ^ w
 only-within w i h = pow-lt h
+
+pub added-within : (w s i : ℕ) → s < 2 ^ w → (i < 64 → i < w) → added s i < 2 ^ w
+added-within w s i h f = go (decLt i 64)
+  where
+    go : Dec (i < 64) → added s i < 2 ^ w
+    go (yes l) = rw (lt-ltb i 64 l) (joined-within w s (only i) h (only-within w i (f l)))
+    go (no n) = rw (le-ltb i 64 (omega arith)) h
 
 pub below-within : (w s i : ℕ) → i ≤ w → below s i < 2 ^ w
 below-within w s i h = lt-of-lt-of-le (mod-lt s (pow-pos i)) (pow-mono h)
