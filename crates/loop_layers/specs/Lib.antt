@@ -1,3 +1,5 @@
 pub mod Layers
 pub mod Closures
+pub mod Meaning
+pub mod Columns
 pub mod Examples
