@@ -9,14 +9,14 @@ use native.Mathlib.Decide.{decLt, ℕ-discrete}
 use native.Mathlib.Nat.{not-suc-le-zero}
 use native.Mathlib.Omega.{arith}
 use lib.ListN.{length, getD, set, replicate, length-set, length-replicate, getD-replicate}
-use lib.Seq.{getD-set-same, getD-set-other}
+use lib.Seq.{getD-set-same, getD-set-other, ext-getD}
 use Rattle.combinators.specs.Lists.{Nth, here, there, nth-inside, nth-getD}
 use Rattle.descriptors.specs.declared.records.Record.{Record}
 use Rattle.judging.specs.Judging.{isLayer, indexOf}
 use Rattle.es_loop.specs.declared.entries.Entry.{Entry}
 use Rattle.es_loop.specs.Conditions.{slotOf}
 use Rattle.loop_layers.specs.Layers.{placeOf, columnWith, columnOf}
-use Rattle.loop_layers.specs.Meaning.{LayerAt, LayerOf, HasLayer}
+use Rattle.loop_layers.specs.Meaning.{LayerAt, LayerOf, HasLayer, ColumnOf}
 
 pub column-length : {A : Type 0} (value : Entry → A) (column : List A) (l : List Entry) → length (columnWith value column l) ≡ length column
 column-length value column [] = refl
@@ -86,15 +86,29 @@ held {A} value d column (e ∷ es) i h =
 nth-one : {A : Type 0} {l : List A} {k : ℕ} {x y : A} → Nth l k x → Nth l k y → x ≡ y
 nth-one {y = y} n m = sym (nth-getD y n) ∙ nth-getD y m
 
--- THE COLUMN, as document 01 has it: at the index of a layer what that layer has, and elsewhere the blank.
+-- THE COLUMN has the meaning.
 module _ {A : Type 0} (blank : A) (value : Entry → A) (entries : List Entry) where
-  pub columnOf-length : length (columnOf blank value entries) ≡ 64
-  columnOf-length = column-length value (replicate 64 blank) entries ∙ length-replicate 64 blank
+  abbrev HeldAt : ℕ → Type 0
+  HeldAt i = Held value entries i (getD (replicate 64 blank) i blank) (getD (columnOf blank value entries) i blank)
 
-  known : (i : ℕ) → i < 64 → Held value entries i (getD (replicate 64 blank) i blank) (getD (columnOf blank value entries) i blank)
+  known : (i : ℕ) → i < 64 → HeldAt i
   known i h = held value blank (replicate 64 blank) entries i (rw (length-replicate 64 blank) h)
 
-  pub at-layer : (i : ℕ) (e : Entry) → LayerOf entries i e → getD (columnOf blank value entries) i blank ≡ value e
+  -- the last entry that stands at an index is the layer of that index
+  last-layer : (i k : ℕ) (x : Entry) → i < 64 → Nth entries k x → placeOf x ≡ i
+      → ((j : ℕ) (y : Entry) → k < j → Nth entries j y → placeOf y ≡ i → ⊥) → HasLayer entries i
+  last-layer i k x h n p f =
+      record {
+        entry = x;
+        layer = record {
+          six-bits = h;
+          place = k;
+          at-place = stands-layer entries h n p;
+          last = λ j y l m. f j y l (m .entry) (layer-stands entries m);
+        };
+      }
+
+  at-layer : (i : ℕ) (e : Entry) → LayerOf entries i e → getD (columnOf blank value entries) i blank ≡ value e
   at-layer i e l = go (known i (l .six-bits))
     where
       same : (k : ℕ) (x : Entry) → Nth entries k x → placeOf x ≡ i → ((j : ℕ) (y : Entry) → k < j → Nth entries j y → placeOf y ≡ i → ⊥) → x ≡ e
@@ -107,26 +121,56 @@ module _ {A : Type 0} (blank : A) (value : Entry → A) (entries : List Entry) w
               let equal : k ≡ l .place = omega arith in
               nth-one (subst (λ (m : ℕ). Nth entries m x) equal n) (l .at-place .entry)
 
-      go : Held value entries i (getD (replicate 64 blank) i blank) (getD (columnOf blank value entries) i blank)
-          → getD (columnOf blank value entries) i blank ≡ value e
+      go : HeldAt i → getD (columnOf blank value entries) i blank ≡ value e
       go (by-last k x n p f v) = v ∙ ap value (same k x n p f)
       go (by-none f v) = absurd (f (l .place) e (l .at-place .entry) (layer-stands entries (l .at-place)))
 
-  pub at-no-layer : (i : ℕ) → i < 64 → (HasLayer entries i → ⊥) → getD (columnOf blank value entries) i blank ≡ blank
+  at-no-layer : (i : ℕ) → i < 64 → (HasLayer entries i → ⊥) → getD (columnOf blank value entries) i blank ≡ blank
   at-no-layer i h none = go (known i h)
     where
-      go : Held value entries i (getD (replicate 64 blank) i blank) (getD (columnOf blank value entries) i blank)
-          → getD (columnOf blank value entries) i blank ≡ blank
-      go (by-last k x n p f v) =
-          absurd
-          (none
-          (record {
-            entry = x;
-            layer = record {
-              six-bits = h;
-              place = k;
-              at-place = stands-layer entries h n p;
-              last = λ j y l m. f j y l (m .entry) (layer-stands entries m);
-            };
-          }))
+      go : HeldAt i → getD (columnOf blank value entries) i blank ≡ blank
+      go (by-last k x n p f v) = absurd (none (last-layer i k x h n p f))
       go (by-none f v) = v ∙ getD-replicate 64 i blank blank h
+
+  pub column-meant : ColumnOf entries blank value (columnOf blank value entries)
+  column-meant =
+      record {
+        places = column-length value (replicate 64 blank) entries ∙ length-replicate 64 blank;
+        layer = at-layer;
+        no-layer = at-no-layer;
+      }
+
+-- ---- whether the entries have a layer of an index
+
+pub data LayerOrNone (entries : List Entry) (i : ℕ) : Type 0 where
+  a-layer : (e : Entry) → LayerOf entries i e → LayerOrNone entries i
+  no-layer : (HasLayer entries i → ⊥) → ((k : ℕ) (e : Entry) → Nth entries k e → placeOf e ≡ i → ⊥) → LayerOrNone entries i
+
+pub layer-or-none : (entries : List Entry) (i : ℕ) → i < 64 → LayerOrNone entries i
+layer-or-none entries i h = go (known 0 placeOf entries i h)
+  where
+    go : HeldAt 0 placeOf entries i → LayerOrNone entries i
+    go (by-last k x n p f v) = let l = last-layer 0 placeOf entries i k x h n p f in a-layer (l .entry) (l .layer)
+    go (by-none f v) =
+        no-layer (λ l. f (l .layer .place) (l .entry) (l .layer .at-place .entry) (layer-stands entries (l .layer .at-place))) f
+
+pub has-layer : (entries : List Entry) {i k : ℕ} {e : Entry} → i < 64 → Nth entries k e → placeOf e ≡ i → HasLayer entries i
+has-layer entries {i} {k} {e} h n p = go (layer-or-none entries i h)
+  where
+    go : LayerOrNone entries i → HasLayer entries i
+    go (a-layer x l) = record { entry = x; layer = l }
+    go (no-layer f g) = absurd (g k e n p)
+
+-- AND NO OTHER COLUMN HAS IT.
+pub column-only : {A : Type 0} (blank : A) (value : Entry → A) (entries : List Entry) {column : List A} → ColumnOf entries blank value column
+    → column ≡ columnOf blank value entries
+column-only blank value entries {column} c =
+    ext-getD blank column (columnOf blank value entries) (c .places ∙ sym (computed .places))
+    (λ i h. go i (rw (c .places) at h) (layer-or-none entries i (rw (c .places) at h)))
+  where
+    computed : ColumnOf entries blank value (columnOf blank value entries)
+    computed = column-meant blank value entries
+
+    go : (i : ℕ) → i < 64 → LayerOrNone entries i → getD column i blank ≡ getD (columnOf blank value entries) i blank
+    go i h (a-layer e l) = c .layer i e l ∙ sym (computed .layer i e l)
+    go i h (no-layer f g) = c .no-layer i h f ∙ sym (computed .no-layer i h f)

@@ -2,4 +2,5 @@ pub mod Layers
 pub mod Closures
 pub mod Meaning
 pub mod Columns
+pub mod Meant
 pub mod Examples

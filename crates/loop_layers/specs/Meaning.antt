@@ -22,6 +22,8 @@ use Rattle.closure.specs.declared.Layers.{Layers}
 use Rattle.closure.specs.declared.Closure.{Closure}
 use Rattle.closure.specs.declared.Closure.the-variants.{Refused}
 use Rattle.closure.specs.Meaning as Target
+use Rattle.loop_layers.specs.declared.LayerTable.{LayerTable}
+use Rattle.loop_layers.specs.Layers.{channelOf}
 
 module _ (entries : List Entry) where
   -- The entry e is a layer of index i.
@@ -54,6 +56,19 @@ module _ (entries : List Entry) where
     pub present : (i : ℕ) → (has (layers .present) i ≡ true) ↔ HasLayer i
     pub embedded : (i j : ℕ) → (has (getD (layers .embedded) i 0) j ≡ true) ↔ Embeds i j
     pub places : length (layers .embedded) ≡ 64
+
+  -- A COLUMN by layer index: what the layer of that index has, and a blank where there is none.
+  pub record ColumnOf {A : Type 0} (blank : A) (value : Entry → A) (column : List A) : Type 0 where
+    pub places : length column ≡ 64
+    pub layer : (i : ℕ) (e : Entry) → LayerOf i e → getD column i blank ≡ value e
+    pub no-layer : (i : ℕ) → i < 64 → (HasLayer i → ⊥) → getD column i blank ≡ blank
+
+  -- THE TABLE of the layers: with the layers themselves, the PID, the stream type and the channel of each.
+  pub record TableOf (table : LayerTable) : Type 0 where
+    pub layers : LayersOf (table .layers)
+    pub pids : ColumnOf 0 (λ e. e .pid) (table .pids)
+    pub stream-types : ColumnOf 0 (λ e. e .«stream_type») (table .«stream_types»)
+    pub channels : ColumnOf (record { 0 = 0 }) (λ e. channelOf (e .«record»)) (table .channels)
 
 -- THE ANSWER TO A TARGET in the loop of these bytes: a refused loop gives its refusal; else it is the answer in the layers of the loop's
 -- entries, which is exactly the layers that the target rests on, or 11, or 12.
