@@ -1,46 +1,39 @@
 -- What holds of the layers of an accepted loop, because the refusals were not given: an index has one layer (8), and a layer lists lower
 -- indices alone (9). So nothing that its entries say is lost on the way to its closures.
 -- Assumes nothing.
-use Prim.Native.Nat.{ℕ, zero, suc, _≤_, _<_}
+use Prim.Native.Nat.{ℕ, _<_}
 use mathlib.Core.Path.{_≡_, refl, sym, _∙_, ap, ap₂, subst}
 use mathlib.Core.Bool.{Bool, true, false, cond, _&&_, true≢false}
 use mathlib.Core.List.{List, [], _∷_, _++_, map}
 use mathlib.Core.Logic.{_↔_}
-use native.Mathlib.Decide.{decLt}
-use native.Mathlib.Nat.{not-suc-le-zero}
 use native.Mathlib.Omega.{arith}
 use borrow.Author.Tests.{eq-eqb, ltb-false, leb-false, lt-ltb}
 use lib.Dec.{eqb, leb, ltb}
 use lib.ListN.{length, getD, take}
 use Rattle.combinators.specs.Below.{none-at}
 use Rattle.combinators.specs.Bools.{neither-left}
-use Rattle.combinators.specs.Lists.{Nth, here, there, nth-inside, nth-getD, gather}
+use Rattle.combinators.specs.Lists.{Nth, nth-inside, nth-getD, nth-map, gather}
 use Rattle.combinators.specs.Lowest.{lowestNumber, earliestPlace, lowest-is}
 use Rattle.combinators.specs.Members.{member, member-which}
 use Rattle.framing.specs.Pieces.{Item, whole, broken, cut}
-use Rattle.sets.specs.Sets.{has}
 use Rattle.vocabulary.specs.declared.stream_types.Reading.{Reading}
 use Rattle.vocabulary.specs.declared.stream_types.Reading.the-variants.{Edition2009, Edition2015}
 use Rattle.vocabulary.specs.declared.refusal.Refusal.{Refusal}
 use Rattle.vocabulary.specs.declared.refusal.Refusal.the-variants.{LoopTooLong}
 use Rattle.vocabulary.specs.StreamTypes.{known}
-use Rattle.descriptors.specs.declared.records.Record.{Record}
 use Rattle.descriptors.specs.Records.{hierarchyOf, extensionOf, embeddedOf}
-use Rattle.descriptors.specs.Looking.{Kind, does-not-fit, skipped, wrong-length, hierarchy, extension, tag4Kind, tag63Kind, extensionKind, payloadKind, descriptorTag, descriptorLength, kindOf, Held, heldIn, firstRecord, seenOf, nothingSeen}
-use Rattle.judging.specs.Judging.{isLayer, indexOf, sameIndex, named, wrongAt, wrongEmbedded}
+use Rattle.descriptors.specs.Looking.{Kind, does-not-fit, skipped, wrong-length, hierarchy, extension, tag4Kind, tag63Kind, descriptorTag, descriptorLength, kindOf, Held, heldIn, firstRecord, seenOf, nothingSeen}
+use Rattle.judging.specs.Judging.{indexOf, sameIndex, named, wrongAt, wrongEmbedded}
 use Rattle.es_loop.specs.declared.entries.Entry.{Entry}
 use Rattle.es_loop.specs.declared.entries.Stream.{Stream}
-use Rattle.es_loop.specs.declared.reader.LoopRead.{LoopRead}
-use Rattle.es_loop.specs.declared.reader.Outcome.{Outcome}
 use Rattle.es_loop.specs.declared.reader.Outcome.the-variants.{Accepted, Refused}
-use Rattle.es_loop.specs.Entries.{streamType, esInfoLength, seenIn, noStream, streamOf, streamsOf, entryOf}
-use Rattle.es_loop.specs.Conditions.{streamAt, recordAt, repeatedIndex, applies, refusalOf}
-use Rattle.es_loop.specs.Reading.{refusedWith, accepted, answerAt, judged, loopRead}
-use Rattle.closure.specs.Closures.{isLayer as isLayerIn}
+use Rattle.es_loop.specs.Entries.{streamType, esInfoLength, noStream, streamOf, streamsOf, entryOf}
+use Rattle.es_loop.specs.Conditions.{streamAt, recordAt, applies, refusalOf}
+use Rattle.es_loop.specs.Reading.{refusedWith, accepted, judged, loopRead}
 use Rattle.closure.specs.Meaning.{Names}
 use Rattle.loop_layers.specs.Layers.{layersOf}
 use Rattle.loop_layers.specs.Closures.{entriesRead}
-use Rattle.loop_layers.specs.Meaning.{LayerAt, LayerOf, HasLayer, Embeds}
+use Rattle.loop_layers.specs.Meaning.{LayerAt, LayerOf}
 use Rattle.loop_layers.specs.Meant.{layers-meant, entries-read}
 
 -- ---- a layer index that was read has six bits
@@ -133,12 +126,6 @@ no-fault reading bytes is-accepted = by-length (ltb 1008 (length bytes)) refl is
     by-length : (b : Bool) → ltb 1008 (length bytes) ≡ b → (cond b (refusedWith LoopTooLong) (judged all)) .outcome ≡ Accepted → NoFault reading bytes
     by-length true p o = never o
     by-length false p o = by-number (ltb number 11) refl o (ap (λ (b : Bool). cond b (refusedWith LoopTooLong) (judged all)) p)
-
--- what stands in a list that was mapped
-nth-map : {A B : Type 0} (f : A → B) (l : List A) {k : ℕ} {y : B} → Nth (map f l) k y → (x : A) × Nth l k x × (f x ≡ y)
-nth-map f [] n = absurd (not-suc-le-zero (nth-inside n))
-nth-map f (x ∷ xs) here = (x, here, refl)
-nth-map f (x ∷ xs) (there n) = let w = nth-map f xs n in (w .0, there (w .1), w .2)
 
 module _ (reading : Reading) (bytes : List ℕ) (is-accepted : (loopRead reading bytes) .outcome ≡ Accepted) where
   abbrev pub entries : List Entry

@@ -1,7 +1,7 @@
 -- What a column of 64 places holds after some entries: at each index what the last layer of that index has, and a blank where there is none.
 -- One law for every column, of whatever it holds.
 -- Assumes nothing.
-use Prim.Native.Nat.{ℕ, zero, suc, _<_}
+use Prim.Native.Nat.{ℕ, suc, _<_}
 use mathlib.Core.Path.{_≡_, refl, sym, _∙_, ap, subst}
 use mathlib.Core.Bool.{Bool, true, false, cond}
 use mathlib.Core.List.{List, [], _∷_}
@@ -10,7 +10,7 @@ use native.Mathlib.Nat.{not-suc-le-zero}
 use native.Mathlib.Omega.{arith}
 use lib.ListN.{length, getD, set, replicate, length-set, length-replicate, getD-replicate}
 use lib.Seq.{getD-set-same, getD-set-other, ext-getD}
-use Rattle.combinators.specs.Lists.{Nth, here, there, nth-inside, nth-getD}
+use Rattle.combinators.specs.Lists.{Nth, here, there, nth-inside, nth-one}
 use Rattle.descriptors.specs.declared.records.Record.{Record}
 use Rattle.judging.specs.Judging.{isLayer, indexOf}
 use Rattle.es_loop.specs.declared.entries.Entry.{Entry}
@@ -81,10 +81,6 @@ held {A} value d column (e ∷ es) i h =
         by-last 0 e here q (after-first f)
         (v ∙ ap (λ (j : ℕ). getD (set column (placeOf e) (value e)) j d) (sym q) ∙ getD-set-same column (placeOf e) (value e) d (rw q h))
     go (by-none f v) (no q) = by-none (nowhere f q) (v ∙ getD-set-other column (placeOf e) i (value e) d (λ p. q (sym p)))
-
--- one entry stands at a place
-nth-one : {A : Type 0} {l : List A} {k : ℕ} {x y : A} → Nth l k x → Nth l k y → x ≡ y
-nth-one {y = y} n m = sym (nth-getD y n) ∙ nth-getD y m
 
 -- THE COLUMN has the meaning.
 module _ {A : Type 0} (blank : A) (value : Entry → A) (entries : List Entry) where

@@ -1,20 +1,16 @@
 -- The laws that join the meaning to what is computed, both ways: of the layers, of their table, and of the answer to a target.
 -- Assumes nothing.
-use Prim.Native.Nat.{ℕ, suc, _<_}
+use Prim.Native.Nat.{ℕ, _<_}
 use mathlib.Core.Path.{_≡_, refl, sym, _∙_, ap, ap₂, subst}
 use mathlib.Core.Bool.{Bool, true, false, _||_, true≢false}
-use mathlib.Core.List.{List, [], _∷_, map}
-use mathlib.Core.Logic.{_↔_}
+use mathlib.Core.List.{List, map}
 use native.Mathlib.Decide.{decLt}
 use native.Mathlib.Omega.{arith}
-use borrow.Author.Tests.{eq-eqb, eqb-true}
-use lib.Dec.{eqb}
-use lib.ListN.{length, getD, take, length-map, List·getD-eq-default}
+use lib.ListN.{length, getD, length-map, List·getD-eq-default}
 use lib.Pow.{pow-pos}
 use lib.Seq.{ext-getD, take-at}
-use Rattle.combinators.specs.Bools.{either-left, either-right}
-use Rattle.combinators.specs.Lists.{Nth, here, there}
-use Rattle.combinators.specs.Members.{member}
+use Rattle.combinators.specs.Bools.{either-right, same-test}
+use Rattle.combinators.specs.Members.{member, nth-member, member-nth}
 use Rattle.sets.specs.Sets.{has}
 use Rattle.sets.specs.Laws.{has-none, has-within, same-members}
 use Rattle.vocabulary.specs.declared.stream_types.Reading.{Reading}
@@ -36,33 +32,11 @@ use Rattle.closure.specs.Laws.{meets, nothing-else}
 use Rattle.loop_layers.specs.declared.LayerTable.{LayerTable}
 use Rattle.loop_layers.specs.Layers.{placeOf, presentIn, columnOf, embeddedIn, channelOf, layersOf, tableOf}
 use Rattle.loop_layers.specs.Closures.{entriesRead, closureIn, loopClosure}
-use Rattle.loop_layers.specs.Meaning.{LayerOf, HasLayer, Embeds, LayersOf, TableOf, Answers, loop-refused, loop-accepted}
+use Rattle.loop_layers.specs.Meaning.{HasLayer, Embeds, LayersOf, TableOf, Answers, loop-refused, loop-accepted}
 use Rattle.loop_layers.specs.Columns.{layer-stands, LayerOrNone, a-layer, no-layer, layer-or-none, has-layer, column-meant, column-only}
 
 apart : {A : Type 0} {b : Bool} → b ≡ true → b ≡ false → A
 apart p q = absurd (true≢false (sym p ∙ q))
-
--- two tests that pass together are one
-same-test : (a b : Bool) → (a ≡ true → b ≡ true) → (b ≡ true → a ≡ true) → a ≡ b
-same-test true b f g = sym (f refl)
-same-test false true f g = g refl
-same-test false false f g = refl
-
--- ---- the places of the entries as a list of numbers
-
-module _ {A : Type 0} (f : A → ℕ) where
-  nth-member : {l : List A} {k : ℕ} {x : A} → Nth l k x → member (f x) (map f l) ≡ true
-  nth-member (here {x} {xs}) = either-left (eqb (f x) (f x)) (member (f x) (map f xs)) (eq-eqb (f x) (f x) refl)
-  nth-member (there {x} {y} {xs} n) = either-right (eqb (f x) (f y)) (member (f x) (map f xs)) (nth-member n)
-
-  member-nth : (i : ℕ) (l : List A) → member i (map f l) ≡ true → (k : ℕ) × (x : A) × Nth l k x × (f x ≡ i)
-  member-nth i [] e = apart e refl
-  member-nth i (x ∷ xs) e = go (eqb i (f x)) refl (member-nth i xs)
-    where
-      go : (b : Bool) → eqb i (f x) ≡ b → (member i (map f xs) ≡ true → (k : ℕ) × (y : A) × Nth xs k y × (f y ≡ i))
-          → (k : ℕ) × (y : A) × Nth (x ∷ xs) k y × (f y ≡ i)
-      go true p later = (0, x, here, sym (eqb-true i (f x) p))
-      go false p later = let w = later (rw p at e) in (suc (w .0), w .1, there (w .2), w .3)
 
 -- THE LAYERS computed have the meaning.
 module _ (entries : List Entry) where
