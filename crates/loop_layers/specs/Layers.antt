@@ -12,6 +12,12 @@ use Rattle.es_loop.specs.Conditions.{slotOf}
 use Rattle.closure.specs.declared.Layers.{Layers}
 use Rattle.loop_layers.specs.declared.LayerTable.{LayerTable}
 
+-- where a layer is sent: hierarchy_channel, and 0 where there is no layer
+abbrev pub channelOf : Record → HierarchyChannel
+channelOf NoRecord = record { 0 = 0 }
+channelOf (Hierarchy h) = h .channel
+channelOf (Extension x) = x .channel
+
 -- Where an entry stands in a column of 64 places: at its layer index. A stream that is no layer stands past all of them, and adds nothing.
 abbrev pub placeOf : Entry → ℕ
 placeOf e = slotOf (e .«record»)
@@ -28,14 +34,9 @@ columnWith value column (e ∷ es) = columnWith value (set column (placeOf e) (v
 abbrev pub columnOf : {A : Type 0} → A → (Entry → A) → List Entry → List A
 columnOf blank value entries = columnWith value (replicate 64 blank) entries
 
--- what the columns hold of a layer: the set of the layers that it names (a base layer names none), and its channel
+-- the set of the layers that an entry's record names; a base layer names none, whatever its embedded index says
 abbrev pub embeddedIn : Entry → ℕ
 embeddedIn e = namesOf (e .«record») (e .embedded)
-
-abbrev pub channelOf : Record → HierarchyChannel
-channelOf NoRecord = record { 0 = 0 }
-channelOf (Hierarchy h) = h .channel
-channelOf (Extension x) = x .channel
 
 abbrev pub layersOf : List Entry → Layers
 layersOf entries = record { present = presentIn entries; embedded = columnOf 0 embeddedIn entries }
