@@ -1,0 +1,43 @@
+-- Tests joined and compared: the few laws of `&&`, `||` and of two tests that agree.
+-- Assumes nothing.
+use mathlib.Core.Path.{_≡_, refl}
+use mathlib.Core.Bool.{Bool, true, false, _&&_, _||_, Bool·beq}
+use lib.Dec.{T}
+
+pub T-true : (a : Bool) → T a → a ≡ true
+T-true true t = refl
+T-true false t = absurd t
+
+pub true-T : (a : Bool) → a ≡ true → T a
+true-T true e = tt
+true-T false e = let z : _≡_ {A = Bool} true false = cc in mathlib.Core.Path.subst T z tt
+
+-- two tests that were compared and found equal
+pub agree : (a b : Bool) → T (Bool·beq a b) → a ≡ b
+agree true true t = refl
+agree true false t = absurd t
+agree false true t = absurd t
+agree false false t = refl
+
+pub both-left : (a b : Bool) → a && b ≡ true → a ≡ true
+both-left true b e = refl
+both-left false b e = e
+
+pub both-right : (a b : Bool) → a && b ≡ true → b ≡ true
+both-right true b e = e
+both-right false b e = let z : b ≡ true = cc in z
+
+pub neither-left : (a b : Bool) → a || b ≡ false → a ≡ false
+neither-left true b e = e
+neither-left false b e = refl
+
+pub neither-right : (a b : Bool) → a || b ≡ false → b ≡ false
+neither-right true b e = let z : b ≡ false = cc in z
+neither-right false b e = e
+
+pub either-right : (a b : Bool) → b ≡ true → a || b ≡ true
+either-right true b p = refl
+either-right false b p = p
+
+pub either-left : (a b : Bool) → a ≡ true → a || b ≡ true
+either-left a b p = rw p

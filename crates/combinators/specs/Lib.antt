@@ -1,0 +1,5 @@
+pub mod Bools
+pub mod Below
+pub mod Members
+pub mod Padding
+pub mod Lowest

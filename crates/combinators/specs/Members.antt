@@ -1,0 +1,43 @@
+-- Whether a number stands in a list of numbers.
+-- Assumes nothing.
+use Prim.Native.Nat.{ℕ, zero, suc, _≤_, _<_}
+use mathlib.Core.Path.{_≡_, refl}
+use mathlib.Core.Logic.{_≢_}
+use mathlib.Core.Bool.{Bool, true, false, not, _&&_, _||_}
+use mathlib.Core.List.{List, [], _∷_}
+use borrow.Author.Tests.{ne-eqb, le-leb, ltb-true}
+use native.Mathlib.Omega.{arith}
+use lib.Dec.{eqb, leb, ltb}
+use Rattle.combinators.specs.Bools.{both-left, both-right}
+use Rattle.combinators.specs.Below.{every, every-at}
+
+abbrev pub member : ℕ → List ℕ → Bool
+member x [] = false
+member x (y ∷ ys) = eqb x y || member x ys
+
+-- x is none of the list's numbers, one statement for each: what a chain of tests leaves
+abbrev pub Avoids : ℕ → List ℕ → Type 0
+Avoids x [] = Unit {0}
+Avoids x (y ∷ ys) = (x ≢ y) × Avoids x ys
+
+pub no-member : (x : ℕ) (l : List ℕ) → Avoids x l → member x l ≡ false
+no-member x [] a = refl
+no-member x (y ∷ ys) a = rw (ne-eqb x y (a .0)) (no-member x ys (a .1))
+
+-- a whole range stands in the list: one test, computed, says so of each of its numbers
+pub range-member : (low high : ℕ) (l : List ℕ) → every (λ k. not (leb low k) || member k l) high ≡ true
+    → (x : ℕ) → low ≤ x → x < high → member x l ≡ true
+range-member low high l e x h k =
+    rw (le-leb low x h) at (every-at (λ k. not (leb low k) || member k l) high e x k)
+
+-- every number of the list is below a bound
+abbrev pub allBelow : ℕ → List ℕ → Bool
+allBelow bound [] = true
+allBelow bound (y ∷ ys) = ltb y bound && allBelow bound ys
+
+-- a number at or past the bound is then none of them
+pub past-member : (bound : ℕ) (l : List ℕ) → allBelow bound l ≡ true → (x : ℕ) → bound ≤ x → member x l ≡ false
+past-member bound [] e x h = refl
+past-member bound (y ∷ ys) e x h =
+    let low : y < bound = ltb-true y bound (both-left (ltb y bound) (allBelow bound ys) e) in
+    rw (ne-eqb x y (omega arith)) (past-member bound ys (both-right (ltb y bound) (allBelow bound ys) e) x h)

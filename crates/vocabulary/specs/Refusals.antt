@@ -1,0 +1,57 @@
+-- The refusals of document 01, 'Refusal numbers': which number and which place each named case has.
+-- Assumes nothing.
+use Prim.Native.Nat.{ℕ}
+use Rattle.vocabulary.specs.declared.refusal.Refusal.{Refusal}
+use Rattle.vocabulary.specs.declared.refusal.Refusal.the-variants.{LoopTooLong, DoesNotFit, RepeatedPid, WrongLength, SecondRecord, TypeNotAllowed, WrongFlags, RepeatedLayerIndex, WrongEmbeddedIndex, TooManyEmbedded, NoSuchLayer, EmbeddedLayerAbsent, OutOfRange, TimeOrderBroken, Unpaired, UsedTwice, NoRoom, NotVideoHeader, NoPts, FieldsDoNotFit, WrongMarker, PtsBeforeDts, TooWide}
+
+-- the column 'No.'
+abbrev pub numberOf : Refusal → ℕ
+numberOf LoopTooLong = 1
+numberOf (DoesNotFit entry) = 2
+numberOf (RepeatedPid entry) = 3
+numberOf (WrongLength entry) = 4
+numberOf (SecondRecord entry) = 5
+numberOf (TypeNotAllowed entry) = 6
+numberOf (WrongFlags entry) = 7
+numberOf (RepeatedLayerIndex entry) = 8
+numberOf (WrongEmbeddedIndex entry) = 9
+numberOf (TooManyEmbedded entry) = 10
+numberOf NoSuchLayer = 11
+numberOf (EmbeddedLayerAbsent index) = 12
+numberOf (OutOfRange row) = 13
+numberOf (TimeOrderBroken row) = 14
+numberOf (Unpaired row) = 15
+numberOf (UsedTwice row) = 16
+numberOf NoRoom = 17
+numberOf NotVideoHeader = 20
+numberOf NoPts = 21
+numberOf FieldsDoNotFit = 22
+numberOf WrongMarker = 23
+numberOf PtsBeforeDts = 24
+numberOf TooWide = 25
+
+-- the column 'Place', and 0 where it names none
+abbrev pub placeOf : Refusal → ℕ
+placeOf LoopTooLong = 0
+placeOf (DoesNotFit entry) = entry
+placeOf (RepeatedPid entry) = entry
+placeOf (WrongLength entry) = entry
+placeOf (SecondRecord entry) = entry
+placeOf (TypeNotAllowed entry) = entry
+placeOf (WrongFlags entry) = entry
+placeOf (RepeatedLayerIndex entry) = entry
+placeOf (WrongEmbeddedIndex entry) = entry
+placeOf (TooManyEmbedded entry) = entry
+placeOf NoSuchLayer = 0
+placeOf (EmbeddedLayerAbsent index) = index .0
+placeOf (OutOfRange row) = row
+placeOf (TimeOrderBroken row) = row
+placeOf (Unpaired row) = row
+placeOf (UsedTwice row) = row
+placeOf NoRoom = 0
+placeOf NotVideoHeader = 0
+placeOf NoPts = 0
+placeOf FieldsDoNotFit = 0
+placeOf WrongMarker = 0
+placeOf PtsBeforeDts = 0
+placeOf TooWide = 0
