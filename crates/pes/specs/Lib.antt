@@ -1,0 +1,10 @@
+pub mod Lists
+pub mod Tables
+pub mod Stamps
+pub mod StampLaws
+pub mod HeaderData
+pub mod HeaderDataLaws
+pub mod Reading
+pub mod HeadLaws
+pub mod Meaning
+pub mod VideoLaws

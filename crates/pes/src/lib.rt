@@ -1,0 +1,17 @@
+// Reads and writes the times of a video PES header: PTS, DTS and TREF.
+mod header_data;
+mod reader;
+mod stamp;
+
+pub use reader::read;
+use vocabulary::Refusal;
+
+// What a header says of its component's times, or why it is refused.
+pub enum Answer {
+    Times {
+        pts: u64,
+        decoding: u64,
+        matching: u64,
+    },
+    Refused(Refusal),
+}
