@@ -2,11 +2,11 @@
 -- Assumes nothing.
 use Prim.Native.Nat.{ℕ, zero, suc, _+_, _-_, _≤_, _<_}
 use mathlib.Core.Path.{_≡_, refl, sym, _∙_, ap}
-use mathlib.Core.List.{List, [], _∷_, _++_, append-assoc}
+use mathlib.Core.List.{List, [], _∷_, _++_, append-assoc, map, map-append}
 use native.Mathlib.Omega.{arith}
-use native.Mathlib.Nat.{add-suc}
-use lib.ListN.{length, getD, set, replicate, length-append, length-replicate, List·getD-append}
-use lib.Seq.{set-at}
+use native.Mathlib.Numerals.{add-one}
+use lib.ListN.{length, getD, set, replicate, take, length-map, length-append, length-replicate, List·getD-append}
+use lib.Seq.{set-at, take-suc, length-take-le}
 
 module _ {A : Type 0} where
   abbrev pub padTo : ℕ → A → List A → List A
@@ -29,3 +29,11 @@ module _ {A : Type 0} where
       go (suc r) p =
           let q : n - length (l ++ x ∷ []) ≡ r = simp (length-append l (x ∷ [])) (omega arith) in
           rw (p, q, append-assoc l (x ∷ []) (replicate r blank)) (set-at l blank (replicate r blank) x i e)
+
+-- a list's first i elements, each taken by f, and one more
+pub store-map : {A B : Type 0} (n : ℕ) (blank : A) (f : B → A) (l : List B) (i : ℕ) (d : B) → i < length l → i < n
+    → set (padTo n blank (map f (take i l))) i (f (getD l i d)) ≡ padTo n blank (map f (take (i + 1) l))
+store-map n blank f l i d h k =
+    let filled : length (map f (take i l)) ≡ i = length-map (take i l) f ∙ length-take-le i l (omega arith) in
+    store-padTo n blank (f (getD l i d)) (map f (take i l)) i filled k
+    ∙ rw (add-one i, take-suc l i d h, map-append f (take i l) (getD l i d ∷ []))

@@ -8,7 +8,7 @@ use native.Mathlib.Omega.{arith}
 use lib.Dec.{eqb, leb}
 use lib.ListN.{length, getD, take}
 use lib.Seq.{getD-take}
-use Rattle.syntax.specs.Table.{number, fixedHold, and}
+use Rattle.syntax.specs.Table.{AreBytes, number, fixedHold}
 use Rattle.syntax.specs.Named.{named}
 use Rattle.pes.specs.Tables.{head, packetFlags}
 use Rattle.pes.specs.HeaderData.{Flags, flagsOf}
@@ -17,7 +17,7 @@ use Rattle.pes.specs.Reading.{isVideoHeader}
 -- the tests of refusal 20, on the length, the prefix, the two bits, stream_id and PES_header_data_length
 abbrev pub videoTests : ℕ → ℕ → ℕ → ℕ → ℕ → Bool
 videoTests long prefix bits streamId dataLength =
-    leb 9 long && and (eqb prefix 0x000001) (and (eqb bits 0b10) true) && leb 0xE0 streamId && leb streamId 0xEF && leb (9 + dataLength) long
+    leb 9 long && (eqb prefix 0x000001 && (eqb bits 0b10 && true)) && leb 0xE0 streamId && leb streamId 0xEF && leb (9 + dataLength) long
 
 -- the flags of the head are those of its eighth byte
 flags-in-byte : (n : ℕ) → flagsOf head n ≡ flagsOf packetFlags (n / 2 ^ 8 % 2 ^ 8)
@@ -53,7 +53,7 @@ flags-in-byte n =
     e-extension : named "PES_extension_flag" head n ≡ named "PES_extension_flag" packetFlags (n / 2 ^ 8 % 2 ^ 8)
     e-extension = omega arith
 
-module _ (l : List ℕ) (bytes : (i : ℕ) → getD l i 0 < 256) where
+module _ (l : List ℕ) (bytes : AreBytes l) where
   pub prefix-of-head : number 9 l / 2 ^ 48 % 2 ^ 24 ≡ number 3 l
   prefix-of-head = omega (arith, bytes 0, bytes 1, bytes 2, bytes 3, bytes 4, bytes 5, bytes 6, bytes 7, bytes 8)
 
@@ -80,7 +80,7 @@ module _ (l : List ℕ) (bytes : (i : ℕ) → getD l i 0 < 256) where
       ∙ ap (λ (x : ℕ). videoTests (length l) (number 3 l) (getD l 6 0 / 64) (getD l 3 0) x) data-length-of-head
 
 -- the first three bytes as a number, and as bytes
-pub prefix-bytes : (l : List ℕ) → ((i : ℕ) → getD l i 0 < 256) → 3 ≤ length l → number 3 l ≡ 0x000001 → take 3 l ≡ 0x00 ∷ 0x00 ∷ 0x01 ∷ []
+pub prefix-bytes : (l : List ℕ) → AreBytes l → 3 ≤ length l → number 3 l ≡ 0x000001 → take 3 l ≡ 0x00 ∷ 0x00 ∷ 0x01 ∷ []
 prefix-bytes [] bytes long e = absurd (omega arith)
 prefix-bytes (a ∷ []) bytes long e = absurd (omega arith)
 prefix-bytes (a ∷ b ∷ []) bytes long e = absurd (omega arith)

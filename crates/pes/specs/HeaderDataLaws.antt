@@ -9,7 +9,7 @@ use borrow.Author.Tests.{leb-true, leb-false, le-leb, lt-leb, eq-eqb, ne-eqb}
 use lib.Dec.{leb, eqb}
 use lib.ListN.{length, drop, length-drop}
 use lib.Seq.{drop-drop}
-use Rattle.syntax.specs.Table.{and, fixedHold}
+use Rattle.syntax.specs.Table.{fixedHold}
 use Rattle.syntax.specs.Named.{named}
 use Rattle.pes.specs.Tables.{extensionFlags, secondExtension}
 use Rattle.pes.specs.Stamps.{dtsFlag}
@@ -81,7 +81,7 @@ marker-of-second b byte = ap (λ (x : ℕ). eqb x 1) first ∙ alone (eqb (b / 2
     first : b / 128 ≡ b / 2 ^ 7 % 2 ^ 1
     first = omega arith
 
-    alone : (t : Bool) → t ≡ and t true
+    alone : (t : Bool) → t ≡ t && true
     alone true = refl
     alone false = refl
 

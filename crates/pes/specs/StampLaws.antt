@@ -7,7 +7,7 @@ use mathlib.Core.List.{List}
 use native.Mathlib.Omega.{arith}
 use lib.Dec.{eqb}
 use lib.ListN.{getD}
-use Rattle.syntax.specs.Table.{number, fixedHold, and}
+use Rattle.syntax.specs.Table.{AreBytes, number, fixedHold}
 use Rattle.pes.specs.Tables.{tref, prefixed, timeBits}
 use Rattle.pes.specs.Stamps.{timeOf, stampOf, dtsFlag}
 use Rattle.pes.specs.declared.stamp.Stamp.{Stamp}
@@ -15,24 +15,20 @@ use Rattle.pes.specs.declared.stamp.Stamp.{Stamp}
 abbrev pub stamp : Bool → ℕ → Stamp
 stamp marked time = record { marked = marked; time = time }
 
-all-three : (a b c : Bool) → a && b && c ≡ and a (and b (and c true))
+all-three : (a b c : Bool) → a && b && c ≡ a && (b && (c && true))
 all-three true true true = refl
 all-three true true false = refl
 all-three true false c = refl
 all-three false b c = refl
 
-one-more : (a b : Bool) → a && b ≡ and a b
-one-more true b = refl
-one-more false b = refl
-
 parts : (a b c d e : ℕ) {x y z : ℕ} → a ≡ x → b * 2 ^ 7 + c ≡ y → d * 2 ^ 7 + e ≡ z → a * 2 ^ 30 + b * 2 ^ 22 + c * 2 ^ 15 + d * 2 ^ 7 + e ≡ x * 2 ^ 30 + y * 2 ^ 15 + z
 parts a b c d e h m l = omega arith
 
-module _ (l : List ℕ) (bytes : (i : ℕ) → getD l i 0 < 256) where
+module _ (l : List ℕ) (bytes : AreBytes l) where
   pub markers-of-bytes : eqb (getD l 0 0 % 2) 1 && eqb (getD l 2 0 % 2) 1 && eqb (getD l 4 0 % 2) 1 ≡ fixedHold tref (number 5 l)
   markers-of-bytes =
       all-three (eqb (getD l 0 0 % 2) 1) (eqb (getD l 2 0 % 2) 1) (eqb (getD l 4 0 % 2) 1)
-      ∙ ap₂ and (ap (λ (x : ℕ). eqb x 1) first) (ap₂ and (ap (λ (x : ℕ). eqb x 1) second) (ap (λ (x : ℕ). and (eqb x 1) true) third))
+      ∙ ap₂ _&&_ (ap (λ (x : ℕ). eqb x 1) first) (ap₂ _&&_ (ap (λ (x : ℕ). eqb x 1) second) (ap (λ (x : ℕ). eqb x 1 && true) third))
     where
       first : getD l 0 0 % 2 ≡ number 5 l / 2 ^ 32 % 2 ^ 1
       first = omega (arith, bytes 0, bytes 1, bytes 2, bytes 3, bytes 4)
@@ -56,9 +52,10 @@ module _ (l : List ℕ) (bytes : (i : ℕ) → getD l i 0 < 256) where
       low = omega (arith, bytes 0, bytes 1, bytes 2, bytes 3, bytes 4)
 
   pub prefix-of-bytes : (prefix : ℕ) → eqb (getD l 0 0 / 16) prefix && fixedHold tref (number 5 l) ≡ fixedHold (prefixed prefix) (number 5 l)
-  prefix-of-bytes prefix =
-      one-more (eqb (getD l 0 0 / 16) prefix) (fixedHold tref (number 5 l))
-      ∙ ap (λ (x : ℕ). and (eqb x prefix) (fixedHold tref (number 5 l))) (omega (arith, bytes 0, bytes 1, bytes 2, bytes 3, bytes 4))
+  prefix-of-bytes prefix = ap (λ (x : ℕ). eqb x prefix && fixedHold tref (number 5 l)) high
+    where
+      high : getD l 0 0 / 16 ≡ number 5 l / 2 ^ 36 % 2 ^ 4
+      high = omega (arith, bytes 0, bytes 1, bytes 2, bytes 3, bytes 4)
 
 pub dts-at-most-once : (ptsDtsFlags : ℕ) → dtsFlag ptsDtsFlags ≤ 1
 dts-at-most-once ptsDtsFlags = by-test (eqb ptsDtsFlags 0b11)

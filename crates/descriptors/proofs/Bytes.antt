@@ -1,0 +1,75 @@
+-- The records at unknown bytes: each value of a syntax table as the code takes it from the bytes, by quotients and remainders.
+-- Assumes nothing.
+use Prim.Native.Nat.{ℕ, _+_, _*_, _/_, _%_}
+use mathlib.Core.Path.{_≡_, refl, sym, ap}
+use mathlib.Core.List.{List, [], _∷_}
+use native.Mathlib.Omega.{arith}
+use lib.Dec.{eqb}
+use lib.ListN.{getD}
+use Rattle.syntax.specs.Table.{AreBytes, readTable}
+use Rattle.syntax.specs.Equations.{Each, each}
+use Rattle.vocabulary.specs.declared.stream_types.Reading.{Reading}
+use Rattle.vocabulary.specs.declared.stream_types.Reading.the-variants.{Edition2009, Edition2015}
+use Rattle.descriptors.specs.declared.records.HierarchyRecord.{HierarchyRecord}
+use Rattle.descriptors.specs.Tables.{afterNoView, hierarchyDescriptor, extensionHead}
+use Rattle.descriptors.specs.Records.{hierarchyFrom, hierarchyOf, extensionFrom, extensionOf, layerIndexOf, firstBit}
+
+pub layer-byte : (byte : ℕ) → record { 0 = byte % 64 } ≡ layerIndexOf byte
+layer-byte byte = ap (λ (n : ℕ). record { 0 = n }) (omega arith)
+
+module _ (l : List ℕ) (b : AreBytes l) where
+  abbrev afterFirst : List ℕ
+  afterFirst =
+      (getD l 0 0 / 64 % 2)
+      ∷ (getD l 0 0 / 32 % 2)
+      ∷ (getD l 0 0 / 16 % 2)
+      ∷ (getD l 0 0 % 16)
+      ∷ (getD l 1 0 % 64)
+      ∷ (getD l 2 0 / 128)
+      ∷ (getD l 2 0 % 64)
+      ∷ (getD l 3 0 % 64)
+      ∷ []
+
+  pub hierarchy-bytes : (reading : Reading)
+      → record {
+        «no_view» = firstBit reading (getD l 0 0);
+        «no_temporal» = eqb (getD l 0 0 / 64 % 2) 1;
+        «no_spatial» = eqb (getD l 0 0 / 32 % 2) 1;
+        «no_quality» = eqb (getD l 0 0 / 16 % 2) 1;
+        «hierarchy_type» = getD l 0 0 % 16;
+        «layer_index» = record { 0 = getD l 1 0 % 64 };
+        «tref_present_flag» = eqb (getD l 2 0 / 128) 1;
+        «embedded_layer_index» = record { 0 = getD l 2 0 % 64 };
+        channel = record { 0 = getD l 3 0 % 64 };
+      }
+      ≡ hierarchyOf reading l
+  hierarchy-bytes Edition2009 =
+      ap (λ (vs : List ℕ). hierarchyFrom (1 ∷ vs)) (sym (each {xs = readTable (hierarchyDescriptor Edition2009) l} {ys = afterFirst} (omega (arith, b 0, b 1, b 2, b 3))))
+  hierarchy-bytes Edition2015 =
+      ap hierarchyFrom (sym (each {xs = readTable (hierarchyDescriptor Edition2015) l} {ys = (getD l 0 0 / 128) ∷ afterFirst} (omega (arith, b 0, b 1, b 2, b 3))))
+
+  pub extension-bytes :
+      record {
+        «dimension_bits» = getD l 1 0 * 256 + getD l 2 0;
+        «layer_index» = record { 0 = getD l 3 0 / 4 };
+        «temporal_id» = record { 0 = getD l 3 0 % 4 * 2 + getD l 4 0 / 128 };
+        «nuh_layer_id» = record { 0 = getD l 4 0 / 2 % 64 };
+        «tref_present_flag» = eqb (getD l 4 0 % 2) 1;
+        «num_embedded_layers» = getD l 5 0 % 64;
+        channel = record { 0 = getD l 6 0 % 64 };
+      }
+      ≡ extensionOf l
+  extension-bytes =
+      ap extensionFrom
+      (sym
+      (each
+      {xs = readTable extensionHead l}
+      {ys = (getD l 1 0 * 256 + getD l 2 0)
+      ∷ (getD l 3 0 / 4)
+      ∷ (getD l 3 0 % 4 * 2 + getD l 4 0 / 128)
+      ∷ (getD l 4 0 / 2 % 64)
+      ∷ (getD l 4 0 % 2)
+      ∷ (getD l 5 0 % 64)
+      ∷ (getD l 6 0 % 64)
+      ∷ []}
+      (omega (arith, b 0, b 1, b 2, b 3, b 4, b 5, b 6))))

@@ -1,0 +1,51 @@
+-- `descriptors::with_record` meets its contract: which arm was taken says whether there was a record before.
+-- Assumes nothing.
+use mathlib.Core.Path.{_∙_, ap, sym}
+use Rattle.descriptors.specs.declared.records.Record.{Record}
+use Rattle.descriptors.specs.Steps.{besides}
+use borrow.Author.Needs.{needs}
+use Rattle.descriptors.proofs.looking.with_record.Statement.{statement}
+use Rattle.descriptors.proofs.looking.with_record.Tie as tie
+
+enum-told : tie.Need-enum-told
+enum-told c = search needs
+
+enum-told-2 : tie.Need-enum-told-2
+enum-told-2 c = search needs
+
+with-second-requires : tie.Need-with-second-requires
+with-second-requires c κs = search needs
+
+enum-told-3 : tie.Need-enum-told-3
+enum-told-3 c = search needs
+
+with-second-requires-2 : tie.Need-with-second-requires-2
+with-second-requires-2 c κs = search needs
+
+returns : tie.Need-returns
+returns c =
+    let a = c .before .before .args in
+    sym (ap (λ (first : Record). besides first (a .seen) (a .«record») (a .embedded)) (c .enum-told .given .1))
+
+returns-2 : tie.Need-returns-2
+returns-2 c =
+    let a = c .before .before .before .args in
+    c .with-second .ensures ∙ sym (ap (λ (first : Record). besides first (a .seen) (a .«record») (a .embedded)) (c .before .enum-told2 .given .1))
+
+returns-3 : tie.Need-returns-3
+returns-3 c =
+    let a = c .before .before .before .args in
+    c .with-second2 .ensures ∙ sym (ap (λ (first : Record). besides first (a .seen) (a .«record») (a .embedded)) (c .before .enum-told3 .given .1))
+
+pub with-record-spec : {M : Type 1} → statement M
+with-record-spec =
+    tie.close
+    (tie.spec
+    enum-told
+    enum-told-2
+    with-second-requires
+    enum-told-3
+    with-second-requires-2
+    returns
+    returns-2
+    returns-3)

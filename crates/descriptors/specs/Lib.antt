@@ -1,0 +1,4 @@
+pub mod Tables
+pub mod Records
+pub mod Looking
+pub mod Steps
