@@ -54,20 +54,23 @@ abbrev pub withMarker : Bool → Stamp → Stamp
 withMarker marked stamp = record { marked = marked && stamp .marked; time = stamp .time }
 
 -- Within PES_extension_field_length: the flags, and TREF where they say so. 'Other bytes are skipped.'
+abbrev pub afterTrefFlags : Bool → ℕ → List ℕ → Extension
+afterTrefFlags marked flags bytes =
+    cond (trefFlagged flags) (after 5 bytes (λ skipped. WithTref (withMarker marked (stampOf tref bytes)))) (WithoutTref marked)
+
 abbrev pub extensionFieldOf : Bool → List ℕ → Extension
-extensionFieldOf marked field =
-    after 1 field (λ rest.
-    cond (trefFlagged (getD field 0 0))
-    (after 5 rest (λ skipped. WithTref (withMarker marked (stampOf tref rest))))
-    (WithoutTref marked))
+extensionFieldOf marked field = after 1 field (afterTrefFlags marked (getD field 0 0))
 
 -- 'the second extension: marker 1, length 7, then within that length ..'
+abbrev pub fieldLength : ℕ → ℕ
+fieldLength first = named "PES_extension_field_length" secondExtension first
+
+abbrev pub afterFieldLength : ℕ → List ℕ → Extension
+afterFieldLength first bytes =
+    after (fieldLength first) bytes (λ skipped. extensionFieldOf (fixedHold secondExtension first) (take (fieldLength first) bytes))
+
 abbrev pub secondExtensionOf : List ℕ → Extension
-secondExtensionOf bytes =
-    after 1 bytes (λ rest.
-    after (named "PES_extension_field_length" secondExtension (getD bytes 0 0)) rest (λ skipped.
-    extensionFieldOf (fixedHold secondExtension (getD bytes 0 0))
-    (take (named "PES_extension_field_length" secondExtension (getD bytes 0 0)) rest)))
+secondExtensionOf bytes = after 1 bytes (afterFieldLength (getD bytes 0 0))
 
 -- Sequence counter 2, P-STD 2, and the second extension.
 abbrev pub afterBuffer : ℕ → List ℕ → Extension
@@ -88,11 +91,11 @@ afterPrivateData flags bytes =
     (afterPackHeader flags bytes)
 
 -- The extension: its byte of flags, private data 16, and on.
+abbrev pub afterExtensionFlags : ℕ → List ℕ → Extension
+afterExtensionFlags flags bytes = after (16 * named "PES_private_data_flag" extensionFlags flags) bytes (afterPrivateData flags)
+
 abbrev pub extensionOf : List ℕ → Extension
-extensionOf bytes =
-    after 1 bytes (λ rest.
-    after (16 * named "PES_private_data_flag" extensionFlags (getD bytes 0 0)) rest
-    (afterPrivateData (getD bytes 0 0)))
+extensionOf bytes = after 1 bytes (afterExtensionFlags (getD bytes 0 0))
 
 -- The fields before the extension, in order, by their numbers of bytes: 'PTS 5 bytes, DTS 5, ESCR 6, ES rate 3, trick mode 1, copy
 -- info 1, CRC 2'. A field whose flag is 0 has none.

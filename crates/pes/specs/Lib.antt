@@ -8,3 +8,6 @@ pub mod Reading
 pub mod HeadLaws
 pub mod Meaning
 pub mod VideoLaws
+pub mod FieldLaws
+pub mod WalkLaws
+pub mod MeaningLaws

@@ -37,7 +37,19 @@ abbrev pub judged : Bool → ℕ → ℕ → ℕ → Answer
 judged marked pts decoding matching =
     cond marked (cond (isBefore pts decoding) (Refused PtsBeforeDts) (Times pts decoding matching)) (Refused WrongMarker)
 
--- 22 before them. 'Match time is TREF, or the decoding time without one.'
+-- whether all markers and prefixes are right
+abbrev pub marksOf : Stamps → Extension → Bool
+marksOf stamps DoesNotFit = false
+marksOf stamps (WithoutTref marked) = stamps .marked && marked
+marksOf stamps (WithTref tref) = stamps .marked && tref .marked
+
+-- 'Match time is TREF, or the decoding time without one.'
+abbrev pub matchOf : Stamps → Extension → ℕ
+matchOf stamps DoesNotFit = stamps .decoding
+matchOf stamps (WithoutTref marked) = stamps .decoding
+matchOf stamps (WithTref tref) = tref .time
+
+-- 22 before them
 abbrev pub timesOf : Stamps → Extension → Answer
 timesOf stamps DoesNotFit = Refused FieldsDoNotFit
 timesOf stamps (WithoutTref marked) = judged (stamps .marked && marked) (stamps .pts) (stamps .decoding) (stamps .decoding)

@@ -23,17 +23,14 @@ stampOf t bytes = record { marked = fixedHold t (number 5 bytes); time = timeOf 
 abbrev pub dtsFlag : ℕ → ℕ
 dtsFlag ptsDtsFlags = cond (eqb ptsDtsFlags 0b11) 1 0
 
--- PTS, and DTS where PTS_DTS_flags is '11', at the front of the header data. 'Decoding time is DTS, or PTS without a DTS.'
+-- 'Decoding time is DTS, or PTS without a DTS.'
+abbrev pub withDts : Stamp → Stamp → Stamps
+withDts pts dts = record { marked = pts .marked && dts .marked; pts = pts .time; decoding = dts .time }
+
+abbrev pub withoutDts : Stamp → Stamps
+withoutDts pts = record { marked = pts .marked; pts = pts .time; decoding = pts .time }
+
+-- PTS, and DTS where PTS_DTS_flags is '11', at the front of the header data
 abbrev pub stampsOf : ℕ → List ℕ → Stamps
 stampsOf ptsDtsFlags bytes =
-    cond (eqb ptsDtsFlags 0b11)
-    (record {
-      marked = (stampOf ptsBeforeDts bytes) .marked && (stampOf dts (drop 5 bytes)) .marked;
-      pts = (stampOf ptsBeforeDts bytes) .time;
-      decoding = (stampOf dts (drop 5 bytes)) .time;
-    })
-    (record {
-      marked = (stampOf ptsAlone bytes) .marked;
-      pts = (stampOf ptsAlone bytes) .time;
-      decoding = (stampOf ptsAlone bytes) .time;
-    })
+    cond (eqb ptsDtsFlags 0b11) (withDts (stampOf ptsBeforeDts bytes) (stampOf dts (drop 5 bytes))) (withoutDts (stampOf ptsAlone bytes))

@@ -5,23 +5,15 @@ use borrow.Author.Tests.{ne-eqb}
 use native.Mathlib.Omega.{arith}
 use Prim.Native.Nat.{ℕ, _+_, _*_, _≤_}
 use mathlib.Core.Path.{_≡_, ap, ap₂, sym, subst, _∙_}
-use mathlib.Core.Bool.{Bool, _&&_, cond}
+use mathlib.Core.Bool.{Bool, cond}
 use mathlib.Core.List.{List}
 use denote.Ref.{now}
 use lib.ListN.{length, drop, length-drop}
 use Rattle.pes.specs.Lists.{to-the-end}
 use Rattle.pes.specs.Tables.{ptsAlone, ptsBeforeDts, dts}
-use Rattle.pes.specs.Stamps.{dtsFlag, stampOf, stampsOf}
-use Rattle.pes.specs.declared.stamp.Stamp.{Stamp}
-use Rattle.pes.specs.declared.stamp.Stamps.{Stamps}
+use Rattle.pes.specs.Stamps.{dtsFlag, stampOf, withDts, withoutDts, stampsOf}
 use Rattle.pes.proofs.stamp.pts_and_dts.Statement.{statement}
 use Rattle.pes.proofs.stamp.pts_and_dts.Tie as tie
-
-abbrev both : Stamp → Stamp → Stamps
-both p d = record { marked = p .marked && d .marked; pts = p .time; decoding = d .time }
-
-abbrev alone : Stamp → Stamps
-alone p = record { marked = p .marked; pts = p .time; decoding = p .time }
 
 prefixed-by-requires : tie.Need-prefixed-by-requires
 prefixed-by-requires c κs = search needs
@@ -47,7 +39,7 @@ returns : tie.Need-returns
 returns c =
     let a = c .before .before .before .before .before .before .before .args in
     let l = now (a .bytes) in
-    ap₂ both
+    ap₂ withDts
     (c .before .before .before .before .prefixed-by .ensures)
     (c .before .before .prefixed-by2 .ensures ∙ ap (stampOf dts) (to-the-end 5 l))
     ∙ ap (λ (f : ℕ). stampsOf f l) (sym (c .before .before .before .before .before .if1 .taken))
@@ -59,9 +51,9 @@ returns-2 : tie.Need-returns-2
 returns-2 c =
     let a = c .before .before .before .args in
     let l = now (a .bytes) in
-    ap alone (c .prefixed-by3 .ensures)
+    ap withoutDts (c .prefixed-by3 .ensures)
     ∙ ap
-    (λ (t : Bool). cond t (both (stampOf ptsBeforeDts l) (stampOf dts (drop 5 l))) (alone (stampOf ptsAlone l)))
+    (λ (t : Bool). cond t (withDts (stampOf ptsBeforeDts l) (stampOf dts (drop 5 l))) (withoutDts (stampOf ptsAlone l)))
     (sym (ne-eqb (a .pts-dts-flags) 0b11 (c .before .if1 .left)))
 
 pub pts-and-dts-spec : {M : Type 1} → statement M
