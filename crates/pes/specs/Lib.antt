@@ -11,3 +11,6 @@ pub mod VideoLaws
 pub mod FieldLaws
 pub mod WalkLaws
 pub mod MeaningLaws
+pub mod Placed
+pub mod Writing
+pub mod WritingLaws

@@ -1,12 +1,13 @@
 -- The bits of a time, byte by byte: what the code reads off five bytes is what the table says of them as one number.
 -- Assumes nothing.
 use Prim.Native.Nat.{ℕ, _+_, _*_, _/_, _%_, _^_, _≤_, _<_}
-use mathlib.Core.Path.{_≡_, refl, ap, ap₂, _∙_}
+use mathlib.Core.Path.{_≡_, refl, sym, ap}
 use mathlib.Core.Bool.{Bool, true, false, _&&_, cond}
-use mathlib.Core.List.{List}
+use mathlib.Core.List.{List, [], _∷_}
 use native.Mathlib.Omega.{arith}
 use lib.Dec.{eqb}
 use lib.ListN.{getD}
+use Rattle.syntax.specs.Equations.{fixed-at}
 use Rattle.syntax.specs.Table.{AreBytes, number, fixedHold}
 use Rattle.pes.specs.Tables.{tref, prefixed, timeBits}
 use Rattle.pes.specs.Stamps.{timeOf, stampOf, dtsFlag}
@@ -15,29 +16,15 @@ use Rattle.pes.specs.declared.stamp.Stamp.{Stamp}
 abbrev pub stamp : Bool → ℕ → Stamp
 stamp marked time = record { marked = marked; time = time }
 
-all-three : (a b c : Bool) → a && b && c ≡ a && (b && (c && true))
-all-three true true true = refl
-all-three true true false = refl
-all-three true false c = refl
-all-three false b c = refl
-
 parts : (a b c d e : ℕ) {x y z : ℕ} → a ≡ x → b * 2 ^ 7 + c ≡ y → d * 2 ^ 7 + e ≡ z → a * 2 ^ 30 + b * 2 ^ 22 + c * 2 ^ 15 + d * 2 ^ 7 + e ≡ x * 2 ^ 30 + y * 2 ^ 15 + z
 parts a b c d e h m l = omega arith
 
 module _ (l : List ℕ) (bytes : AreBytes l) where
   pub markers-of-bytes : eqb (getD l 0 0 % 2) 1 && eqb (getD l 2 0 % 2) 1 && eqb (getD l 4 0 % 2) 1 ≡ fixedHold tref (number 5 l)
   markers-of-bytes =
-      all-three (eqb (getD l 0 0 % 2) 1) (eqb (getD l 2 0 % 2) 1) (eqb (getD l 4 0 % 2) 1)
-      ∙ ap₂ _&&_ (ap (λ (x : ℕ). eqb x 1) first) (ap₂ _&&_ (ap (λ (x : ℕ). eqb x 1) second) (ap (λ (x : ℕ). eqb x 1 && true) third))
-    where
-      first : getD l 0 0 % 2 ≡ number 5 l / 2 ^ 32 % 2 ^ 1
-      first = omega (arith, bytes 0, bytes 1, bytes 2, bytes 3, bytes 4)
-
-      second : getD l 2 0 % 2 ≡ number 5 l / 2 ^ 16 % 2 ^ 1
-      second = omega (arith, bytes 0, bytes 1, bytes 2, bytes 3, bytes 4)
-
-      third : getD l 4 0 % 2 ≡ number 5 l / 2 ^ 0 % 2 ^ 1
-      third = omega (arith, bytes 0, bytes 1, bytes 2, bytes 3, bytes 4)
+      sym
+      (fixed-at tref (number 5 l) (getD l 0 0 % 2 ∷ getD l 2 0 % 2 ∷ getD l 4 0 % 2 ∷ [])
+      (omega (arith, bytes 0, bytes 1, bytes 2, bytes 3, bytes 4)))
 
   pub time-of-bytes : getD l 0 0 / 2 % 8 * 2 ^ 30 + getD l 1 0 * 2 ^ 22 + getD l 2 0 / 2 * 2 ^ 15 + getD l 3 0 * 2 ^ 7 + getD l 4 0 / 2 ≡ timeOf tref (number 5 l)
   time-of-bytes = parts (getD l 0 0 / 2 % 8) (getD l 1 0) (getD l 2 0 / 2) (getD l 3 0) (getD l 4 0 / 2) high middle low

@@ -2,9 +2,12 @@
 mod header_data;
 mod reader;
 mod stamp;
+mod writer;
 
 pub use reader::read;
 use vocabulary::Refusal;
+pub use writer::Written;
+pub use writer::write;
 
 // What a header says of its component's times, or why it is refused.
 pub enum Answer {
