@@ -13,4 +13,7 @@ pub mod WalkLaws
 pub mod MeaningLaws
 pub mod Placed
 pub mod Writing
+pub mod OwnShape
 pub mod WritingLaws
+pub mod OwnShapeLaws
+pub mod RoundTrips

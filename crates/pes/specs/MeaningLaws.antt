@@ -61,7 +61,7 @@ module _ (l : List ℕ) where
   a-header video flagged = by-video true (video-only l video) ∙ by-flags true (le-leb 0b10 ptsDtsFlags flagged)
 
   module _ {stamps : Stamps} {given : Extension} (laid : LaidOut l stamps given) where
-    laid-answer : readOf l ≡ judged (marksOf stamps given) (stamps .pts) (stamps .decoding) (matchOf stamps given)
+    pub laid-answer : readOf l ≡ judged (marksOf stamps given) (stamps .pts) (stamps .decoding) (matchOf stamps given)
     laid-answer =
         a-header (laid .video) (laid .flagged)
         ∙ ap₂ timesOf (sym (laid .stamps-are ∙ stamps-in-fields (laid .fields))) (header-data-only (laid .fields))

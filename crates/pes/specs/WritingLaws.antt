@@ -13,6 +13,7 @@ use Rattle.syntax.specs.Table.{writeTable}
 use Rattle.clock.specs.Clock.{ticks}
 use Rattle.syntax.specs.Equations.{each}
 use Rattle.pes.specs.Tables.{prefixed, ptsAlone, ptsBeforeDts, dts, tref}
+use Rattle.pes.specs.OwnShape.{Narrow}
 use Rattle.pes.specs.Writing.{partsOf, timeField, timeFields, trefHead, trefFields, dataFields, ptsDtsFlagsOf, extensionFlagOf, headOf, headerOf, tooWide}
 
 -- a time's field, byte by byte: of its parts, and of the time
@@ -79,11 +80,6 @@ extension-below decoding matching = by-test (eqb matching decoding)
     by-test false = lit< tt
 
 -- what is not too wide
-pub record Narrow (pts decoding matching : ℕ) : Type 0 where
-  pub pts-below : pts < ticks
-  pub decoding-below : decoding < ticks
-  pub matching-below : matching < ticks
-
 pub narrow : (pts decoding matching : ℕ) → tooWide pts decoding matching ≡ false → Narrow pts decoding matching
 narrow pts decoding matching e =
     let first : (leb ticks pts || leb ticks decoding) ≡ false = neither-left (leb ticks pts || leb ticks decoding) (leb ticks matching) e in
