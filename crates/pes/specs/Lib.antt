@@ -17,3 +17,4 @@ pub mod OwnShape
 pub mod WritingLaws
 pub mod OwnShapeLaws
 pub mod RoundTrips
+pub mod Examples
