@@ -13,7 +13,7 @@ use lib.ListN.{length, getD, take, drop, set, replicate, length-drop, drop-of-le
 use lib.Seq.{drop-drop, take-all, take-take, take-add, drop-at, length-take-le}
 use Rattle.combinators.specs.Below.{some, First, some-same, at-none}
 use Rattle.combinators.specs.Lists.{firstTrue, first-true, Next, next}
-use Rattle.combinators.specs.Lowest.{Lowest, lowestNumber, earliestPlace, lowest-start, lowest-replace, lowest-keep, lowest-number, earliest-place}
+use Rattle.combinators.specs.Lowest.{Lowest, lowest-start, lowest-replace, lowest-keep}
 use Rattle.combinators.specs.Marks.{Marks, marks-start, marks-step}
 use Rattle.combinators.specs.Padding.{padTo, store-map}
 use Rattle.framing.specs.Pieces.{Item, whole, broken, cut, cut-broken, cut-piece}
@@ -29,7 +29,8 @@ use Rattle.es_loop.specs.declared.reader.Outcome.the-variants.{Accepted}
 use Rattle.es_loop.specs.declared.reader.LoopRead.{LoopRead}
 use Rattle.es_loop.specs.Entries.{noStream, esInfoLength, sizeOf, streamOf, streamsOf, entryOf, blankEntry, entriesOf}
 use Rattle.es_loop.specs.Conditions.{streamAt, pidAt, recordAt, repeatedPid, repeatedIndex, conditions, applies, refusalOf, slotOf, lowerOf}
-use Rattle.es_loop.specs.Reading.{refusedWith, accepted, answerAt, judged}
+use Rattle.es_loop.specs.Reading.{refusedWith, accepted, judged}
+use Rattle.es_loop.specs.Judged.{judged-refused, judged-accepted}
 
 -- A mark for each slot says whether an earlier layer holds the index; a stream that is no layer asks none.
 held-before : (streams : List Stream) (n : ℕ) (r : Record) (held : List Bool) → indexOf r < 256
@@ -71,24 +72,10 @@ slot-below r h = go (isLayer r) refl
     go true p = rw p (omega arith)
     go false p = rw p (omega arith)
 
--- the answer, given the lowest number and its place
-pub refuses : (streams : List Stream) (number place : ℕ) → Lowest (applies streams) 11 (length streams) number place → number < 11
-    → refusedWith (refusalOf number place) ≡ judged streams
-refuses streams number place b h =
-    sym (ap (λ (t : Bool). cond t (refusedWith (refusalOf number place)) (accepted streams)) (lt-ltb number 11 h))
-    ∙ ap (λ (p : ℕ). answerAt streams number p) (earliest-place (applies streams) 11 (length streams) number place b h)
-    ∙ ap (λ (n : ℕ). answerAt streams n (earliestPlace (applies streams) n (length streams)))
-    (lowest-number (applies streams) 11 (length streams) number place b)
-
-pub accepts : (streams : List Stream) (place : ℕ) → Lowest (applies streams) 11 (length streams) 11 place → accepted streams ≡ judged streams
-accepts streams place b =
-    ap (λ (n : ℕ). answerAt streams n (earliestPlace (applies streams) n (length streams)))
-    (lowest-number (applies streams) 11 (length streams) 11 place b)
-
 -- The first entry that does not fit, where all before it have only higher numbers.
 pub does-not-fit : (streams : List Stream) (number place count : ℕ) → count < length streams → (streamAt streams count) .fits ≡ false
     → 3 ≤ number → Lowest (applies streams) 11 count number place → refusedWith (DoesNotFit count) ≡ judged streams
-does-not-fit streams number place count inside unfit above b = refuses streams 2 count two (omega arith)
+does-not-fit streams number place count inside unfit above b = judged-refused streams 2 count two (omega arith)
   where
     none : (n k : ℕ) → n < 2 → applies streams n k ≡ false
     none zero k h = refl
@@ -227,7 +214,7 @@ module _ (reading : Reading) (bytes : List ℕ) where
 
     pub end-refused : fault .number < 11 → refusedWith (refusalOf (fault .number) (fault .place)) ≡ judged all
     end-refused h =
-        refuses all (fault .number) (fault .place)
+        judged-refused all (fault .number) (fault .place)
         (subst (λ (n : ℕ). Lowest (applies all) 11 n (fault .number) (fault .place)) counted-all (known .lowest)) h
 
     pub end-accepted : 11 ≤ fault .number → record { outcome = Accepted; count = count; entries = entries } ≡ judged all
@@ -236,7 +223,7 @@ module _ (reading : Reading) (bytes : List ℕ) where
         let every : take count all ≡ all = take-all count all (omega (arith, counted-all)) in
         ap (λ (l : List Entry). record { outcome = Accepted; count = count; entries = l }) (known .filled ∙ ap entriesOf every)
         ∙ ap (λ (n : ℕ). record { outcome = Accepted; count = n; entries = entriesOf all }) counted-all
-        ∙ accepts all (fault .place)
+        ∙ judged-accepted all (fault .place)
         (subst (λ (m : ℕ). Lowest (applies all) 11 (length all) m (fault .place)) eleven
         (subst (λ (n : ℕ). Lowest (applies all) 11 n (fault .number) (fault .place)) counted-all (known .lowest)))
 

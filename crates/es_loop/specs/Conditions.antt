@@ -43,8 +43,9 @@ recordConditions indexHeld streamType seen =
     ∷ tooManyEmbedded (seen .«record»)
     ∷ []
 
--- The conditions at an entry by number, from 0 on: no refusal has number 0, and number 1 is judged before any entry is read. An entry
--- is handed whether its PID was seen before, and whether its layer index was held before.
+-- The conditions at an entry by number, from 0 on: no refusal has number 0, and number 1 is judged before any entry is read; then 2, an
+-- entry or a descriptor that does not fit; 3, a PID that was seen before; 4, a wrong length; 5, a second record; and 6 to 10. The caller
+-- says whether the entry's PID was seen before, and whether its layer index was held before.
 abbrev pub conditions : Bool → Bool → Stream → List Bool
 conditions pidSeen indexHeld s =
     false
@@ -59,7 +60,7 @@ conditions pidSeen indexHeld s =
 abbrev pub applies : List Stream → ℕ → ℕ → Bool
 applies streams number k = getD (conditions (repeatedPid streams k) (repeatedIndex streams k) (streamAt streams k)) number false
 
--- the refusals by number, each with its place
+-- the refusals by number, each with its place; 0 is no refusal's number
 abbrev pub refusals : List (ℕ → Refusal)
 refusals =
     (λ place. LoopTooLong)

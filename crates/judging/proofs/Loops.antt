@@ -17,7 +17,8 @@ use Rattle.combinators.specs.Members.{member, member-last}
 use Rattle.vocabulary.specs.declared.LayerIndex.{LayerIndex}
 use Rattle.descriptors.specs.Records.{noLayer}
 use Rattle.judging.specs.Judging.{plain, wrongAt, wrongList}
-use Rattle.judging.specs.Sets.{withIndex, withIndices, indices-last}
+use Rattle.judging.specs.Sets.{withIndices, indices-last}
+use Rattle.sets.specs.Sets.{added}
 
 -- THE LIST. The first `count` layers of the array as numbers: how many, and what stands at each place.
 module _ (embedded : List LayerIndex) (count : ℕ) (room : count ≤ length embedded) where
@@ -37,7 +38,7 @@ all-listed embedded num count room e = go (decLt num 63)
 
 -- THE NAMES. The set of the indices passed, with the next.
 pub named-step : (embedded : List LayerIndex) (names i : ℕ) → i < length embedded → names ≡ withIndices 0 (map plain (take i embedded))
-    → withIndex names (plain (getD embedded i noLayer)) ≡ withIndices 0 (map plain (take (i + 1) embedded))
+    → added names (plain (getD embedded i noLayer)) ≡ withIndices 0 (map plain (take (i + 1) embedded))
 named-step embedded names i h inv =
     let x : LayerIndex = getD embedded i noLayer in
     rw (add-one i, take-suc embedded i noLayer h, map-append plain (take i embedded) (x ∷ []), indices-last 0 (plain x) (map plain (take i embedded)), inv)

@@ -41,10 +41,11 @@ listed NoRecord layers = []
 listed (Hierarchy h) layers = cond (isBase h) [] (h .«embedded_layer_index» ∷ [])
 listed (Extension x) layers = take (x .«num_embedded_layers») layers
 
+-- the number in a layer index
 abbrev pub plain : LayerIndex → ℕ
 plain index = index .0
 
--- the same as plain numbers
+-- the layers that a record names, as numbers
 abbrev pub named : Record → List LayerIndex → List ℕ
 named r layers = map plain (listed r layers)
 

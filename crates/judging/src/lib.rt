@@ -9,7 +9,8 @@ ghost use Prim.Native.Nat.{_≤_, _<_, min};
 ghost use lib.ListN.{take, replicate};
 ghost use Rattle.combinators.specs.Members.{member};
 ghost use Rattle.judging.specs.Judging.{isLayer, indexOf, isBase, plain, noExtensionOn, typeNotAllowed, at0, flagsAt0, flagsWrongFor, wrongFlags, wrongList, wrongEmbedded, tooManyEmbedded};
-ghost use Rattle.judging.specs.Sets.{withIndex, withIndices, namesOf};
+ghost use Rattle.judging.specs.Sets.{withIndices, namesOf};
+ghost use Rattle.sets.specs.Sets.{added};
 use descriptors::HierarchyRecord;
 use descriptors::Record;
 use vocabulary::LayerIndex;
@@ -186,12 +187,9 @@ pub fn too_many_embedded(record: Record) -> bool
 
 // A set with one index more: bit i stands for index i.
 fn with_index(set: u64, index: LayerIndex) -> u64
-    ensures { λ r. ⌜ r ≡ withIndex set (plain index) ⌝ }
+    ensures { λ r. ⌜ r ≡ added set (plain index) ⌝ }
 {
-    if 64 <= index.0 {
-        return set;
-    }
-    set | (1u64 << index.0)
+    sets::with(set, index.0 as usize)
 }
 
 // The set of the first `count` indices.
