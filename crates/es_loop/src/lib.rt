@@ -11,6 +11,7 @@ pub use entries::entry_of;
 pub use entries::entry_size;
 pub use entries::read_stream;
 pub use faults::Fault;
+pub use faults::slot_of;
 pub use reader::LoopRead;
 pub use reader::Outcome;
 pub use reader::read_loop;

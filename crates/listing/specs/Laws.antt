@@ -5,19 +5,26 @@ use mathlib.Core.Bool.{Bool, true, false, cond}
 use mathlib.Core.List.{List, []}
 use mathlib.Core.Path.{_≡_, sym, ap, _∙_}
 use native.Mathlib.Omega.{arith}
-use lib.ListN.{getD, length, length-append}
+use lib.ListN.{getD, length, take, length-append}
 use Rattle.closure.specs.declared.Closure.{Closure}
 use Rattle.closure.specs.declared.Closure.the-variants.{Complete, Refused}
 use Rattle.closure.specs.Closures.{closureOf}
 use Rattle.sets.specs.Sets.{has, size}
-use Rattle.text.specs.Text.{ascii, texts}
-use Rattle.text.specs.Laws.{decimal-length, texts-length}
+use Rattle.text.specs.Text.{Laid, ascii, texts}
+use Rattle.text.specs.Laws.{decimal-length, texts-length, shown-whole}
 use Rattle.vocabulary.specs.declared.HierarchyChannel.{HierarchyChannel}
 use Rattle.vocabulary.specs.declared.LayerIndex.{LayerIndex}
 use Rattle.vocabulary.specs.declared.refusal.Refusal.{Refusal}
 use Rattle.vocabulary.specs.Refusals.{numberOf, placeOf}
-use Rattle.listing.specs.declared.LayerTable.{LayerTable}
-use Rattle.listing.specs.Lines.{labelled, member, members, closureText, layerLine, lineAt, layersText, acceptedText, refusedText}
+use Rattle.es_loop.specs.declared.entries.Entry.{Entry}
+use Rattle.es_loop.specs.declared.reader.Outcome.{Outcome}
+use Rattle.es_loop.specs.declared.reader.Outcome.the-variants.{Accepted, Refused as RefusedWith}
+use Rattle.es_loop.specs.Reading.{loopRead}
+use Rattle.loop_layers.specs.declared.LayerTable.{LayerTable}
+use Rattle.loop_layers.specs.Closures.{entriesRead}
+use Rattle.loop_layers.specs.Layers.{tableOf}
+use Rattle.vocabulary.specs.declared.stream_types.Reading.the-variants.{Edition2015}
+use Rattle.listing.specs.Lines.{labelled, member, members, closureText, layerLine, lineAt, layersText, acceptedText, refusedText, readText, loopText}
 
 -- an index of a closure
 pub member-there : (set i : ℕ) → has set i ≡ true → labelled (ascii " ") i ≡ member set i
@@ -82,3 +89,15 @@ accepted-length table =
 pub refused-length : (refusal : Refusal) → length (refusedText refusal) ≤ 93406
 unfolding refusedText
 refused-length refusal = simp length-append (omega (arith, decimal-length (numberOf refusal), decimal-length (placeOf refusal)))
+
+pub loop-length : (bytes : List ℕ) → length (loopText bytes) ≤ 93406
+unfolding loopText
+loop-length bytes = let read = loopRead Edition2015 bytes in go (read .outcome) (entriesRead read)
+  where
+    go : (outcome : Outcome) (entries : List Entry) → length (readText outcome entries) ≤ 93406
+    go Accepted entries = accepted-length (tableOf entries)
+    go (RefusedWith refusal) entries = refused-length refusal
+
+-- THE PROGRAM'S BUFFER: of 93,406 bytes, what was laid in from the front is the whole text, whatever the loop.
+pub whole-text : (bytes old : List ℕ) (next : ℕ) (new : List ℕ) → 93406 ≤ length old → Laid old 0 (loopText bytes) next new → take next new ≡ loopText bytes
+whole-text bytes old next new room laid = shown-whole old (loopText bytes) next new laid (omega (arith, loop-length bytes))

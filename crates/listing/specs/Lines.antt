@@ -12,7 +12,15 @@ use Rattle.vocabulary.specs.declared.HierarchyChannel.{HierarchyChannel}
 use Rattle.vocabulary.specs.declared.LayerIndex.{LayerIndex}
 use Rattle.vocabulary.specs.declared.refusal.Refusal.{Refusal}
 use Rattle.vocabulary.specs.Refusals.{numberOf, placeOf}
-use Rattle.listing.specs.declared.LayerTable.{LayerTable}
+use Rattle.vocabulary.specs.declared.stream_types.Reading.the-variants.{Edition2015}
+use Rattle.es_loop.specs.declared.entries.Entry.{Entry}
+use Rattle.es_loop.specs.declared.reader.LoopRead.{LoopRead}
+use Rattle.es_loop.specs.declared.reader.Outcome.{Outcome}
+use Rattle.es_loop.specs.declared.reader.Outcome.the-variants.{Accepted, Refused as RefusedWith}
+use Rattle.es_loop.specs.Reading.{loopRead}
+use Rattle.loop_layers.specs.declared.LayerTable.{LayerTable}
+use Rattle.loop_layers.specs.Closures.{entriesRead}
+use Rattle.loop_layers.specs.Layers.{tableOf}
 use Rattle.text.specs.Text.{ascii, decimal, texts}
 
 -- a label, and after it a number
@@ -65,3 +73,14 @@ acceptedText table = labelled (ascii "accepted ") (size (table .layers .present)
 -- 'A refusal prints only `refused N entry E`.'
 unfoldable pub refusedText : Refusal → List ℕ
 refusedText refusal = labelled (ascii "refused ") (numberOf refusal) ++ labelled (ascii " entry ") (placeOf refusal) ++ ascii "\n"
+
+-- THE WHOLE TEXT for a loop: 'reads a loop on standard input under the 2015 reading'
+abbrev pub readText : Outcome → List Entry → List ℕ
+readText Accepted entries = acceptedText (tableOf entries)
+readText (RefusedWith refusal) entries = refusedText refusal
+
+abbrev pub answerText : LoopRead → List ℕ
+answerText read = readText (read .outcome) (entriesRead read)
+
+unfoldable pub loopText : List ℕ → List ℕ
+loopText bytes = answerText (loopRead Edition2015 bytes)

@@ -1,21 +1,15 @@
-// The lines of the program `layers`, laid into a buffer.
+// The lines of the program `layers`, laid into a buffer: `put_loop` lays in all that the program prints.
 ghost use mathlib.Core.Path.{_≡_};
 ghost use Prim.Native.Nat.{_<_};
 ghost use Rattle.text.specs.Text.{Laid};
-ghost use Rattle.listing.specs.Lines.{labelled, member as memberText, members, closureText, layerLine, lineAt, layersText, acceptedText, refusedText};
+ghost use Rattle.listing.specs.Lines.{labelled, member as memberText, members, closureText, layerLine, lineAt, layersText, acceptedText, refusedText, loopText};
 use closure::Closure;
-use closure::Layers;
+use es_loop::Outcome;
+use loop_layers::LayerTable;
 use vocabulary::HierarchyChannel;
 use vocabulary::LayerIndex;
+use vocabulary::Reading;
 use vocabulary::Refusal;
-
-// The layers of an accepted loop, and what the program shows of each, by layer index.
-pub struct LayerTable {
-    pub layers: Layers,
-    pub pids: [u16; 64],
-    pub stream_types: [u8; 64],
-    pub channels: [HierarchyChannel; 64],
-}
 
 // A label and a number after it.
 fn put_labelled(out: &mut [u8], at: usize, label: &[u8], n: u64) -> usize
@@ -133,4 +127,17 @@ pub fn put_refused(out: &mut [u8], at: usize, refusal: Refusal) -> usize
     let mut place = put_labelled(out, at, b"refused ", vocabulary::number(refusal) as u64);
     place = put_labelled(out, place, b" entry ", vocabulary::place(refusal) as u64);
     text::put(out, place, b"\n")
+}
+
+// Lays all that the program prints for a loop of these bytes into `out` from place `at` on, and answers the place after it.
+pub fn put_loop(out: &mut [u8], at: usize, bytes: &[u8]) -> usize
+    ensures { λ r. ⌜ Laid (now (out .entry)) at (loopText (now (bytes .entry))) r (now (out .exit)) ⌝ }
+{
+    let read = es_loop::read_loop(Reading::Edition2015, bytes);
+    let outcome = read.outcome;
+    let entries = read.entries;
+    match outcome {
+        Outcome::Accepted => put_accepted(out, at, loop_layers::table_of(read.count, entries)),
+        Outcome::Refused(refusal) => put_refused(out, at, refusal),
+    }
 }

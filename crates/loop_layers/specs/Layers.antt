@@ -1,0 +1,55 @@
+-- THE LAYERS of a loop, taken from its entries: which indices are present, and by index what each layer has.
+-- Assumes nothing.
+use Prim.Native.Nat.{ℕ}
+use mathlib.Core.List.{List, [], _∷_}
+use lib.ListN.{set, replicate}
+use Rattle.sets.specs.Sets.{added}
+use Rattle.vocabulary.specs.declared.HierarchyChannel.{HierarchyChannel}
+use Rattle.descriptors.specs.declared.records.Record.{Record}
+use Rattle.descriptors.specs.declared.records.Record.the-variants.{NoRecord, Hierarchy, Extension}
+use Rattle.judging.specs.Sets.{namesOf}
+use Rattle.es_loop.specs.declared.entries.Entry.{Entry}
+use Rattle.es_loop.specs.Conditions.{slotOf}
+use Rattle.closure.specs.declared.Layers.{Layers}
+use Rattle.loop_layers.specs.declared.LayerTable.{LayerTable}
+
+-- Where an entry stands in a column of 64 places: at its layer index. A stream that is no layer stands past all of them, and adds nothing.
+abbrev pub placeOf : Entry → ℕ
+placeOf e = slotOf (e .«record»)
+
+-- the layer indices that the entries hold, as a set
+abbrev pub presentWith : ℕ → List Entry → ℕ
+presentWith indices [] = indices
+presentWith indices (e ∷ es) = presentWith (added indices (placeOf e)) es
+
+abbrev pub presentIn : List Entry → ℕ
+presentIn entries = presentWith 0 entries
+
+-- a column: by layer index, what the layer of that index has, and a blank where there is no such layer
+abbrev pub columnWith : {A : Type 0} → (Entry → A) → List A → List Entry → List A
+columnWith value column [] = column
+columnWith value column (e ∷ es) = columnWith value (set column (placeOf e) (value e)) es
+
+abbrev pub columnOf : {A : Type 0} → A → (Entry → A) → List Entry → List A
+columnOf blank value entries = columnWith value (replicate 64 blank) entries
+
+-- what the columns hold of a layer: the set of the layers that it names (a base layer names none), and its channel
+abbrev pub embeddedIn : Entry → ℕ
+embeddedIn e = namesOf (e .«record») (e .embedded)
+
+abbrev pub channelOf : Record → HierarchyChannel
+channelOf NoRecord = record { 0 = 0 }
+channelOf (Hierarchy h) = h .channel
+channelOf (Extension x) = x .channel
+
+abbrev pub layersOf : List Entry → Layers
+layersOf entries = record { present = presentIn entries; embedded = columnOf 0 embeddedIn entries }
+
+abbrev pub tableOf : List Entry → LayerTable
+tableOf entries =
+    record {
+      layers = layersOf entries;
+      pids = columnOf 0 (λ e. e .pid) entries;
+      «stream_types» = columnOf 0 (λ e. e .«stream_type») entries;
+      channels = columnOf (record { 0 = 0 }) (λ e. channelOf (e .«record»)) entries;
+    }
