@@ -64,6 +64,11 @@ module _ (test : ℕ → Bool) where
   at-none zero f = refl
   at-none (suc n) f = rw (at-none n (λ k h. f k (omega arith))) (f n (omega arith))
 
+  -- tests that agree below n pass at some of these numbers alike
+  pub some-same : (other : ℕ → Bool) (n : ℕ) → ((k : ℕ) → k < n → test k ≡ other k) → some test n ≡ some other n
+  some-same other zero f = refl
+  some-same other (suc n) f = rw (some-same other n (λ k h. f k (omega arith)), f n (omega arith))
+
   -- where some number passes, one can be named
   pub some-which : (n : ℕ) → some test n ≡ true → (k : ℕ) × (k < n) × (test k ≡ true)
   some-which zero e = let z : _≡_ {A = ℕ} 0 1 = cc in absurd (omega arith)

@@ -4,3 +4,4 @@ pub mod Lists
 pub mod Members
 pub mod Padding
 pub mod Lowest
+pub mod Marks

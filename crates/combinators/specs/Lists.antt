@@ -1,12 +1,16 @@
--- Searches over a list, and what is gathered from one.
+-- Searches over a list, what is gathered from one, and a list from a place on.
 -- Assumes nothing.
-use Prim.Native.Nat.{ℕ, _-_}
-use mathlib.Core.Path.{_≡_, refl, ap}
-use mathlib.Core.Bool.{Bool, false, _||_}
-use mathlib.Core.List.{List, [], _∷_, _++_, append-assoc}
+use Prim.Native.Nat.{ℕ, zero, suc, _+_, _-_, _≤_, _<_}
+use mathlib.Core.Path.{_≡_, refl, sym, ap, _∙_}
+use mathlib.Core.Bool.{Bool, true, false, _||_}
+use mathlib.Core.List.{List, [], _∷_, _++_, append-assoc, head-eq-of-cons-eq, tail-eq-of-cons-eq}
 use native.Mathlib.Omega.{arith}
-use lib.ListN.{length, take, drop, length-drop}
-use lib.Seq.{take-all}
+use native.Mathlib.Nat.{not-suc-le-zero, add-zero, zero-add, add-suc, suc-add}
+use native.Mathlib.Numerals.{add-one}
+use lib.ListN.{length, getD, take, drop, length-drop}
+use lib.Seq.{take-all, drop-cons, take-suc}
+use Rattle.combinators.specs.Bools.{either-left, either-right}
+use Rattle.combinators.specs.Below.{First}
 
 module _ {A : Type 0} where
   -- some element passes the test
@@ -26,3 +30,85 @@ module _ {A : Type 0} where
 -- a part that starts anywhere and goes to the end
 pub part-to-end : {A : Type 0} (l : List A) (at : ℕ) → take (length l - at) (drop at l) ≡ drop at l
 part-to-end l at = take-all (length l - at) (drop at l) (rw (length-drop at l) (omega arith))
+
+-- the place of the first test of a list that holds, or its length
+abbrev pub firstTrue : List Bool → ℕ
+firstTrue [] = 0
+firstTrue (true ∷ ts) = 0
+firstTrue (false ∷ ts) = suc (firstTrue ts)
+
+pub first-true : (ts : List Bool) → First (λ n. getD ts n false) (length ts) (firstTrue ts)
+first-true [] = record { within = omega arith; before = λ j h. absurd (not-suc-le-zero h); found = λ h. absurd (not-suc-le-zero h) }
+first-true (true ∷ ts) = record { within = omega arith; before = λ j h. absurd (not-suc-le-zero h); found = λ h. refl }
+first-true (false ∷ ts) =
+    let later = first-true ts in
+    record { within = (let w = later .within in omega arith); before = go (later .before); found = λ h. later .found (omega arith) }
+  where
+    go : ((j : ℕ) → j < firstTrue ts → getD ts j false ≡ false) → (j : ℕ) → j < suc (firstTrue ts) → getD (false ∷ ts) j false ≡ false
+    go before zero h = refl
+    go before (suc j) h = before j (omega arith)
+
+-- What a list has from a place on, where that begins with x: the place is inside, x stands there, and the rest follows.
+pub record Next {A : Type 0} (l : List A) (k : ℕ) (x : A) (xs : List A) : Type 0 where
+  pub inside : k < length l
+  pub here : (d : A) → getD l k d ≡ x
+  pub after : drop (k + 1) l ≡ xs
+  pub longer : take (k + 1) l ≡ take k l ++ (x ∷ [])
+
+pub next : {A : Type 0} (l : List A) (k : ℕ) (x : A) (xs : List A) → drop k l ≡ x ∷ xs → Next l k x xs
+next l k x xs e =
+    let long : length l - k ≡ suc (length xs) = sym (length-drop k l) ∙ ap length e in
+    let h : k < length l = omega arith in
+    let split : (d : _) → getD l k d ∷ drop (suc k) l ≡ x ∷ xs = λ d. sym (drop-cons l k d h) ∙ e in
+    record {
+      inside = h;
+      here = λ d. head-eq-of-cons-eq (split d);
+      after = rw (add-one k) (tail-eq-of-cons-eq (split x));
+      longer = rw (add-one k) (take-suc l k x h ∙ ap (λ y. take k l ++ (y ∷ [])) (head-eq-of-cons-eq (split x)));
+    }
+
+-- the element at a place, counted from 0
+pub data Nth {A : Type 0} : List A → ℕ → A → Type 0 where
+  here : {x : A} {xs : List A} → Nth (x ∷ xs) 0 x
+  there : {x y : A} {xs : List A} {k : ℕ} → Nth xs k x → Nth (y ∷ xs) (suc k) x
+
+pub nth-inside : {A : Type 0} {l : List A} {k : ℕ} {x : A} → Nth l k x → k < length l
+nth-inside here = omega arith
+nth-inside (there n) = let h = nth-inside n in omega arith
+
+pub nth-getD : {A : Type 0} {l : List A} {k : ℕ} {x : A} (d : A) → Nth l k x → getD l k d ≡ x
+nth-getD d here = refl
+nth-getD d (there n) = nth-getD d n
+
+pub getD-nth : {A : Type 0} (l : List A) (k : ℕ) (d : A) → k < length l → Nth l k (getD l k d)
+getD-nth [] k d h = absurd (not-suc-le-zero h)
+getD-nth (x ∷ xs) zero d h = here
+getD-nth (x ∷ xs) (suc k) d h = there (getD-nth xs k d (omega arith))
+
+-- an element of a list that passes a test
+pub any-true : {A : Type 0} (test : A → Bool) {l : List A} {k : ℕ} {x : A} → Nth l k x → test x ≡ true → any test l ≡ true
+any-true test (here {x} {xs}) e = either-left (test x) (any test xs) e
+any-true test (there {x} {y} {xs} n) e = either-right (test y) (any test xs) (any-true test n e)
+
+-- where some element passes, one can be named
+pub any-which : {A : Type 0} (test : A → Bool) (l : List A) → any test l ≡ true → (k : ℕ) × (x : A) × Nth l k x × (test x ≡ true)
+any-which test [] e = let z : _≡_ {A = ℕ} 0 1 = cc in absurd (omega arith)
+any-which test (x ∷ xs) e = go (test x) refl (any-which test xs)
+  where
+    go : (b : Bool) → test x ≡ b → (any test xs ≡ true → (k : ℕ) × (y : _) × Nth xs k y × (test y ≡ true))
+        → (k : ℕ) × (y : _) × Nth (x ∷ xs) k y × (test y ≡ true)
+    go true p later = (0, x, here, p)
+    go false p later = let w = later (rw p at e) in (suc (w .0), w .1, there (w .2), w .3)
+
+-- A list of tests, each with what follows where it holds, by its place in the list.
+abbrev pub Handled : (ℕ → Type 0) → ℕ → List Bool → Type 0
+Handled P i [] = Unit {0}
+Handled P i (t ∷ ts) = (t ≡ true → P i) × Handled P (suc i) ts
+
+handled-from : (P : ℕ → Type 0) (i : ℕ) (ts : List Bool) → Handled P i ts → (n : ℕ) → getD ts n false ≡ true → P (i + n)
+handled-from P i [] h n e = let z : _≡_ {A = ℕ} 0 1 = cc in absurd (omega arith)
+handled-from P i (t ∷ ts) h zero e = rw (add-zero i) (h .0 e)
+handled-from P i (t ∷ ts) h (suc n) e = rw (add-suc i n, ← suc-add i n) (handled-from P (suc i) ts (h .1) n e)
+
+pub handled : (P : ℕ → Type 0) (ts : List Bool) → Handled P 0 ts → (n : ℕ) → getD ts n false ≡ true → P n
+handled P ts h n e = rw zero-add at (handled-from P 0 ts h n e)

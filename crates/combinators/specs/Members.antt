@@ -1,14 +1,16 @@
 -- Whether a number stands in a list of numbers.
 -- Assumes nothing.
 use Prim.Native.Nat.{ℕ, zero, suc, _≤_, _<_}
-use mathlib.Core.Path.{_≡_, refl}
+use mathlib.Core.Path.{_≡_, refl, sym}
 use mathlib.Core.Logic.{_≢_}
-use mathlib.Core.Bool.{Bool, true, false, not, _&&_, _||_}
-use mathlib.Core.List.{List, [], _∷_}
-use borrow.Author.Tests.{ne-eqb, le-leb, ltb-true}
+use mathlib.Core.Bool.{Bool, true, false, not, _&&_, _||_, or-assoc, or-false}
+use mathlib.Core.List.{List, [], _∷_, _++_}
+use borrow.Author.Tests.{eq-eqb, ne-eqb, eqb-true, le-leb, ltb-true}
+use native.Mathlib.Nat.{not-suc-le-zero, le-of-suc-le-suc}
 use native.Mathlib.Omega.{arith}
 use lib.Dec.{eqb, leb, ltb}
-use Rattle.combinators.specs.Bools.{both-left, both-right}
+use lib.ListN.{length, getD}
+use Rattle.combinators.specs.Bools.{both-left, both-right, either-left, either-right}
 use Rattle.combinators.specs.Below.{every, every-at}
 
 abbrev pub member : ℕ → List ℕ → Bool
@@ -41,3 +43,23 @@ past-member bound [] e x h = refl
 past-member bound (y ∷ ys) e x h =
     let low : y < bound = ltb-true y bound (both-left (ltb y bound) (allBelow bound ys) e) in
     rw (ne-eqb x y (omega arith)) (past-member bound ys (both-right (ltb y bound) (allBelow bound ys) e) x h)
+
+-- one number more at the end
+pub member-last : (x y : ℕ) (l : List ℕ) → member x (l ++ y ∷ []) ≡ member x l || eqb x y
+member-last x y [] = or-false (eqb x y)
+member-last x y (z ∷ zs) = rw (member-last x y zs, or-assoc (eqb x z) (member x zs) (eqb x y))
+
+-- what stands at a place of the list is a member, and a member stands at a place
+pub member-at : (l : List ℕ) (i : ℕ) → i < length l → member (getD l i 0) l ≡ true
+member-at [] i h = absurd (not-suc-le-zero h)
+member-at (y ∷ ys) zero h = either-left (eqb y y) (member y ys) (eq-eqb y y refl)
+member-at (y ∷ ys) (suc i) h = either-right (eqb (getD ys i 0) y) (member (getD ys i 0) ys) (member-at ys i (le-of-suc-le-suc h))
+
+pub member-which : (x : ℕ) (l : List ℕ) → member x l ≡ true → (i : ℕ) × (i < length l) × (getD l i 0 ≡ x)
+member-which x [] e = let z : _≡_ {A = ℕ} 0 1 = cc in absurd (omega arith)
+member-which x (y ∷ ys) e = go (eqb x y) refl (member-which x ys)
+  where
+    go : (b : Bool) → eqb x y ≡ b → (member x ys ≡ true → (i : ℕ) × (i < length ys) × (getD ys i 0 ≡ x))
+        → (i : ℕ) × (i < suc (length ys)) × (getD (y ∷ ys) i 0 ≡ x)
+    go true p later = (0, omega arith, sym (eqb-true x y p))
+    go false p later = let w = later (rw p at e) in (suc (w .0), omega (arith, w .1), w .2)

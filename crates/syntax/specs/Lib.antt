@@ -5,4 +5,3 @@ pub mod Number
 pub mod Laws
 pub mod Parts
 pub mod Equations
-pub mod Examples

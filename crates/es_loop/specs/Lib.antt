@@ -1,0 +1,7 @@
+pub mod Entries
+pub mod Conditions
+pub mod Reading
+pub mod Judged
+pub mod Meaning
+pub mod Meant
+pub mod Examples

@@ -1,0 +1,39 @@
+-- What reading a loop answers.
+-- Assumes nothing.
+use Prim.Native.Nat.{ℕ}
+use mathlib.Core.Bool.{Bool, cond}
+use mathlib.Core.List.{List, []}
+use lib.Dec.{ltb}
+use lib.ListN.{length}
+use Rattle.combinators.specs.Lowest.{lowestNumber, earliestPlace}
+use Rattle.vocabulary.specs.declared.stream_types.Reading.{Reading}
+use Rattle.vocabulary.specs.declared.refusal.Refusal.{Refusal}
+use Rattle.vocabulary.specs.declared.refusal.Refusal.the-variants.{LoopTooLong}
+use Rattle.es_loop.specs.declared.entries.Stream.{Stream}
+use Rattle.es_loop.specs.declared.reader.Outcome.{Outcome}
+use Rattle.es_loop.specs.declared.reader.Outcome.the-variants.{Accepted, Refused}
+use Rattle.es_loop.specs.declared.reader.LoopRead.{LoopRead}
+use Rattle.es_loop.specs.Entries.{streamsOf, entriesOf}
+use Rattle.es_loop.specs.Conditions.{applies, refusalOf}
+
+-- 'A refusal returns number and place and no other content.'
+abbrev pub refusedWith : Refusal → LoopRead
+refusedWith r = record { outcome = Refused r; count = 0; entries = entriesOf [] }
+
+-- every entry in loop order
+abbrev pub accepted : List Stream → LoopRead
+accepted streams = record { outcome = Accepted; count = length streams; entries = entriesOf streams }
+
+-- the answer for the lowest number and its place, or past all numbers
+abbrev pub answerAt : List Stream → ℕ → ℕ → LoopRead
+answerAt streams number place = cond (ltb number 11) (refusedWith (refusalOf number place)) (accepted streams)
+
+-- 'Several at once: the lowest number that applies, at the earliest place.'
+abbrev pub judged : List Stream → LoopRead
+judged streams =
+    let number : ℕ = lowestNumber (applies streams) 11 (length streams) in
+    answerAt streams number (earliestPlace (applies streams) number (length streams))
+
+-- 'loop longer than 1,008 bytes' ends the reading.
+abbrev pub loopRead : Reading → List ℕ → LoopRead
+loopRead reading bytes = cond (ltb 1008 (length bytes)) (refusedWith LoopTooLong) (judged (streamsOf reading bytes))

@@ -1,0 +1,103 @@
+// One entry of the loop: its head, and what a reading sees in its descriptors.
+ghost use mathlib.Core.Path.{_≡_};
+ghost use mathlib.Core.List.{[]};
+ghost use Prim.Native.Nat.{_+_, _*_, _%_, _≤_};
+ghost use lib.ListN.{length, take, drop};
+ghost use Rattle.framing.specs.Pieces.{whole};
+ghost use Rattle.es_loop.specs.Entries.{sizeOf, streamOf, seenIn, entryOf, entriesOf};
+use descriptors::Record;
+use descriptors::Seen;
+use vocabulary::LayerIndex;
+use vocabulary::Reading;
+
+// An entry as it is answered.
+pub struct Entry {
+    pub stream_type: u8,
+    pub pid: u16,
+    pub record: Record,
+    pub embedded: [LayerIndex; 63],
+}
+
+// An entry as it is judged: whether it and its descriptors fit, and what was seen in them.
+pub struct Stream {
+    pub fits: bool,
+    pub stream_type: u8,
+    pub pid: u16,
+    pub seen: Seen,
+}
+
+// Room for the 201 entries that 1,008 bytes can hold, all blank.
+pub fn blank_entries() -> [Entry; 201]
+    ensures { λ r. ⌜ r ≡ entriesOf [] ⌝ }
+{
+    let blank = Entry {
+        stream_type: 0,
+        pid: 0,
+        record: Record::NoRecord,
+        embedded: descriptors::no_layers(),
+    };
+    [blank; 201]
+}
+
+pub fn wide(byte: u8) -> usize
+    ensures { λ r. ⌜ r ≡ byte ⌝ }
+{
+    byte as usize
+}
+
+// How many bytes the entry at the front takes: its head, and as many as ES_info_length says. All 12 bits of that count.
+pub fn entry_size(left: &[u8]) -> usize
+    ensures { λ r. ⌜ r ≡ sizeOf (now (left .entry)) ⌝ }
+{
+    if left.len() < 5 {
+        return 5;
+    }
+    5 + (wide(left[3]) % 16 * 256 + wide(left[4]))
+}
+
+// The descriptors of a stream are looked into only where the reading knows its type.
+fn look_into(reading: Reading, stream_type: u8, info: &[u8]) -> Seen
+    ensures { λ r. ⌜ r ≡ seenIn reading «stream_type» (now (info .entry)) ⌝ }
+{
+    if vocabulary::knows(reading, stream_type) {
+        return descriptors::look_through(reading, info);
+    }
+    descriptors::nothing_seen()
+}
+
+fn elementary_pid(high: u8, low: u8) -> u16
+    ensures { λ r. ⌜ r ≡ high % 32 * 256 + low ⌝ }
+{
+    (high as u16) % 32 * 256 + (low as u16)
+}
+
+// A whole entry.
+pub fn read_stream(reading: Reading, entry: &[u8]) -> Stream
+    requires { ⌜ 5 ≤ length (now entry) ⌝ }
+    ensures { λ r. ⌜ r ≡ streamOf reading (whole (take 5 (now (entry .entry))) (drop 5 (now (entry .entry)))) ⌝ }
+{
+    let stream_type = entry[0];
+    let pid = elementary_pid(entry[1], entry[2]);
+    let seen = look_into(reading, stream_type, &entry[5..]);
+    Stream {
+        fits: seen.fits,
+        stream_type,
+        pid,
+        seen,
+    }
+}
+
+// What is answered of an entry.
+pub fn entry_of(stream: Stream) -> Entry
+    ensures { λ r. ⌜ r ≡ entryOf stream ⌝ }
+{
+    let seen = stream.seen;
+    let record = seen.record;
+    let embedded = seen.embedded;
+    Entry {
+        stream_type: stream.stream_type,
+        pid: stream.pid,
+        record,
+        embedded,
+    }
+}

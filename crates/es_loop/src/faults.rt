@@ -1,0 +1,101 @@
+// The faults of an entry: the lowest number that applies at it, and the lowest of all entries so far.
+ghost use mathlib.Core.Path.{_≡_};
+ghost use Prim.Native.Nat.{_+_, _<_};
+ghost use Rattle.combinators.specs.Lists.{firstTrue};
+ghost use Rattle.judging.specs.Judging.{indexOf};
+ghost use Rattle.es_loop.specs.Conditions.{conditions, recordConditions, lowerOf, refusalOf, slotOf};
+use super::entries::Stream;
+use super::entries::wide;
+use descriptors::Record;
+use descriptors::Seen;
+use vocabulary::Refusal;
+
+// A number that applies, and the entry at which it does.
+pub struct Fault {
+    pub number: u8,
+    pub place: usize,
+}
+
+// The lowest number, from 2 to 10, that applies at an entry, or 11 where none does. The caller says whether an earlier entry has its
+// PID, and whether an earlier layer holds its index.
+pub fn lowest_fault(pid_seen: bool, index_held: bool, stream: Stream) -> u8
+    ensures { λ r. ⌜ r ≡ firstTrue (conditions «pid_seen» «index_held» stream) ⌝ }
+{
+    let seen = stream.seen;
+    if !stream.fits {
+        return 2;
+    }
+    if pid_seen {
+        return 3;
+    }
+    if seen.wrong_length {
+        return 4;
+    }
+    if seen.second_record {
+        return 5;
+    }
+    judged_fault(index_held, stream.stream_type, seen)
+}
+
+// The same of what is judged on the record alone, and of its index: 6 to 10.
+fn judged_fault(index_held: bool, stream_type: u8, seen: Seen) -> u8
+    ensures { λ r. ⌜ r ≡ 6 + firstTrue (recordConditions «index_held» «stream_type» seen) ⌝ }
+{
+    let record = seen.record;
+    let embedded = seen.embedded;
+    if judging::type_not_allowed(stream_type, record) {
+        return 6;
+    }
+    if judging::wrong_flags(record) {
+        return 7;
+    }
+    if index_held {
+        return 8;
+    }
+    if judging::wrong_embedded(record, embedded) {
+        return 9;
+    }
+    if judging::too_many_embedded(record) {
+        return 10;
+    }
+    11
+}
+
+// Where the mark of a record's index stands: at the index, and past all of them for a stream that is no layer.
+pub fn slot_of(record: Record) -> usize
+    ensures { λ r. ⌜ (r ≡ slotOf «record») × (indexOf «record» < 256) ⌝ }
+{
+    let index = judging::layer_index(record);
+    if judging::is_layer(record) {
+        return wide(index.0);
+    }
+    256
+}
+
+// The lower of two faults, the earlier where their numbers are the same.
+pub fn lower(so_far: Fault, number: u8, place: usize) -> Fault
+    ensures { λ r. ⌜ r ≡ lowerOf «so_far» number place ⌝ }
+{
+    if number < so_far.number {
+        return Fault { number, place };
+    }
+    so_far
+}
+
+// A fault as a refusal.
+pub fn refusal_of(number: u8, place: usize) -> Refusal
+    ensures { λ r. ⌜ r ≡ refusalOf number place ⌝ }
+{
+    match number {
+        2 => Refusal::DoesNotFit(place),
+        3 => Refusal::RepeatedPid(place),
+        4 => Refusal::WrongLength(place),
+        5 => Refusal::SecondRecord(place),
+        6 => Refusal::TypeNotAllowed(place),
+        7 => Refusal::WrongFlags(place),
+        8 => Refusal::RepeatedLayerIndex(place),
+        9 => Refusal::WrongEmbeddedIndex(place),
+        10 => Refusal::TooManyEmbedded(place),
+        _ => Refusal::LoopTooLong,
+    }
+}

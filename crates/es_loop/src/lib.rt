@@ -1,0 +1,16 @@
+// The elementary-stream loop of a program map section, read in either edition: every entry with its record, or the refusal (1 to
+// 10) with its place.
+mod entries;
+mod faults;
+mod reader;
+
+pub use entries::Entry;
+pub use entries::Stream;
+pub use entries::blank_entries;
+pub use entries::entry_of;
+pub use entries::entry_size;
+pub use entries::read_stream;
+pub use faults::Fault;
+pub use reader::LoopRead;
+pub use reader::Outcome;
+pub use reader::read_loop;

@@ -1,0 +1,230 @@
+// One record on one stream, judged by the refusals of document 01 that look at nothing else: 6, 7, 9 and 10. The reader and the
+// writer of a loop judge by the same functions.
+//
+// Each answers for every value that the types can hold, also for one that no six bits can: a writer may be handed any.
+ghost use mathlib.Core.Path.{_≡_};
+ghost use mathlib.Core.Bool.{false};
+ghost use mathlib.Core.List.{[], map};
+ghost use Prim.Native.Nat.{_≤_, _<_, min};
+ghost use lib.ListN.{take, replicate};
+ghost use Rattle.combinators.specs.Members.{member};
+ghost use Rattle.judging.specs.Judging.{isLayer, indexOf, isBase, plain, noExtensionOn, typeNotAllowed, at0, flagsAt0, flagsWrongFor, wrongFlags, wrongList, wrongEmbedded, tooManyEmbedded};
+ghost use Rattle.judging.specs.Sets.{withIndices, namesOf};
+ghost use Rattle.sets.specs.Sets.{added};
+use descriptors::HierarchyRecord;
+use descriptors::Record;
+use vocabulary::LayerIndex;
+use vocabulary::may_stand_on;
+
+// Whether a stream with this record is a layer.
+pub fn is_layer(record: Record) -> bool
+    ensures { λ r. ⌜ r ≡ isLayer «record» ⌝ }
+{
+    match record {
+        Record::NoRecord => false,
+        Record::Hierarchy(_) => true,
+        Record::Extension(_) => true,
+    }
+}
+
+// The layer's index, and 0 without a record.
+pub fn layer_index(record: Record) -> LayerIndex
+    ensures { λ r. ⌜ r ≡ record { 0 = indexOf «record» } ⌝ }
+{
+    match record {
+        Record::NoRecord => LayerIndex(0),
+        Record::Hierarchy(hierarchy) => hierarchy.layer_index,
+        Record::Extension(extension) => extension.layer_index,
+    }
+}
+
+// The stream types on which no extension may stand.
+fn no_extension_on(stream_type: u8) -> bool
+    ensures { λ r. ⌜ r ≡ member «stream_type» noExtensionOn ⌝ }
+{
+    match stream_type {
+        0x1B | 0x1F | 0x20 => true,
+        _ => false,
+    }
+}
+
+// Refusal 6.
+pub fn type_not_allowed(stream_type: u8, record: Record) -> bool
+    ensures { λ r. ⌜ r ≡ typeNotAllowed «stream_type» «record» ⌝ }
+{
+    match record {
+        Record::NoRecord => false,
+        Record::Hierarchy(hierarchy) => !may_stand_on(hierarchy.hierarchy_type, stream_type),
+        Record::Extension(_) => no_extension_on(stream_type),
+    }
+}
+
+// A flag at 0 (false) means "enhances".
+fn at_0(flag: bool) -> u8
+    ensures { λ r. ⌜ r ≡ at0 flag ⌝ }
+{
+    if flag { 0 } else { 1 }
+}
+
+fn flags_at_0(hierarchy: HierarchyRecord) -> u8
+    ensures { λ r. ⌜ r ≡ flagsAt0 hierarchy ⌝ }
+{
+    at_0(hierarchy.no_view)
+        + at_0(hierarchy.no_temporal)
+        + at_0(hierarchy.no_spatial)
+        + at_0(hierarchy.no_quality)
+}
+
+fn flags_wrong_for(hierarchy_type: u8, flags: u8) -> bool
+    ensures { λ r. ⌜ r ≡ flagsWrongFor «hierarchy_type» flags ⌝ }
+{
+    ((hierarchy_type == 9) & (0 < flags)) | ((1 < flags) & (hierarchy_type != 8))
+}
+
+// Refusal 7.
+pub fn wrong_flags(record: Record) -> bool
+    ensures { λ r. ⌜ r ≡ wrongFlags «record» ⌝ }
+{
+    match record {
+        Record::NoRecord => false,
+        Record::Hierarchy(hierarchy) => flags_wrong_for(
+            hierarchy.hierarchy_type,
+            flags_at_0(hierarchy),
+        ),
+        Record::Extension(_) => false,
+    }
+}
+
+// How many layers of the array an extension lists: as many as it counts, and no more than there are.
+fn listed_count(num_embedded_layers: u8) -> usize
+    ensures { λ r. ⌜ r ≡ min «num_embedded_layers» 63 ⌝ }
+{
+    if num_embedded_layers < 63 {
+        num_embedded_layers as usize
+    } else {
+        63
+    }
+}
+
+// A mark for each value of an index's byte, none set.
+fn no_marks() -> [bool; 256]
+    ensures { λ r. ⌜ r ≡ replicate 256 false ⌝ }
+{
+    [false; 256]
+}
+
+// Where the mark of an index stands.
+fn mark_of(index: LayerIndex) -> usize
+    ensures { λ r. ⌜ (r ≡ plain index) × (r < 256) ⌝ }
+{
+    index.0 as usize
+}
+
+// Whether an index among the first `count` is not below `own`, or stands there twice.
+fn wrong_list(own: LayerIndex, count: usize, embedded: [LayerIndex; 63]) -> bool
+    requires { ⌜ count ≤ 63 ⌝ }
+    ensures { λ r. ⌜ r ≡ wrongList (plain own) (map plain (take count embedded)) ⌝ }
+{
+    let mut marks = no_marks();
+    let mut i = 0;
+    while i < count {
+        let index = mark_of(embedded[i]);
+        if mark_of(own) <= index {
+            return true;
+        }
+        if marks[index] {
+            return true;
+        }
+        marks[index] = true;
+        i += 1;
+    }
+    false
+}
+
+// Type 15 is a base layer: its embedded index names nothing.
+fn is_base(hierarchy: HierarchyRecord) -> bool
+    ensures { λ r. ⌜ r ≡ isBase hierarchy ⌝ }
+{
+    hierarchy.hierarchy_type == 15
+}
+
+fn wrong_hierarchy_index(hierarchy: HierarchyRecord) -> bool
+    ensures { λ r. ⌜ r ≡ wrongEmbedded (Record.Hierarchy hierarchy) [] ⌝ }
+{
+    if is_base(hierarchy) {
+        return false;
+    }
+    hierarchy.layer_index.0 <= hierarchy.embedded_layer_index.0
+}
+
+// Refusal 9.
+pub fn wrong_embedded(record: Record, embedded: [LayerIndex; 63]) -> bool
+    ensures { λ r. ⌜ r ≡ wrongEmbedded «record» embedded ⌝ }
+{
+    match record {
+        Record::NoRecord => false,
+        Record::Hierarchy(hierarchy) => wrong_hierarchy_index(hierarchy),
+        Record::Extension(extension) => {
+            wrong_list(
+                extension.layer_index,
+                listed_count(extension.num_embedded_layers),
+                embedded,
+            )
+        }
+    }
+}
+
+// Refusal 10.
+pub fn too_many_embedded(record: Record) -> bool
+    ensures { λ r. ⌜ r ≡ tooManyEmbedded «record» ⌝ }
+{
+    match record {
+        Record::NoRecord => false,
+        Record::Hierarchy(_) => false,
+        Record::Extension(extension) => 8 < extension.num_embedded_layers,
+    }
+}
+
+// A set with one index more: bit i stands for index i.
+fn with_index(set: u64, index: LayerIndex) -> u64
+    ensures { λ r. ⌜ r ≡ added set (plain index) ⌝ }
+{
+    sets::with(set, index.0 as usize)
+}
+
+// The set of the first `count` indices.
+fn names_in(count: usize, embedded: [LayerIndex; 63]) -> u64
+    requires { ⌜ count ≤ 63 ⌝ }
+    ensures { λ r. ⌜ r ≡ withIndices 0 (map plain (take count embedded)) ⌝ }
+{
+    let mut set = 0u64;
+    let mut i = 0;
+    while i < count {
+        set = with_index(set, embedded[i]);
+        i += 1;
+    }
+    set
+}
+
+fn names_of_hierarchy(hierarchy: HierarchyRecord) -> u64
+    ensures { λ r. ⌜ r ≡ namesOf (Record.Hierarchy hierarchy) [] ⌝ }
+{
+    if is_base(hierarchy) {
+        return 0;
+    }
+    with_index(0, hierarchy.embedded_layer_index)
+}
+
+// The layers that a record names, as a set: bit i is 1 exactly when it names layer i.
+pub fn names(record: Record, embedded: [LayerIndex; 63]) -> u64
+    ensures { λ r. ⌜ r ≡ namesOf «record» embedded ⌝ }
+{
+    match record {
+        Record::NoRecord => 0,
+        Record::Hierarchy(hierarchy) => names_of_hierarchy(hierarchy),
+        Record::Extension(extension) => names_in(
+            listed_count(extension.num_embedded_layers),
+            embedded,
+        ),
+    }
+}

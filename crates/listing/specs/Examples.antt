@@ -1,0 +1,47 @@
+-- What document 01 says the program prints for loop A, and two lines more, each computed from the definitions.
+-- Assumes nothing.
+use mathlib.Core.List.{_∷_}
+use mathlib.Core.Path.{_≡_, refl}
+use lib.ListN.{replicate}
+use Rattle.sets.specs.Sets.{size}
+use Rattle.text.specs.Text.{ascii, decimal, decimalWidth, texts}
+use Rattle.vocabulary.specs.declared.refusal.Refusal.the-variants.{LoopTooLong, WrongLength}
+use Rattle.listing.specs.declared.LayerTable.{LayerTable}
+use Rattle.listing.specs.Lines.{members, layerLine, lineAt, layersText, acceptedText, refusedText}
+
+-- loop A in the 2015 reading
+abbrev loopA : LayerTable
+loopA =
+    record {
+      layers = record { present = 0b111; embedded = 0 ∷ 0b1 ∷ 0b1 ∷ replicate 61 0 };
+      pids = 256 ∷ 257 ∷ 258 ∷ replicate 61 0;
+      «stream_types» = 27 ∷ 31 ∷ 40 ∷ replicate 61 0;
+      channels = record { 0 = 0 } ∷ record { 0 = 1 } ∷ record { 0 = 2 } ∷ replicate 61 (record { 0 = 0 });
+    }
+
+accepted-3 : acceptedText loopA
+    ≡ ascii "accepted 3\nlayer 0 pid 256 type 27 channel 0 closure 0\nlayer 1 pid 257 type 31 channel 1 closure 0 1\nlayer 2 pid 258 type 40 channel 2 closure 0 2\n"
+unfolding size acceptedText layersText lineAt layerLine members texts decimal decimalWidth
+accepted-3 = refl
+
+-- layer 1 names layer 0, which is not in the loop
+abbrev baseAbsent : LayerTable
+baseAbsent =
+    record {
+      layers = record { present = 0b10; embedded = 0 ∷ 0b1 ∷ replicate 62 0 };
+      pids = 0 ∷ 257 ∷ replicate 62 0;
+      «stream_types» = 0 ∷ 31 ∷ replicate 62 0;
+      channels = record { 0 = 0 } ∷ record { 0 = 1 } ∷ replicate 62 (record { 0 = 0 });
+    }
+
+closure-absent : acceptedText baseAbsent ≡ ascii "accepted 1\nlayer 1 pid 257 type 31 channel 1 closure absent\n"
+unfolding size acceptedText layersText lineAt layerLine members texts decimal decimalWidth
+closure-absent = refl
+
+loop-too-long : refusedText LoopTooLong ≡ ascii "refused 1 entry 0\n"
+unfolding refusedText decimal decimalWidth
+loop-too-long = refl
+
+wrong-length : refusedText (WrongLength 7) ≡ ascii "refused 4 entry 7\n"
+unfolding refusedText decimal decimalWidth
+wrong-length = refl

@@ -1,0 +1,67 @@
+-- The lines that the program `layers` prints, as document 01 shows them.
+-- Assumes nothing.
+use Prim.Native.Nat.{ℕ}
+use mathlib.Core.Bool.{cond}
+use mathlib.Core.List.{List, [], _++_}
+use lib.ListN.{getD}
+use Rattle.closure.specs.declared.Closure.{Closure}
+use Rattle.closure.specs.declared.Closure.the-variants.{Complete, Refused}
+use Rattle.closure.specs.Closures.{closureOf}
+use Rattle.sets.specs.Sets.{has, size}
+use Rattle.vocabulary.specs.declared.HierarchyChannel.{HierarchyChannel}
+use Rattle.vocabulary.specs.declared.LayerIndex.{LayerIndex}
+use Rattle.vocabulary.specs.declared.refusal.Refusal.{Refusal}
+use Rattle.vocabulary.specs.Refusals.{numberOf, placeOf}
+use Rattle.listing.specs.declared.LayerTable.{LayerTable}
+use Rattle.text.specs.Text.{ascii, decimal, texts}
+
+-- a label, and after it a number
+abbrev pub labelled : List ℕ → ℕ → List ℕ
+labelled label n = label ++ decimal n
+
+-- the members of a closure in rising order, each after a space
+abbrev pub member : ℕ → ℕ → List ℕ
+member set i = cond (has set i) (labelled (ascii " ") i) []
+
+unfoldable pub members : ℕ → List ℕ
+members set = texts (member set) 64
+
+-- 'A closure with an absent layer prints `closure absent`.'
+abbrev pub closureText : Closure → List ℕ
+closureText (Complete set) = members set
+closureText (Refused refusal) = ascii " absent"
+
+-- 'index, PID, stream type, channel (decimal), closure indices'
+unfoldable pub layerLine : LayerIndex → ℕ → ℕ → HierarchyChannel → Closure → List ℕ
+layerLine index pid type channel closure =
+    labelled (ascii "layer ") (index .0)
+    ++ labelled (ascii " pid ") pid
+    ++ labelled (ascii " type ") type
+    ++ labelled (ascii " channel ") (channel .0)
+    ++ ascii " closure"
+    ++ closureText closure
+    ++ ascii "\n"
+
+-- the line of the layer of index i, if the loop has that layer
+unfoldable pub lineAt : LayerTable → ℕ → List ℕ
+lineAt table i =
+    cond (has (table .layers .present) i)
+    (layerLine
+    (record { 0 = i })
+    (getD (table .pids) i 0)
+    (getD (table .«stream_types») i 0)
+    (getD (table .channels) i (record { 0 = 0 }))
+    (closureOf (table .layers) i))
+    []
+
+-- 'Then, by index', the lines of all layers
+unfoldable pub layersText : LayerTable → List ℕ
+layersText table = texts (lineAt table) 64
+
+-- 'The first line counts layers.'
+unfoldable pub acceptedText : LayerTable → List ℕ
+acceptedText table = labelled (ascii "accepted ") (size (table .layers .present)) ++ ascii "\n" ++ layersText table
+
+-- 'A refusal prints only `refused N entry E`.'
+unfoldable pub refusedText : Refusal → List ℕ
+refusedText refusal = labelled (ascii "refused ") (numberOf refusal) ++ labelled (ascii " entry ") (placeOf refusal) ++ ascii "\n"
