@@ -1,6 +1,6 @@
 -- Where the fields stand in order, the walk over them finds each: from what a header is to what the reader's definition says.
 -- Assumes nothing.
-use Prim.Native.Nat.{ℕ, suc, _+_, _*_, _≤_, _<_}
+use Prim.Native.Nat.{ℕ, _+_, _*_, _≤_}
 use mathlib.Core.Path.{_≡_, refl, sym, ap, ap₂, _∙_}
 use mathlib.Core.Bool.{Bool, true, false, cond}
 use mathlib.Core.List.{List, [], _∷_, _++_, append-assoc}
@@ -8,12 +8,12 @@ use native.Mathlib.Omega.{arith}
 use lib.Dec.{eqb}
 use lib.ListN.{length, take, drop, getD, length-append}
 use lib.Seq.{take-at, drop-at}
-use Rattle.syntax.specs.Table.{Table, number, fixedHold}
+use Rattle.syntax.specs.Table.{Table, fixedHold}
 use Rattle.syntax.specs.Number.{number-append}
 use Rattle.syntax.specs.Named.{named}
 use Rattle.pes.specs.Tables as Tables
 use Rattle.pes.specs.Tables.{tref, extensionFlags, secondExtension}
-use Rattle.pes.specs.Stamps.{dtsFlag, timeOf, stampOf, withDts, withoutDts, stampsOf}
+use Rattle.pes.specs.Stamps.{timeOf, stampOf, withDts, withoutDts, stampsOf}
 use Rattle.pes.specs.StampLaws.{stamp}
 use Rattle.pes.specs.HeaderData.{Flags, after, afterAll, withMarker, afterTrefFlags, extensionFieldOf, fieldLength, afterFieldLength, secondExtensionOf, afterBuffer, afterPackHeader, afterPrivateData, afterExtensionFlags, extensionOf, fieldBytes, afterCrc, headerDataOf}
 use Rattle.pes.specs.HeaderDataLaws.{after-fits}

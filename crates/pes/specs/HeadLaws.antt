@@ -1,17 +1,17 @@
 -- The head byte by byte: what the code reads off nine bytes is what the table says of them as one number.
 -- Assumes nothing.
 use Prim.Native.Nat.{ℕ, _+_, _*_, _/_, _%_, _^_, _≤_, _<_}
-use mathlib.Core.Path.{_≡_, refl, sym, ap, _∙_}
-use mathlib.Core.Bool.{Bool, true, false, _&&_}
+use mathlib.Core.Path.{_≡_, sym, ap, _∙_}
+use mathlib.Core.Bool.{Bool, true, _&&_}
 use mathlib.Core.List.{List, [], _∷_}
 use native.Mathlib.Omega.{arith}
 use lib.Dec.{eqb, leb}
 use lib.ListN.{length, getD, take}
 use lib.Seq.{getD-take}
-use Rattle.syntax.specs.Table.{AreBytes, number, fixedHold}
+use Rattle.syntax.specs.Table.{AreBytes, number}
 use Rattle.syntax.specs.Named.{named}
 use Rattle.pes.specs.Tables.{head, packetFlags}
-use Rattle.pes.specs.HeaderData.{Flags, flagsOf}
+use Rattle.pes.specs.HeaderData.{flagsOf}
 use Rattle.pes.specs.Reading.{isVideoHeader}
 
 -- the tests of refusal 20, on the length, the prefix, the two bits, stream_id and PES_header_data_length

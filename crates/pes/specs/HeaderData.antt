@@ -1,11 +1,11 @@
 -- The header data of a PES packet, walked in the order of Table 2-21 up to the second extension and its TREF.
 -- Assumes nothing.
 use Prim.Native.Nat.{ℕ, _+_, _*_}
-use mathlib.Core.Bool.{Bool, true, false, cond, _&&_}
+use mathlib.Core.Bool.{Bool, true, cond, _&&_}
 use mathlib.Core.List.{List, [], _∷_}
 use lib.Dec.{eqb, leb}
 use lib.ListN.{length, take, drop, getD}
-use Rattle.syntax.specs.Table.{Table, number, fixedHold}
+use Rattle.syntax.specs.Table.{Table, fixedHold}
 use Rattle.syntax.specs.Named.{named}
 use Rattle.pes.specs.Tables.{extensionFlags, secondExtension, trefExtension, tref}
 use Rattle.pes.specs.Stamps.{dtsFlag, stampOf}
@@ -40,9 +40,15 @@ flagsOf t n =
 abbrev pub after : ℕ → List ℕ → (List ℕ → Extension) → Extension
 after n bytes next = cond (leb n (length bytes)) (next (drop n bytes)) DoesNotFit
 
+-- Several fields, one after the other.
 abbrev pub afterAll : List ℕ → List ℕ → (List ℕ → Extension) → Extension
 afterAll [] bytes next = next bytes
 afterAll (n ∷ ns) bytes next = after n bytes (λ rest. afterAll ns rest next)
+
+-- the bytes of several fields
+abbrev pub sum : List ℕ → ℕ
+sum [] = 0
+sum (n ∷ ns) = n + sum ns
 
 -- TREF is present only with stream_id_extension_flag 1 and tref_extension_flag 0.
 abbrev pub trefFlagged : ℕ → Bool

@@ -3,7 +3,7 @@
 use Prim.Native.Nat.{ℕ, _+_, _-_, _*_, _/_, _%_, _^_, _≤_, _<_}
 use mathlib.Core.Path.{_≡_, refl, sym, ap, ap₂, _∙_}
 use mathlib.Core.Bool.{Bool, true, false, cond, _&&_}
-use mathlib.Core.List.{List, [], _∷_, _++_}
+use mathlib.Core.List.{List, [], _∷_}
 use native.Mathlib.Omega.{arith}
 use borrow.Author.Tests.{leb-true, leb-false, le-leb, lt-leb, eq-eqb, ne-eqb}
 use lib.Dec.{leb, eqb}
@@ -13,7 +13,7 @@ use Rattle.syntax.specs.Table.{fixedHold}
 use Rattle.syntax.specs.Named.{named}
 use Rattle.pes.specs.Tables.{extensionFlags, secondExtension}
 use Rattle.pes.specs.Stamps.{dtsFlag}
-use Rattle.pes.specs.HeaderData.{Flags, after, afterAll, trefFlagged, fieldBytes, afterCrc, headerDataOf}
+use Rattle.pes.specs.HeaderData.{sum, Flags, after, afterAll, trefFlagged, fieldBytes, afterCrc, headerDataOf}
 use Rattle.pes.specs.declared.header_data.Extension.{Extension}
 use Rattle.pes.specs.declared.header_data.Extension.the-variants.{DoesNotFit}
 
@@ -46,10 +46,6 @@ after-after m n l next = first (leb m (length l)) refl
         ∙ sym (after-short (m + n) l next (omega (arith, leb-false m (length l) e)))
 
 -- fields one after the other are one of all their bytes
-abbrev pub sum : List ℕ → ℕ
-sum [] = 0
-sum (n ∷ ns) = n + sum ns
-
 pub all-as-one : (ns l : List ℕ) (next : List ℕ → Extension) → afterAll ns l next ≡ after (sum ns) l next
 all-as-one [] l next = sym (after-fits 0 l next (omega arith))
 all-as-one (n ∷ ns) l next =

@@ -1,6 +1,6 @@
 -- The reader's definition answers what a header means, and nothing else does: for any bytes there is exactly one answer.
 -- Assumes nothing.
-use Prim.Native.Nat.{ℕ, _≤_, _<_}
+use Prim.Native.Nat.{ℕ, _≤_}
 use mathlib.Core.Path.{_≡_, refl, sym, ap, ap₂, subst, _∙_}
 use mathlib.Core.Bool.{Bool, true, false, cond}
 use mathlib.Core.List.{List, _++_}
@@ -10,7 +10,7 @@ use lib.Dec.{leb}
 use Rattle.syntax.specs.Table.{number}
 use Rattle.syntax.specs.Named.{named}
 use Rattle.clock.specs.Clock.{isBefore}
-use Rattle.vocabulary.specs.declared.refusal.Refusal.the-variants.{NotVideoHeader, NoPts, FieldsDoNotFit, WrongMarker, PtsBeforeDts}
+use Rattle.vocabulary.specs.declared.refusal.Refusal.the-variants.{NotVideoHeader, NoPts, WrongMarker, PtsBeforeDts}
 use Rattle.pes.specs.Tables.{head}
 use Rattle.pes.specs.Stamps.{stampsOf}
 use Rattle.pes.specs.HeaderData.{Flags, flagsOf, headerDataOf}

@@ -1,20 +1,20 @@
 -- The header that the writer's definition makes is in its own shape, and no other bytes of that shape have the same times. So the
 -- writer's definition does what a writer has to, and nothing else does.
 -- Assumes nothing.
-use Prim.Native.Nat.{ℕ, _+_, _*_, _/_, _%_, _^_, _≤_, _<_}
+use Prim.Native.Nat.{ℕ, _+_, _/_, _%_, _^_, _≤_, _<_}
 use mathlib.Core.Path.{_≡_, refl, sym, ap, ap₂, subst, _∙_}
 use mathlib.Core.Bool.{Bool, true, false, cond}
-use mathlib.Core.List.{List, [], _∷_, _++_, append-assoc}
+use mathlib.Core.List.{List, [], _++_}
 use native.Mathlib.Omega.{arith}
 use borrow.Author.Tests.{eq-eqb, ne-eqb, eqb-true, eqb-false, leb-true, leb-false, le-leb, lt-leb}
 use lib.Dec.{eqb, leb, lit<}
 use lib.ListN.{length, drop}
-use Rattle.syntax.specs.Table.{Table, writeTable, Fit, none, at-value, at-reserved, at-fixed, Sound, Written}
+use Rattle.syntax.specs.Table.{writeTable, Fit, none, at-value, at-reserved, at-fixed, Written}
 use Rattle.syntax.specs.Laws.{written, written-unique}
 use Rattle.clock.specs.Clock.{ticks, isBefore}
 use Rattle.vocabulary.specs.declared.refusal.Refusal.the-variants.{NoRoom, PtsBeforeDts, TooWide}
 use Rattle.pes.specs.Tables as Tables
-use Rattle.pes.specs.Tables.{prefixed, timeBits, ptsAlone, ptsBeforeDts, tref, extensionFlags, secondExtension, trefExtension}
+use Rattle.pes.specs.Tables.{timeBits, ptsAlone, ptsBeforeDts, tref}
 use Rattle.pes.specs.Writing.{partsOf, timeField, timeFields, trefHead, trefFields, dataFields, headValues, ptsDtsFlagsOf, extensionFlagOf, headOf, headerOf, tooWide, writeOf, bufferOf}
 use Rattle.pes.specs.WritingLaws.{times-at-most, tref-at-most, data-length, flags-below, extension-below, narrow, narrow-only}
 use Rattle.pes.specs.OwnShape.{OwnTimes, alone, both, OwnExtension, with-tref, OwnShape, Narrow, Writes, too-wide, no-room, pts-before-dts}

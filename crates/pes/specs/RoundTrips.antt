@@ -1,12 +1,12 @@
 -- The round trips of document 01, for all times and all headers: reading what the writer wrote gives back what was given, and
 -- rewriting what was read from a header in the writer's own shape gives the same bytes.
 -- Assumes nothing.
-use Prim.Native.Nat.{ℕ, _+_, _*_, _/_, _%_, _^_, _≤_, _<_}
+use Prim.Native.Nat.{ℕ, _+_, _*_, _^_, _≤_, _<_}
 use mathlib.Core.Path.{_≡_, refl, sym, ap, ap₂, subst, _∙_}
-use mathlib.Core.Bool.{Bool, true, false, cond, _&&_}
+use mathlib.Core.Bool.{Bool, true, false, cond}
 use mathlib.Core.List.{List, [], _∷_, _++_, append-assoc, append-nil}
 use native.Mathlib.Omega.{arith}
-use lib.Dec.{eqb, leb}
+use lib.Dec.{leb}
 use lib.ListN.{length, take, drop, getD, length-append}
 use lib.Seq.{take-at, drop-at}
 use Rattle.syntax.specs.Table as Table
@@ -17,12 +17,12 @@ use Rattle.syntax.specs.Named.{named}
 use Rattle.clock.specs.Clock.{ticks, isBefore}
 use Rattle.vocabulary.specs.declared.refusal.Refusal.the-variants.{NoRoom, PtsBeforeDts, TooWide}
 use Rattle.pes.specs.Tables as Tables
-use Rattle.pes.specs.Tables.{prefixed, ptsAlone, ptsBeforeDts, tref, extensionFlags, secondExtension, trefExtension}
+use Rattle.pes.specs.Tables.{ptsAlone, ptsBeforeDts, tref, extensionFlags, secondExtension, trefExtension}
 use Rattle.pes.specs.Stamps.{dtsFlag, timeOf, stampOf, withDts, withoutDts, stampsOf}
 use Rattle.pes.specs.StampLaws.{stamp}
-use Rattle.pes.specs.HeaderData.{Flags, flagsOf, withMarker}
+use Rattle.pes.specs.HeaderData.{withMarker}
 use Rattle.pes.specs.Reading.{dataOf, judged, marksOf, matchOf, readOf}
-use Rattle.pes.specs.Meaning.{VideoHeader, inOrder, Optional, ExtensionField, with-tref, SecondExtension, PackHeader, PesExtension, HeaderData, LaidOut}
+use Rattle.pes.specs.Meaning.{VideoHeader, inOrder, Optional, with-tref, SecondExtension, PackHeader, PesExtension, LaidOut}
 use Rattle.pes.specs.FieldLaws.{stamp-before}
 use Rattle.pes.specs.MeaningLaws.{laid-answer}
 use Rattle.pes.specs.Writing.{partsOf, headValues, headerOf, tooWide, writeOf, bufferOf}

@@ -1,7 +1,7 @@
 -- The bits of a time, byte by byte: what the code reads off five bytes is what the table says of them as one number.
 -- Assumes nothing.
-use Prim.Native.Nat.{ℕ, _+_, _*_, _/_, _%_, _^_, _≤_, _<_}
-use mathlib.Core.Path.{_≡_, refl, sym, ap}
+use Prim.Native.Nat.{ℕ, _+_, _*_, _/_, _%_, _^_, _≤_}
+use mathlib.Core.Path.{_≡_, sym, ap}
 use mathlib.Core.Bool.{Bool, true, false, _&&_, cond}
 use mathlib.Core.List.{List, [], _∷_}
 use native.Mathlib.Omega.{arith}
@@ -9,8 +9,8 @@ use lib.Dec.{eqb}
 use lib.ListN.{getD}
 use Rattle.syntax.specs.Equations.{fixed-at}
 use Rattle.syntax.specs.Table.{AreBytes, number, fixedHold}
-use Rattle.pes.specs.Tables.{tref, prefixed, timeBits}
-use Rattle.pes.specs.Stamps.{timeOf, stampOf, dtsFlag}
+use Rattle.pes.specs.Tables.{tref, prefixed}
+use Rattle.pes.specs.Stamps.{timeOf, dtsFlag}
 use Rattle.pes.specs.declared.stamp.Stamp.{Stamp}
 
 abbrev pub stamp : Bool → ℕ → Stamp

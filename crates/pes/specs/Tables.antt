@@ -2,7 +2,7 @@
 -- bits. The lines of the second extension and of TREF are those of source 003, 2.4.3.6.
 -- Assumes nothing.
 use Prim.Native.Nat.{ℕ}
-use mathlib.Core.List.{List, [], _∷_, _++_}
+use mathlib.Core.List.{[], _∷_, _++_}
 use Rattle.syntax.specs.Table.{value, reserved, fixed, Table}
 
 -- The nine bytes before the header data: packet_start_code_prefix, and on to PES_header_data_length. The byte of flags has a name

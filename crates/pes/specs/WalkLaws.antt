@@ -10,7 +10,7 @@ use borrow.Author.Tests.{leb-true, leb-false}
 use lib.Dec.{eqb, leb}
 use lib.ListN.{length, take, drop, getD, take-append-drop}
 use lib.Seq.{length-take-le}
-use Rattle.syntax.specs.Table.{Table, number, fixedHold}
+use Rattle.syntax.specs.Table.{Table, fixedHold}
 use Rattle.syntax.specs.Number.{number-take}
 use Rattle.syntax.specs.Named.{named}
 use Rattle.pes.specs.Tables.{tref, extensionFlags, secondExtension}

@@ -1,9 +1,9 @@
 -- The bytes of a written header, and their numbers.
 -- Assumes nothing.
 use Prim.Native.Nat.{ℕ, _+_, _*_, _/_, _%_, _^_, _≤_, _<_}
-use mathlib.Core.Path.{_≡_, refl, sym, ap, ap₂, _∙_}
+use mathlib.Core.Path.{_≡_, ap, ap₂, _∙_}
 use mathlib.Core.Bool.{Bool, true, false, cond, _||_}
-use mathlib.Core.List.{List, [], _∷_, _++_}
+use mathlib.Core.List.{[], _∷_, _++_}
 use native.Mathlib.Omega.{arith}
 use borrow.Author.Tests.{eq-eqb, ne-eqb, leb-false, lt-leb}
 use lib.Dec.{eqb, leb, lit<, lit≤}
@@ -14,7 +14,7 @@ use Rattle.clock.specs.Clock.{ticks}
 use Rattle.syntax.specs.Equations.{each}
 use Rattle.pes.specs.Tables.{prefixed, ptsAlone, ptsBeforeDts, dts, tref}
 use Rattle.pes.specs.OwnShape.{Narrow}
-use Rattle.pes.specs.Writing.{partsOf, timeField, timeFields, trefHead, trefFields, dataFields, ptsDtsFlagsOf, extensionFlagOf, headOf, headerOf, tooWide}
+use Rattle.pes.specs.Writing.{timeField, timeFields, trefHead, trefFields, dataFields, ptsDtsFlagsOf, extensionFlagOf, headOf, headerOf, tooWide}
 
 -- a time's field, byte by byte: of its parts, and of the time
 field-of-parts : (prefix a b c : ℕ) → prefix < 2 ^ 4 → a < 2 ^ 3 → b < 2 ^ 15 → c < 2 ^ 15

@@ -4,8 +4,7 @@ ghost use mathlib.Core.Path.{_≡_};
 ghost use Prim.Native.Nat.{ℕ, _+_, _*_, _≤_};
 ghost use Rattle.pes.specs.Tables.{packetFlags};
 ghost use Rattle.pes.specs.Stamps.{dtsFlag};
-ghost use Rattle.pes.specs.HeaderDataLaws.{sum};
-ghost use Rattle.pes.specs.HeaderData.{extensionFieldOf, secondExtensionOf, afterPackHeader, afterPrivateData, extensionOf, flagsOf, fieldBytes, headerDataOf};
+ghost use Rattle.pes.specs.HeaderData.{sum, extensionFieldOf, secondExtensionOf, afterPackHeader, afterPrivateData, extensionOf, flagsOf, fieldBytes, headerDataOf};
 use super::stamp;
 use super::stamp::Stamp;
 

@@ -3,12 +3,12 @@
 use borrow.Author.Needs.{needs}
 use borrow.Author.Tests.{eq-eqb, ne-eqb}
 use native.Mathlib.Omega.{arith}
-use Prim.Native.Nat.{ℕ, _+_, _*_, _≤_, _<_}
+use Prim.Native.Nat.{ℕ, _+_, _*_}
 use mathlib.Core.Path.{_≡_, ap, sym, _∙_}
 use mathlib.Core.Bool.{Bool, true, cond}
 use mathlib.Core.List.{List, [], _∷_}
 use denote.Ref.{now}
-use lib.ListN.{length, drop}
+use lib.ListN.{drop}
 use Rattle.syntax.specs.Named.{named}
 use Rattle.pes.specs.Lists.{to-the-end}
 use Rattle.pes.specs.Tables.{extensionFlags}

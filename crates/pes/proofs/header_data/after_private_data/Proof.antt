@@ -3,15 +3,15 @@
 use borrow.Author.Needs.{needs}
 use borrow.Author.Tests.{eq-eqb, ne-eqb}
 use native.Mathlib.Omega.{arith}
-use Prim.Native.Nat.{ℕ, _+_, _/_, _%_, _≤_, _<_}
+use Prim.Native.Nat.{ℕ, _+_, _/_, _%_}
 use mathlib.Core.Path.{_≡_, refl, ap, sym, _∙_}
 use mathlib.Core.Bool.{Bool, cond}
 use mathlib.Core.List.{List}
 use denote.Ref.{now}
-use lib.ListN.{length, drop, getD}
+use lib.ListN.{getD}
 use Rattle.pes.specs.Lists.{to-the-end}
 use Rattle.pes.specs.HeaderData.{after, afterPackHeader, afterPrivateData}
-use Rattle.pes.specs.HeaderDataLaws.{after-after, after-fits, after-short, flag-of-pack-header}
+use Rattle.pes.specs.HeaderDataLaws.{after-after, after-fits, after-short}
 use Rattle.pes.proofs.header_data.after_private_data.Statement.{statement}
 use Rattle.pes.proofs.header_data.after_private_data.Tie as tie
 

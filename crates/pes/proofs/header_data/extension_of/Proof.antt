@@ -2,11 +2,11 @@
 -- Assumes nothing.
 use borrow.Author.Needs.{needs}
 use native.Mathlib.Omega.{arith}
-use Prim.Native.Nat.{ℕ, _+_, _*_, _/_, _≤_, _<_}
+use Prim.Native.Nat.{ℕ, _+_, _*_, _/_, _<_}
 use mathlib.Core.Path.{_≡_, refl, ap, sym, _∙_}
 use mathlib.Core.List.{List}
 use denote.Ref.{now}
-use lib.ListN.{length, drop, getD}
+use lib.ListN.{getD}
 use Rattle.syntax.specs.Named.{named}
 use Rattle.pes.specs.Lists.{to-the-end}
 use Rattle.pes.specs.Tables.{extensionFlags}

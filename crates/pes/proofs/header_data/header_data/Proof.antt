@@ -3,7 +3,7 @@
 use borrow.Author.Needs.{needs}
 use borrow.Author.Tests.{eq-eqb, ne-eqb}
 use native.Mathlib.Omega.{arith}
-use Prim.Native.Nat.{ℕ, _/_, _%_, _^_}
+use Prim.Native.Nat.{ℕ, _%_}
 use mathlib.Core.Path.{_≡_, ap, sym, _∙_}
 use mathlib.Core.Bool.{Bool, true, cond}
 use mathlib.Core.List.{List}
@@ -11,8 +11,8 @@ use denote.Ref.{now}
 use lib.ListN.{drop}
 use Rattle.pes.specs.Lists.{to-the-end}
 use Rattle.pes.specs.Tables.{packetFlags}
-use Rattle.pes.specs.HeaderData.{flagsOf, fieldBytes, after, extensionOf, afterCrc, headerDataOf}
-use Rattle.pes.specs.HeaderDataLaws.{all-as-one, after-fits, after-short, sum}
+use Rattle.pes.specs.HeaderData.{sum, flagsOf, fieldBytes, after, extensionOf, afterCrc, headerDataOf}
+use Rattle.pes.specs.HeaderDataLaws.{all-as-one, after-fits, after-short}
 use Rattle.pes.specs.declared.header_data.Extension.the-variants.{WithoutTref}
 use Rattle.pes.proofs.header_data.header_data.Statement.{statement}
 use Rattle.pes.proofs.header_data.header_data.Tie as tie

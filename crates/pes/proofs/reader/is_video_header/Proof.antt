@@ -4,12 +4,11 @@ use borrow.Author.Needs.{needs}
 use borrow.Author.Tests.{le-leb, lt-leb, eq-eqb, ne-eqb, not-true, not-false}
 use native.Mathlib.Omega.{arith}
 use Prim.Native.Nat.{ℕ, _+_, _/_}
-use mathlib.Core.Path.{_≡_, ap, sym, _∙_}
+use mathlib.Core.Path.{ap, sym, _∙_}
 use denote.Ref.{now}
 use lib.Dec.{leb}
 use lib.ListN.{length, getD}
-use Rattle.syntax.specs.Table.{number}
-use Rattle.pes.specs.HeadLaws.{videoTests, video-header-of-bytes}
+use Rattle.pes.specs.HeadLaws.{video-header-of-bytes}
 use Rattle.pes.proofs.reader.is_video_header.Statement.{statement}
 use Rattle.pes.proofs.reader.is_video_header.Tie as tie
 

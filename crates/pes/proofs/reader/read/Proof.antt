@@ -8,7 +8,7 @@ use mathlib.Core.Path.{_≡_, ap, ap₂, sym, _∙_}
 use mathlib.Core.Bool.{Bool, cond}
 use mathlib.Core.List.{List}
 use denote.Ref.{now}
-use lib.ListN.{length, getD, take, drop}
+use lib.ListN.{getD, take, drop}
 use Rattle.syntax.specs.Table.{number}
 use Rattle.syntax.specs.Named.{named}
 use Rattle.vocabulary.specs.declared.refusal.Refusal.the-variants.{NotVideoHeader, NoPts}

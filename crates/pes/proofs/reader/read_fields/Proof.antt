@@ -13,7 +13,6 @@ use Rattle.pes.specs.HeaderDataLaws.{times-within}
 use Rattle.pes.specs.Reading.{timesOf}
 use Rattle.pes.specs.declared.stamp.Stamp.{Stamp}
 use Rattle.pes.specs.declared.stamp.Stamps.{Stamps}
-use Rattle.pes.specs.declared.header_data.Extension.{Extension}
 use Rattle.pes.specs.declared.header_data.Extension.the-variants.{DoesNotFit, WithoutTref, WithTref}
 use Rattle.pes.proofs.reader.read_fields.Statement.{statement}
 use Rattle.pes.proofs.reader.read_fields.Tie as tie

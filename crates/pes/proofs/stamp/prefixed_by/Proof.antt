@@ -1,3 +1,5 @@
+-- `pes::stamp::prefixed_by` meets its contract: the prefix is the upper half of the first byte, and the rest is an unprefixed time.
+-- Assumes nothing.
 use borrow.Author.Needs.{needs}
 use Prim.Native.Nat.{_/_}
 use mathlib.Core.Path.{ap, ap₂, _∙_}
@@ -9,19 +11,13 @@ use Rattle.pes.specs.StampLaws.{stamp, prefix-of-bytes}
 use Rattle.pes.specs.declared.stamp.Stamp.{Stamp}
 use Rattle.pes.proofs.stamp.prefixed_by.Statement.{statement}
 use Rattle.pes.proofs.stamp.prefixed_by.Tie as tie
-use Rattle.pes.proofs.stamp.prefixed_by.Reads as reads
-use Rattle.pes.proofs.stamp.prefixed_by.Lts as lts
-use Rattle.pes.proofs.stamp.unprefixed.Reads as unprefixed-reads
 
--- src/stamp.rt:49:9
 unprefixed-requires : tie.Need-unprefixed-requires
 unprefixed-requires c κs = search needs
 
--- src/stamp.rt:51:18
 shared-slice-read-t5 : tie.Need-shared-slice-read-t5
 shared-slice-read-t5 c = search needs
 
--- src/stamp.rt:45:1
 returns : tie.Need-returns
 returns c =
     let a = c .before .before .before .before .args in

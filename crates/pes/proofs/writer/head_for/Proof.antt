@@ -3,7 +3,7 @@
 use borrow.Author.Needs.{needs}
 use native.Mathlib.Omega.{arith}
 use Prim.Native.Nat.{ℕ}
-use mathlib.Core.Path.{_≡_, ap, ap₂, _∙_}
+use mathlib.Core.Path.{ap, ap₂, _∙_}
 use Rattle.syntax.specs.Table.{writeTable}
 use Rattle.pes.specs.Tables.{head}
 use Rattle.pes.specs.Writing.{headValues, ptsDtsFlagsOf, extensionFlagOf}

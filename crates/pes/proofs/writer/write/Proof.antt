@@ -3,14 +3,14 @@
 use borrow.Author.Needs.{needs}
 use borrow.Author.Tests.{le-leb, lt-leb}
 use native.Mathlib.Omega.{arith}
-use Prim.Native.Nat.{ℕ, _+_, _≤_}
+use Prim.Native.Nat.{ℕ, _+_}
 use mathlib.Core.Path.{_≡_, refl, ap, sym, _∙_}
 use mathlib.Core.List.{_++_}
 use denote.Ref.{now}
 use lib.ListN.{length, drop}
 use Rattle.pes.specs.OwnShape.{Narrow}
 use Rattle.pes.specs.Placed.{placed-first}
-use Rattle.pes.specs.Writing.{headerOf, writeOf}
+use Rattle.pes.specs.Writing.{headerOf}
 use Rattle.pes.specs.WritingLaws.{narrow, header-length}
 use Rattle.pes.specs.declared.writer.Written.the-variants.{Bytes}
 use Rattle.pes.proofs.writer.write.Statement.{statement}
