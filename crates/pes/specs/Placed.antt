@@ -6,7 +6,7 @@ use mathlib.Core.List.{List, [], _++_, append-assoc, append-nil}
 use native.Mathlib.Omega.{arith}
 use lib.ListN.{length, take, drop, length-append, length-drop, drop-of-length-le, take-append-drop}
 use lib.Seq.{length-take-le, take-length, drop-append-add, drop-drop, take-at}
-use Rattle.pes.specs.Lists.{to-the-end}
+use Rattle.combinators.specs.Lists.{part-to-end}
 
 abbrev pub placed : ℕ → List ℕ → List ℕ → List ℕ
 placed at field out = take at out ++ (field ++ drop (at + length field) out)
@@ -66,7 +66,7 @@ placed-in-part at field out part room e =
     copied : part ≡ field ++ drop (at + length field) out
     copied =
         e
-        ∙ ap₂ _++_ (take-length field) (ap (drop (length field)) (to-the-end at out) ∙ drop-drop (length field) at out)
+        ∙ ap₂ _++_ (take-length field) (ap (drop (length field)) (part-to-end out at) ∙ drop-drop (length field) at out)
 
 -- A field put at a place: the place after it, and the buffer.
 pub record Put (at : ℕ) (field out : List ℕ) (next : ℕ) (exit : List ℕ) : Type 0 where

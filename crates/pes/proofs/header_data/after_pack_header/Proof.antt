@@ -10,7 +10,7 @@ use mathlib.Core.List.{List, [], _∷_}
 use denote.Ref.{now}
 use lib.ListN.{drop}
 use Rattle.syntax.specs.Named.{named}
-use Rattle.pes.specs.Lists.{to-the-end}
+use Rattle.combinators.specs.Lists.{part-to-end}
 use Rattle.pes.specs.Tables.{extensionFlags}
 use Rattle.pes.specs.HeaderData.{after, afterBuffer, afterPackHeader, secondExtensionOf}
 use Rattle.pes.specs.HeaderDataLaws.{all-as-one, after-fits, after-short, flag-of-counter, flag-of-buffer, flag-of-second}
@@ -70,7 +70,7 @@ returns-2 c =
     let flags = c .before .before .before .before .before .before .before .args .flags in
     let at = 2 * c .before .before .before .before .before .wide .result + 2 * c .before .before .before .before .wide2 .result in
     c .second-extension .ensures
-    ∙ ap secondExtensionOf (to-the-end at l)
+    ∙ ap secondExtensionOf (part-to-end l at)
     ∙ ap (λ (t : Bool). cond t (secondExtensionOf (drop at l)) (WithoutTref true)) (sym (eq-eqb _ 1 (flag-of-second flags ∙ c .before .before .if2 .taken)))
     ∙ sym (after-fits at l (afterBuffer flags) (c .before .before .before .if1 .left))
     ∙ skipped flags l (omega (arith, flag-of-counter flags, flag-of-buffer flags, c .before .before .before .before .before .wide .ensures, c .before .before .before .before .wide2 .ensures))

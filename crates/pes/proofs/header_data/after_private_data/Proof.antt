@@ -9,7 +9,7 @@ use mathlib.Core.Bool.{Bool, cond}
 use mathlib.Core.List.{List}
 use denote.Ref.{now}
 use lib.ListN.{getD}
-use Rattle.pes.specs.Lists.{to-the-end}
+use Rattle.combinators.specs.Lists.{part-to-end}
 use Rattle.pes.specs.HeaderData.{after, afterPackHeader, afterPrivateData}
 use Rattle.pes.specs.HeaderDataLaws.{after-after, after-fits, after-short}
 use Rattle.pes.proofs.header_data.after_private_data.Statement.{statement}
@@ -76,7 +76,7 @@ returns-4 c =
     let l = now (c .before .before .before .before .before .before .before .before .args .bytes) in
     let at = 1 + c .before .before .before .wide .result in
     c .after-pack-header2 .ensures
-    ∙ ap (afterPackHeader (c .before .before .before .before .before .before .before .before .args .flags)) (to-the-end at l)
+    ∙ ap (afterPackHeader (c .before .before .before .before .before .before .before .before .args .flags)) (part-to-end l at)
     ∙ sym (after-fits at l (afterPackHeader (c .before .before .before .before .before .before .before .before .args .flags)) (c .before .before .if3 .left))
     ∙ pack-header (c .before .before .before .before .before .before .before .before .args .flags) l (c .before .before .before .before .before .before .if1 .left) (ap (λ (n : ℕ). 1 + n) (c .before .before .before .wide .ensures))
 

@@ -6,7 +6,7 @@ use native.Mathlib.Omega.{arith}
 use mathlib.Core.Path.{ap, _∙_}
 use denote.Ref.{now}
 use lib.ListN.{length, drop, length-drop}
-use Rattle.pes.specs.Lists.{to-the-end}
+use Rattle.combinators.specs.Lists.{part-to-end}
 use Rattle.pes.specs.Tables.{tref}
 use Rattle.pes.specs.Stamps.{stampOf}
 use Rattle.pes.specs.HeaderData.{withMarker}
@@ -60,7 +60,7 @@ returns-5 c =
       tref-flagged _ (c .before .before .before .before .before .before .before .before .shared-slice-known .given 0 .fits) (c .before .before .before .before .before .if2 .left) (c .before .before .before .before .if3 .left),
       le-leb 5 (length (drop 1 l)) (omega (arith, length-drop 1 l, c .before .before .before .if4 .left)),
     )
-    (ap (λ (s : Stamp). WithTref (withMarker (c .before .before .before .before .before .before .before .before .before .args .marked) s)) (c .before .unprefixed .ensures ∙ ap (stampOf tref) (to-the-end 1 l)))
+    (ap (λ (s : Stamp). WithTref (withMarker (c .before .before .before .before .before .before .before .before .before .args .marked) s)) (c .before .unprefixed .ensures ∙ ap (stampOf tref) (part-to-end l 1)))
 
 pub extension-field-spec : {M : Type 1} → statement M
 extension-field-spec =

@@ -8,7 +8,7 @@ use mathlib.Core.List.{List}
 use denote.Ref.{now}
 use lib.ListN.{getD}
 use Rattle.syntax.specs.Named.{named}
-use Rattle.pes.specs.Lists.{to-the-end}
+use Rattle.combinators.specs.Lists.{part-to-end}
 use Rattle.pes.specs.Tables.{extensionFlags}
 use Rattle.pes.specs.HeaderData.{after, afterPrivateData, extensionOf}
 use Rattle.pes.specs.HeaderDataLaws.{after-after, after-fits, after-short, flag-of-private-data}
@@ -66,7 +66,7 @@ returns-3 c =
     let l = now (c .before .before .before .before .before .before .before .args .bytes) in
     let at = 1 + 16 * c .before .before .before .wide .result in
     c .after-private-data .ensures
-    ∙ ap (afterPrivateData (getD l 0 0)) (to-the-end at l)
+    ∙ ap (afterPrivateData (getD l 0 0)) (part-to-end l at)
     ∙ sym (after-fits at l (afterPrivateData (getD l 0 0)) (c .before .before .if2 .left))
     ∙ private-data l at (c .before .before .before .before .before .before .shared-slice-known .given 0 .fits) (ap (λ (n : ℕ). 1 + 16 * n) (c .before .before .before .wide .ensures))
 

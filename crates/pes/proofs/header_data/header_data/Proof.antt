@@ -9,7 +9,7 @@ use mathlib.Core.Bool.{Bool, true, cond}
 use mathlib.Core.List.{List}
 use denote.Ref.{now}
 use lib.ListN.{drop}
-use Rattle.pes.specs.Lists.{to-the-end}
+use Rattle.combinators.specs.Lists.{part-to-end}
 use Rattle.pes.specs.Tables.{packetFlags}
 use Rattle.pes.specs.HeaderData.{sum, flagsOf, fieldBytes, after, extensionOf, afterCrc, headerDataOf}
 use Rattle.pes.specs.HeaderDataLaws.{all-as-one, after-fits, after-short}
@@ -56,7 +56,7 @@ returns-2 c =
     let flags = c .before .before .before .before .before .before .args .flags in
     let at = c .before .before .before .before .before-extension .result in
     c .extension-of .ensures
-    ∙ ap extensionOf (to-the-end at l)
+    ∙ ap extensionOf (part-to-end l at)
     ∙ ap (λ (t : Bool). cond t (extensionOf (drop at l)) (WithoutTref true)) (sym (eq-eqb _ 1 (extension-flag flags ∙ c .before .before .if2 .taken)))
     ∙ sym (after-fits at l (afterCrc (flagsOf packetFlags flags)) (c .before .before .before .if1 .left))
     ∙ skipped flags l (c .before .before .before .before .before-extension .ensures)

@@ -8,7 +8,7 @@ use mathlib.Core.Path.{ap, ap₂, sym, subst, _∙_}
 use mathlib.Core.Bool.{Bool, cond}
 use denote.Ref.{now}
 use lib.ListN.{length, drop, length-drop}
-use Rattle.pes.specs.Lists.{to-the-end}
+use Rattle.combinators.specs.Lists.{part-to-end}
 use Rattle.pes.specs.Tables.{ptsAlone, ptsBeforeDts, dts}
 use Rattle.pes.specs.Stamps.{dtsFlag, stampOf, withDts, withoutDts, stampsOf}
 use Rattle.pes.proofs.stamp.pts_and_dts.Statement.{statement}
@@ -32,7 +32,7 @@ prefixed-by-requires-2 c κs =
     let l = now (a .bytes) in
     let long : 5 + 5 * dtsFlag 0b11 ≤ length l =
     subst (λ (f : ℕ). 5 + 5 * dtsFlag f ≤ length l) (c .before .before .if1 .taken) (c .before .before .before .before .pre) in
-    rw (to-the-end 5 l) (omega (arith, length-drop 5 l))
+    rw (part-to-end l 5) (omega (arith, length-drop 5 l))
 
 returns : tie.Need-returns
 returns c =
@@ -40,7 +40,7 @@ returns c =
     let l = now (a .bytes) in
     ap₂ withDts
     (c .before .before .before .before .prefixed-by .ensures)
-    (c .before .before .prefixed-by2 .ensures ∙ ap (stampOf dts) (to-the-end 5 l))
+    (c .before .before .prefixed-by2 .ensures ∙ ap (stampOf dts) (part-to-end l 5))
     ∙ ap (λ (f : ℕ). stampsOf f l) (sym (c .before .before .before .before .before .if1 .taken))
 
 prefixed-by-requires-3 : tie.Need-prefixed-by-requires-3
