@@ -9,7 +9,7 @@ use native.Mathlib.Nat.{le-of-lt, lt-of-le-of-lt, lt-irrefl, lt-of-lt-of-le}
 use native.Mathlib.Omega.{arith}
 use borrow.Author.Tests.{not-true}
 use lib.ListN.{getD}
-use Rattle.combinators.specs.Bools.{both-left, both-right}
+use Rattle.combinators.specs.Bools.{both-left, both-right, same-test}
 use Rattle.combinators.specs.Below.{some, seek, some-at, none-at, at-none, seek-first, seek-inside, first-seek}
 use Rattle.sets.specs.Sets.{has}
 use Rattle.sets.specs.Laws.{same-members, has-within}
@@ -22,12 +22,6 @@ use Rattle.closure.specs.Closures.{isLayer, restedOn, lacks, closureOf}
 use Rattle.closure.specs.Meaning.{Names, RestsOn, itself, by, Missing, LowestMissing, WholeClosure, Answers, no-such-layer, absent, complete}
 use Rattle.closure.specs.Reached.{layer-below-64, member-rests-on, rests-on-member, rests-on-at-most}
 use Rattle.closure.specs.Scan.{no-layer, none-missing, one-missing}
-
--- two tests that pass together are one
-same-test : (a b : Bool) → (a ≡ true → b ≡ true) → (b ≡ true → a ≡ true) → a ≡ b
-same-test true b f g = sym (f refl)
-same-test false true f g = g refl
-same-test false false f g = refl
 
 -- the definition's test for a missing index
 abbrev missingAt : Layers → ℕ → ℕ → Bool

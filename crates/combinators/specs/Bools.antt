@@ -1,6 +1,6 @@
 -- Tests joined and compared: the few laws of `&&`, `||` and of two tests that agree.
 -- Assumes nothing.
-use mathlib.Core.Path.{_≡_, refl}
+use mathlib.Core.Path.{_≡_, refl, sym}
 use mathlib.Core.Bool.{Bool, true, false, _&&_, _||_, Bool·beq}
 use lib.Dec.{T}
 
@@ -41,3 +41,9 @@ either-right false b p = p
 
 pub either-left : (a b : Bool) → a ≡ true → a || b ≡ true
 either-left a b p = rw p
+
+-- two tests that pass together are one
+pub same-test : (a b : Bool) → (a ≡ true → b ≡ true) → (b ≡ true → a ≡ true) → a ≡ b
+same-test true b f g = sym (f refl)
+same-test false true f g = g refl
+same-test false false f g = refl

@@ -3,7 +3,7 @@
 use Prim.Native.Nat.{ℕ, zero, suc, _+_, _-_, _≤_, _<_}
 use mathlib.Core.Path.{_≡_, refl, sym, ap, _∙_}
 use mathlib.Core.Bool.{Bool, true, false, _||_}
-use mathlib.Core.List.{List, [], _∷_, _++_, append-assoc, head-eq-of-cons-eq, tail-eq-of-cons-eq}
+use mathlib.Core.List.{List, [], _∷_, _++_, map, append-assoc, head-eq-of-cons-eq, tail-eq-of-cons-eq}
 use native.Mathlib.Omega.{arith}
 use native.Mathlib.Nat.{not-suc-le-zero, add-zero, zero-add, add-suc, suc-add}
 use native.Mathlib.Numerals.{add-one}
@@ -84,6 +84,16 @@ pub getD-nth : {A : Type 0} (l : List A) (k : ℕ) (d : A) → k < length l → 
 getD-nth [] k d h = absurd (not-suc-le-zero h)
 getD-nth (x ∷ xs) zero d h = here
 getD-nth (x ∷ xs) (suc k) d h = there (getD-nth xs k d (omega arith))
+
+-- one element stands at a place
+pub nth-one : {A : Type 0} {l : List A} {k : ℕ} {x y : A} → Nth l k x → Nth l k y → x ≡ y
+nth-one {y = y} n m = sym (nth-getD y n) ∙ nth-getD y m
+
+-- what stands in a list of which each element was taken by f
+pub nth-map : {A B : Type 0} (f : A → B) (l : List A) {k : ℕ} {y : B} → Nth (map f l) k y → (x : A) × Nth l k x × (f x ≡ y)
+nth-map f [] n = absurd (not-suc-le-zero (nth-inside n))
+nth-map f (x ∷ xs) here = (x, here, refl)
+nth-map f (x ∷ xs) (there n) = let w = nth-map f xs n in (w .0, there (w .1), w .2)
 
 -- an element of a list that passes a test
 pub any-true : {A : Type 0} (test : A → Bool) {l : List A} {k : ℕ} {x : A} → Nth l k x → test x ≡ true → any test l ≡ true

@@ -4,7 +4,7 @@ use Prim.Native.Nat.{ℕ, zero, suc, _≤_, _<_}
 use mathlib.Core.Path.{_≡_, refl, sym}
 use mathlib.Core.Logic.{_≢_}
 use mathlib.Core.Bool.{Bool, true, false, not, _&&_, _||_, or-assoc, or-false}
-use mathlib.Core.List.{List, [], _∷_, _++_}
+use mathlib.Core.List.{List, [], _∷_, _++_, map}
 use borrow.Author.Tests.{eq-eqb, ne-eqb, eqb-true, le-leb, ltb-true}
 use native.Mathlib.Nat.{not-suc-le-zero, le-of-suc-le-suc}
 use native.Mathlib.Omega.{arith}
@@ -12,6 +12,7 @@ use lib.Dec.{eqb, leb, ltb}
 use lib.ListN.{length, getD}
 use Rattle.combinators.specs.Bools.{both-left, both-right, either-left, either-right}
 use Rattle.combinators.specs.Below.{every, every-at}
+use Rattle.combinators.specs.Lists.{Nth, here, there}
 
 abbrev pub member : ℕ → List ℕ → Bool
 member x [] = false
@@ -63,3 +64,18 @@ member-which x (y ∷ ys) e = go (eqb x y) refl (member-which x ys)
         → (i : ℕ) × (i < suc (length ys)) × (getD (y ∷ ys) i 0 ≡ x)
     go true p later = (0, omega arith, sym (eqb-true x y p))
     go false p later = let w = later (rw p at e) in (suc (w .0), omega (arith, w .1), w .2)
+
+-- the same where f takes each element of a list to a number
+module _ {A : Type 0} (f : A → ℕ) where
+  pub nth-member : {l : List A} {k : ℕ} {x : A} → Nth l k x → member (f x) (map f l) ≡ true
+  nth-member (here {x} {xs}) = either-left (eqb (f x) (f x)) (member (f x) (map f xs)) (eq-eqb (f x) (f x) refl)
+  nth-member (there {x} {y} {xs} n) = either-right (eqb (f x) (f y)) (member (f x) (map f xs)) (nth-member n)
+
+  pub member-nth : (i : ℕ) (l : List A) → member i (map f l) ≡ true → (k : ℕ) × (x : A) × Nth l k x × (f x ≡ i)
+  member-nth i [] e = let z : _≡_ {A = ℕ} 0 1 = cc in absurd (omega arith)
+  member-nth i (x ∷ xs) e = go (eqb i (f x)) refl (member-nth i xs)
+    where
+      go : (b : Bool) → eqb i (f x) ≡ b → (member i (map f xs) ≡ true → (k : ℕ) × (y : A) × Nth xs k y × (f y ≡ i))
+          → (k : ℕ) × (y : A) × Nth (x ∷ xs) k y × (f y ≡ i)
+      go true p later = (0, x, here, sym (eqb-true i (f x) p))
+      go false p later = let w = later (rw p at e) in (suc (w .0), w .1, there (w .2), w .3)

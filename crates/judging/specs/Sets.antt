@@ -45,6 +45,9 @@ below-indices k set [] h f = h
 below-indices k set (i ∷ is) h f =
     below-indices k (added set i) is (added-within k set i h (f 0 (omega arith))) (λ j l. f (suc j) (omega arith))
 
+pub indices-within : (set : ℕ) (l : List ℕ) → set < 2 ^ 64 → withIndices set l < 2 ^ 64
+indices-within set l h = below-indices 64 set l h (λ j l k. k)
+
 module _ (r : Record) (layers : List LayerIndex) where
   -- The set that a record's names make holds an index exactly when the record names it, and no other number of 64 bits does so.
   pub names-in : (i : ℕ) → i < 64 → has (namesOf r layers) i ≡ member i (named r layers)
@@ -52,7 +55,7 @@ module _ (r : Record) (layers : List LayerIndex) where
 
   pub names-only : (set : ℕ) → set < 2 ^ 64 → ((i : ℕ) → i < 64 → has set i ≡ member i (named r layers)) → set ≡ namesOf r layers
   names-only set h f =
-      same-members-within 64 set (namesOf r layers) h (below-indices 64 0 (named r layers) (pow-pos 64) (λ j l k. k)) (λ i l. f i l ∙ sym (names-in i l))
+      same-members-within 64 set (namesOf r layers) h (indices-within 0 (named r layers) (pow-pos 64)) (λ i l. f i l ∙ sym (names-in i l))
 
   -- A layer that 9 does not refuse names lower layers alone: its set has no bit at its own index or above.
   pub names-lower : wrongEmbedded r layers ≡ false → namesOf r layers < 2 ^ indexOf r

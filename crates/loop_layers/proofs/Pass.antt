@@ -1,33 +1,29 @@
 -- The pass over the entries: the layers of one entry more.
 -- Assumes nothing.
-use Prim.Native.Nat.{ℕ, suc, _+_, _≤_, _<_, min}
-use mathlib.Core.Path.{_≡_, refl, sym, _∙_, ap, ap₂}
-use mathlib.Core.Bool.{Bool, cond}
-use mathlib.Core.List.{List, [], _∷_, _++_}
+use Prim.Native.Nat.{ℕ, _+_, _≤_, _<_, min}
+use mathlib.Core.Path.{_≡_, refl, sym, _∙_, ap}
+use mathlib.Core.List.{List, [], _∷_, _++_, map, map-append}
 use native.Mathlib.Decide.{decLt}
 use native.Mathlib.Numerals.{add-one}
 use native.Mathlib.Omega.{arith}
 use borrow.Author.Tests.{le-ltb}
-use lib.ListN.{length, getD, set, take, replicate, length-set, length-replicate}
+use lib.ListN.{length, getD, set, take, replicate, length-replicate}
 use lib.Seq.{take-suc, take-all, set-out}
-use Rattle.sets.specs.Sets.{joined, only, added}
+use Rattle.sets.specs.Sets.{added}
+use Rattle.judging.specs.Sets.{withIndices, indices-last}
 use Rattle.vocabulary.specs.declared.HierarchyChannel.{HierarchyChannel}
 use Rattle.es_loop.specs.declared.entries.Entry.{Entry}
 use Rattle.loop_layers.specs.declared.LayerTable.{LayerTable}
-use Rattle.loop_layers.specs.Layers.{placeOf, presentWith, columnWith, columnOf, embeddedIn, channelOf, tableOf}
+use Rattle.loop_layers.specs.Columns.{column-length}
+use Rattle.loop_layers.specs.Layers.{placeOf, presentIn, columnWith, columnOf, embeddedIn, channelOf, tableOf}
 
-present-last : (indices : ℕ) (l : List Entry) (e : Entry) → presentWith indices (l ++ e ∷ []) ≡ added (presentWith indices l) (placeOf e)
-present-last indices [] e = refl
-present-last indices (x ∷ xs) e = present-last (added indices (placeOf x)) xs e
+present-last : (l : List Entry) (e : Entry) → presentIn (l ++ e ∷ []) ≡ added (presentIn l) (placeOf e)
+present-last l e = ap (withIndices 0) (map-append placeOf l (e ∷ [])) ∙ indices-last 0 (placeOf e) (map placeOf l)
 
 column-last : {A : Type 0} (value : Entry → A) (column : List A) (l : List Entry) (e : Entry)
     → columnWith value column (l ++ e ∷ []) ≡ set (columnWith value column l) (placeOf e) (value e)
 column-last value column [] e = refl
 column-last value column (x ∷ xs) e = column-last value (set column (placeOf x) (value x)) xs e
-
-column-length : {A : Type 0} (value : Entry → A) (column : List A) (l : List Entry) → length (columnWith value column l) ≡ length column
-column-length value column [] = refl
-column-length value column (x ∷ xs) = column-length value (set column (placeOf x) (value x)) xs ∙ length-set column (placeOf x) (value x)
 
 -- a table, with the layer of one entry more
 abbrev withEntry : LayerTable → Entry → LayerTable
@@ -46,7 +42,7 @@ withEntry table e =
 table-last : (l : List Entry) (e : Entry) → tableOf (l ++ e ∷ []) ≡ withEntry (tableOf l) e
 table-last l e =
     rw (
-      present-last 0 l e,
+      present-last l e,
       column-last embeddedIn (replicate 64 0) l e,
       column-last (λ e. e .pid) (replicate 64 0) l e,
       column-last (λ e. e .«stream_type») (replicate 64 0) l e,

@@ -1,13 +1,12 @@
 -- THE LAYERS of a loop, taken from its entries: which indices are present, and by index what each layer has.
 -- Assumes nothing.
 use Prim.Native.Nat.{ℕ}
-use mathlib.Core.List.{List, [], _∷_}
+use mathlib.Core.List.{List, [], _∷_, map}
 use lib.ListN.{set, replicate}
-use Rattle.sets.specs.Sets.{added}
 use Rattle.vocabulary.specs.declared.HierarchyChannel.{HierarchyChannel}
 use Rattle.descriptors.specs.declared.records.Record.{Record}
 use Rattle.descriptors.specs.declared.records.Record.the-variants.{NoRecord, Hierarchy, Extension}
-use Rattle.judging.specs.Sets.{namesOf}
+use Rattle.judging.specs.Sets.{withIndices, namesOf}
 use Rattle.es_loop.specs.declared.entries.Entry.{Entry}
 use Rattle.es_loop.specs.Conditions.{slotOf}
 use Rattle.closure.specs.declared.Layers.{Layers}
@@ -18,12 +17,8 @@ abbrev pub placeOf : Entry → ℕ
 placeOf e = slotOf (e .«record»)
 
 -- the layer indices that the entries hold, as a set
-abbrev pub presentWith : ℕ → List Entry → ℕ
-presentWith indices [] = indices
-presentWith indices (e ∷ es) = presentWith (added indices (placeOf e)) es
-
 abbrev pub presentIn : List Entry → ℕ
-presentIn entries = presentWith 0 entries
+presentIn entries = withIndices 0 (map placeOf entries)
 
 -- a column: by layer index, what the layer of that index has, and a blank where there is no such layer
 abbrev pub columnWith : {A : Type 0} → (Entry → A) → List A → List Entry → List A

@@ -1,0 +1,229 @@
+-- What holds of the layers of an accepted loop, because the refusals were not given: an index has one layer (8), and a layer lists lower
+-- indices alone (9). So nothing that its entries say is lost on the way to its closures.
+-- Assumes nothing.
+use Prim.Native.Nat.{ℕ, _<_}
+use mathlib.Core.Path.{_≡_, refl, sym, _∙_, ap, ap₂, subst}
+use mathlib.Core.Bool.{Bool, true, false, cond, _&&_, true≢false}
+use mathlib.Core.List.{List, [], _∷_, _++_, map}
+use mathlib.Core.Logic.{_↔_}
+use native.Mathlib.Omega.{arith}
+use borrow.Author.Tests.{eq-eqb, ltb-false, leb-false, lt-ltb}
+use lib.Dec.{eqb, leb, ltb}
+use lib.ListN.{length, getD, take}
+use Rattle.combinators.specs.Below.{none-at}
+use Rattle.combinators.specs.Bools.{neither-left}
+use Rattle.combinators.specs.Lists.{Nth, nth-inside, nth-getD, nth-map, gather}
+use Rattle.combinators.specs.Lowest.{lowestNumber, earliestPlace, lowest-is}
+use Rattle.combinators.specs.Members.{member, member-which}
+use Rattle.framing.specs.Pieces.{Item, whole, broken, cut}
+use Rattle.vocabulary.specs.declared.stream_types.Reading.{Reading}
+use Rattle.vocabulary.specs.declared.stream_types.Reading.the-variants.{Edition2009, Edition2015}
+use Rattle.vocabulary.specs.declared.refusal.Refusal.{Refusal}
+use Rattle.vocabulary.specs.declared.refusal.Refusal.the-variants.{LoopTooLong}
+use Rattle.vocabulary.specs.StreamTypes.{known}
+use Rattle.descriptors.specs.Records.{hierarchyOf, extensionOf, embeddedOf}
+use Rattle.descriptors.specs.Looking.{Kind, does-not-fit, skipped, wrong-length, hierarchy, extension, tag4Kind, tag63Kind, descriptorTag, descriptorLength, kindOf, Held, heldIn, firstRecord, seenOf, nothingSeen}
+use Rattle.judging.specs.Judging.{indexOf, sameIndex, named, wrongAt, wrongEmbedded}
+use Rattle.es_loop.specs.declared.entries.Entry.{Entry}
+use Rattle.es_loop.specs.declared.entries.Stream.{Stream}
+use Rattle.es_loop.specs.declared.reader.Outcome.the-variants.{Accepted, Refused}
+use Rattle.es_loop.specs.Entries.{streamType, esInfoLength, noStream, streamOf, streamsOf, entryOf}
+use Rattle.es_loop.specs.Conditions.{streamAt, recordAt, applies, refusalOf}
+use Rattle.es_loop.specs.Reading.{refusedWith, accepted, judged, loopRead}
+use Rattle.closure.specs.Meaning.{Names}
+use Rattle.loop_layers.specs.Layers.{layersOf}
+use Rattle.loop_layers.specs.Closures.{entriesRead}
+use Rattle.loop_layers.specs.Meaning.{LayerAt, LayerOf}
+use Rattle.loop_layers.specs.Meant.{layers-meant, entries-read}
+
+-- ---- a layer index that was read has six bits
+
+cond-both : {A : Type 0} (P : A → Type 0) (b : Bool) (x y : A) → P x → P y → P (cond b x y)
+cond-both P true x y p q = p
+cond-both P false x y p q = q
+
+-- the index in a descriptor, if it has one
+abbrev SixBits : Kind → Type 0
+SixBits does-not-fit = Unit {0}
+SixBits skipped = Unit {0}
+SixBits wrong-length = Unit {0}
+SixBits (hierarchy h) = h .«layer_index» .0 < 64
+SixBits (extension x layers) = x .«layer_index» .0 < 64
+
+hierarchy-index : (reading : Reading) (payload : List ℕ) → (hierarchyOf reading payload) .«layer_index» .0 < 64
+hierarchy-index Edition2009 payload = omega arith
+hierarchy-index Edition2015 payload = omega arith
+
+extension-index : (payload : List ℕ) → (extensionOf payload) .«layer_index» .0 < 64
+extension-index payload = omega arith
+
+kind-index : (reading : Reading) (x : Item) → SixBits (kindOf reading x)
+kind-index reading broken = tt
+kind-index reading (whole head payload) =
+    cond-both SixBits (eqb (descriptorTag head) 4) (tag4Kind reading payload) (cond (eqb (descriptorTag head) 63) (tag63Kind reading payload) skipped)
+    (cond-both SixBits (eqb (length payload) 4) (hierarchy (hierarchyOf reading payload)) wrong-length (hierarchy-index reading payload) tt)
+    (cond-both SixBits (eqb (descriptorTag head) 63) (tag63Kind reading payload) skipped (tag63 reading) tt)
+  where
+    tag63 : (r : Reading) → SixBits (tag63Kind r payload)
+    tag63 Edition2009 = tt
+    tag63 Edition2015 =
+        cond-both SixBits (ltb 0 (length payload) && eqb (getD payload 0 0) 0x06) _ skipped
+        (cond-both SixBits (eqb (length payload) _) (extension (extensionOf payload) (embeddedOf payload)) wrong-length (extension-index payload) tt)
+        tt
+
+first-index : (reading : Reading) (items : List Item) → indexOf (firstRecord (gather heldIn (map (kindOf reading) items))) < 64
+first-index reading [] = omega arith
+first-index reading (x ∷ xs) = go (kindOf reading x) (kind-index reading x) (first-index reading xs)
+  where
+    later : List Held
+    later = gather heldIn (map (kindOf reading) xs)
+
+    go : (k : Kind) → SixBits k → indexOf (firstRecord later) < 64 → indexOf (firstRecord (heldIn k ++ later)) < 64
+    go does-not-fit s l = l
+    go skipped s l = l
+    go wrong-length s l = l
+    go (hierarchy h) s l = s
+    go (extension e layers) s l = s
+
+stream-index : (reading : Reading) (x : Item) → indexOf ((streamOf reading x) .seen .«record») < 64
+stream-index reading broken = omega arith
+stream-index reading (whole head info) = go (known reading (streamType head))
+  where
+    go : (b : Bool) → indexOf ((cond b (seenOf reading info) nothingSeen) .«record») < 64
+    go true = first-index reading (cut 2 descriptorLength info)
+    go false = omega arith
+
+-- ---- an accepted loop: no number applies at any entry
+
+never : {A : Type 0} {refusal : Refusal} → Refused refusal ≡ Accepted → A
+never e = let z : _≡_ {A = ℕ} 0 1 = cc in absurd (omega arith)
+
+record NoFault (reading : Reading) (bytes : List ℕ) : Type 0 where
+  is-read : loopRead reading bytes ≡ accepted (streamsOf reading bytes)
+  none : (n k : ℕ) → n < 11 → k < length (streamsOf reading bytes) → applies (streamsOf reading bytes) n k ≡ false
+
+no-fault : (reading : Reading) (bytes : List ℕ) → (loopRead reading bytes) .outcome ≡ Accepted → NoFault reading bytes
+no-fault reading bytes is-accepted = by-length (ltb 1008 (length bytes)) refl is-accepted
+  where
+    all : List Stream
+    all = streamsOf reading bytes
+
+    number : ℕ
+    number = lowestNumber (applies all) 11 (length all)
+
+    place : ℕ
+    place = earliestPlace (applies all) number (length all)
+
+    by-number : (b : Bool) → ltb number 11 ≡ b → (cond b (refusedWith (refusalOf number place)) (accepted all)) .outcome ≡ Accepted
+        → loopRead reading bytes ≡ judged all → NoFault reading bytes
+    by-number true p o e = never o
+    by-number false p o e =
+        record {
+          is-read = e ∙ ap (λ (b : Bool). cond b (refusedWith (refusalOf number place)) (accepted all)) p;
+          none = λ n k h l. lowest-is (applies all) 11 (length all) .lower n k (omega (arith, ltb-false number 11 p)) l;
+        }
+
+    by-length : (b : Bool) → ltb 1008 (length bytes) ≡ b → (cond b (refusedWith LoopTooLong) (judged all)) .outcome ≡ Accepted → NoFault reading bytes
+    by-length true p o = never o
+    by-length false p o = by-number (ltb number 11) refl o (ap (λ (b : Bool). cond b (refusedWith LoopTooLong) (judged all)) p)
+
+module _ (reading : Reading) (bytes : List ℕ) (is-accepted : (loopRead reading bytes) .outcome ≡ Accepted) where
+  abbrev pub entries : List Entry
+  entries = entriesRead (loopRead reading bytes)
+
+  abbrev streams : List Stream
+  streams = streamsOf reading bytes
+
+  fine : NoFault reading bytes
+  fine = no-fault reading bytes is-accepted
+
+  are-entries : entries ≡ map entryOf streams
+  are-entries = ap entriesRead (fine .is-read) ∙ entries-read streams
+
+  -- the stream of an entry
+  record StreamOf (k : ℕ) (e : Entry) : Type 0 where
+    item : Item
+    inside : k < length streams
+    at-place : streamAt streams k ≡ streamOf reading item
+    is-entry : entryOf (streamOf reading item) ≡ e
+
+  stream-of : {k : ℕ} {e : Entry} → Nth entries k e → StreamOf k e
+  stream-of {k} {e} n =
+      let w = nth-map entryOf streams (subst (λ (l : List Entry). Nth l k e) are-entries n) in
+      let v = nth-map (streamOf reading) (cut 5 esInfoLength bytes) (w .1) in
+      record {
+        item = v .0;
+        inside = nth-inside (w .1);
+        at-place = nth-getD noStream (w .1) ∙ sym (v .2);
+        is-entry = ap entryOf (v .2) ∙ w .2;
+      }
+
+  record-at : {k : ℕ} {e : Entry} → StreamOf k e → recordAt streams k ≡ e .«record»
+  record-at s = ap (λ (x : Stream). x .seen .«record») (s .at-place) ∙ ap (λ (x : Entry). x .«record») (s .is-entry)
+
+  embedded-at : {k : ℕ} {e : Entry} → StreamOf k e → (streamAt streams k) .seen .embedded ≡ e .embedded
+  embedded-at s = ap (λ (x : Stream). x .seen .embedded) (s .at-place) ∙ ap (λ (x : Entry). x .embedded) (s .is-entry)
+
+  -- an index is one of six bits
+  pub index-small : {k i : ℕ} {e : Entry} → LayerAt entries k i e → i < 64
+  index-small l =
+      let s = stream-of (l .entry) in
+      let same = ap (λ (x : Entry). indexOf (x .«record»)) (s .is-entry) ∙ l .index in
+      subst (λ (n : ℕ). n < 64) same (stream-index reading (s .item))
+
+  -- 8 was not given: no later layer has the index
+  not-again : {j k i : ℕ} {a b : Entry} → j < k → LayerAt entries j i a → LayerAt entries k i b → ⊥
+  not-again {j} {k} {i} {a} {b} h l m =
+      let s = stream-of (l .entry) in
+      let t = stream-of (m .entry) in
+      let unlike : sameIndex (recordAt streams j) (recordAt streams k) ≡ false =
+      none-at (λ n. sameIndex (recordAt streams n) (recordAt streams k)) k (fine .none 8 k (omega arith) (t .inside)) j h in
+      let like : sameIndex (a .«record») (b .«record») ≡ true =
+      ap₂ (λ (x y : Bool). x && y && eqb (indexOf (a .«record»)) (indexOf (b .«record»))) (l .layer) (m .layer)
+      ∙ eq-eqb (indexOf (a .«record»)) (indexOf (b .«record»)) (l .index ∙ sym (m .index)) in
+      true≢false (sym like ∙ sym (ap₂ sameIndex (record-at s) (record-at t)) ∙ unlike)
+
+  -- ONE LAYER of an index: each entry that is a layer is the layer of its index.
+  pub every-layer : {k i : ℕ} {e : Entry} → LayerAt entries k i e → LayerOf entries i e
+  every-layer {k} l = record { six-bits = index-small l; place = k; at-place = l; last = λ j x h m. not-again h l m }
+
+  -- 9 was not given: A LAYER LISTS LOWER INDICES ALONE.
+  pub listed-lower : {k i : ℕ} {e : Entry} (j : ℕ) → LayerAt entries k i e → member j (named (e .«record») (e .embedded)) ≡ true → j < i
+  listed-lower {k} {i} {e} j l m =
+      let s = stream-of (l .entry) in
+      let right : wrongEmbedded (e .«record») (e .embedded) ≡ false =
+      sym (ap₂ wrongEmbedded (record-at s) (embedded-at s)) ∙ fine .none 9 k (omega arith) (s .inside) in
+      let indices : List ℕ = named (e .«record») (e .embedded) in
+      let own : ℕ = indexOf (e .«record») in
+      let w = member-which j indices m in
+      let fine-there = none-at (wrongAt own indices) (length indices) right (w .0) (w .1) in
+      let below : getD indices (w .0) 0 < own =
+      leb-false own (getD indices (w .0) 0) (neither-left (leb own (getD indices (w .0) 0)) (member (getD indices (w .0) 0) (take (w .0) indices)) fine-there) in
+      omega (arith, l .index, w .2)
+
+  -- Layer i lists j, as the entries of the loop say it.
+  pub record Lists (i j : ℕ) : Type 0 where
+    pub place : ℕ
+    pub entry : Entry
+    pub layer : LayerAt entries place i entry
+    pub listed : member j (named (entry .«record») (entry .embedded)) ≡ true
+
+  -- NOTHING IS LOST: the step by which a target rests on more, `Names`, asks that j is below i, and that is so of all that is listed.
+  pub names-lists : (i j : ℕ) → Names (layersOf entries) i j ↔ Lists i j
+  names-lists i j = (to, from)
+    where
+      to : Names (layersOf entries) i j → Lists i j
+      to n =
+          let b = layers-meant entries .embedded i j .0 (n .embedded) in
+          record { place = b .layer .place; entry = b .entry; layer = b .layer .at-place; listed = b .listed }
+
+      from : Lists i j → Names (layersOf entries) i j
+      from l =
+          let lower : j < i = listed-lower j (l .layer) (l .listed) in
+          let small : i < 64 = index-small (l .layer) in
+          let whole = every-layer (l .layer) in
+          record {
+            in-loop = ap₂ _&&_ (lt-ltb i 64 small) (layers-meant entries .present i .1 (record { entry = l .entry; layer = whole }));
+            embedded = layers-meant entries .embedded i j .1 (record { entry = l .entry; layer = whole; listed = l .listed; six-bits = omega arith });
+            lower = lower;
+          }
