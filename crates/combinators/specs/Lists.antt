@@ -85,6 +85,10 @@ getD-nth [] k d h = absurd (not-suc-le-zero h)
 getD-nth (x ∷ xs) zero d h = here
 getD-nth (x ∷ xs) (suc k) d h = there (getD-nth xs k d (omega arith))
 
+pub getD-map : {A B : Type 0} (f : A → B) {l : List A} {k : ℕ} {x : A} (d : B) → Nth l k x → getD (map f l) k d ≡ f x
+getD-map f d here = refl
+getD-map f d (there n) = getD-map f d n
+
 -- an element of a list that passes a test
 pub any-true : {A : Type 0} (test : A → Bool) {l : List A} {k : ℕ} {x : A} → Nth l k x → test x ≡ true → any test l ≡ true
 any-true test (here {x} {xs}) e = either-left (test x) (any test xs) e
