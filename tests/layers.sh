@@ -7,7 +7,7 @@ failed=0
 
 # compare NAME: the loop is on standard input
 compare() {
-    if ./layers | diff "tests/layers/$1.txt" -; then
+    if scripts/run layers | diff "tests/layers/$1.txt" -; then
         echo "layers $1: as expected"
     else
         echo "layers $1: DIFFERS"

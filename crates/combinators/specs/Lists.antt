@@ -2,13 +2,13 @@
 -- Assumes nothing.
 use Prim.Native.Nat.{ℕ, zero, suc, _+_, _-_, _≤_, _<_}
 use mathlib.Core.Path.{_≡_, refl, sym, ap, _∙_}
-use mathlib.Core.Bool.{Bool, true, false, _||_}
-use mathlib.Core.List.{List, [], _∷_, _++_, map, append-assoc, head-eq-of-cons-eq, tail-eq-of-cons-eq}
+use mathlib.Core.Bool.{Bool, true, false, _||_, or-assoc, or-false}
+use mathlib.Core.List.{List, [], _∷_, _++_, map, append-nil, append-assoc, head-eq-of-cons-eq, tail-eq-of-cons-eq}
 use native.Mathlib.Omega.{arith}
 use native.Mathlib.Nat.{not-suc-le-zero, add-zero, zero-add, add-suc, suc-add}
 use native.Mathlib.Numerals.{add-one}
 use lib.ListN.{length, getD, take, drop, length-drop}
-use lib.Seq.{take-all, drop-cons, take-suc}
+use lib.Seq.{take-all, drop-cons, take-suc, length-take-le, getD-take}
 use Rattle.combinators.specs.Bools.{either-left, either-right}
 use Rattle.combinators.specs.Below.{First}
 
@@ -95,6 +95,10 @@ nth-map f [] n = absurd (not-suc-le-zero (nth-inside n))
 nth-map f (x ∷ xs) here = (x, here, refl)
 nth-map f (x ∷ xs) (there n) = let w = nth-map f xs n in (w .0, there (w .1), w .2)
 
+pub getD-map : {A B : Type 0} (f : A → B) {l : List A} {k : ℕ} {x : A} (d : B) → Nth l k x → getD (map f l) k d ≡ f x
+getD-map f d here = refl
+getD-map f d (there n) = getD-map f d n
+
 -- an element of a list that passes a test
 pub any-true : {A : Type 0} (test : A → Bool) {l : List A} {k : ℕ} {x : A} → Nth l k x → test x ≡ true → any test l ≡ true
 any-true test (here {x} {xs}) e = either-left (test x) (any test xs) e
@@ -122,3 +126,43 @@ handled-from P i (t ∷ ts) h (suc n) e = rw (add-suc i n, ← suc-add i n) (han
 
 pub handled : (P : ℕ → Type 0) (ts : List Bool) → Handled P 0 ts → (n : ℕ) → getD ts n false ≡ true → P n
 handled P ts h n e = rw zero-add at (handled-from P 0 ts h n e)
+
+-- ---- the first elements of a list: whether some of them pass a test, and what is gathered from them
+
+pub any-append : {A : Type 0} (test : A → Bool) (xs ys : List A) → any test (xs ++ ys) ≡ any test xs || any test ys
+any-append test [] ys = refl
+any-append test (x ∷ xs) ys = rw (any-append test xs ys, or-assoc (test x) (any test xs) (any test ys))
+
+pub any-map : {A B : Type 0} (test : B → Bool) (f : A → B) (l : List A) → any test (map f l) ≡ any (λ x. test (f x)) l
+any-map test f [] = refl
+any-map test f (x ∷ xs) = rw (any-map test f xs)
+
+pub gather-map : {A B C : Type 0} (f : B → List C) (g : A → B) (l : List A) → gather f (map g l) ≡ gather (λ x. f (g x)) l
+gather-map f g [] = refl
+gather-map f g (x ∷ xs) = rw (gather-map f g xs)
+
+module _ {A : Type 0} (l : List A) (d : A) where
+  -- one element more
+  take-next : (i : ℕ) → i < length l → take (i + 1) l ≡ take i l ++ (getD l i d ∷ [])
+  take-next i h = rw (add-one i) (take-suc l i d h)
+
+  pub any-next : (test : A → Bool) (i : ℕ) → i < length l → any test (take (i + 1) l) ≡ any test (take i l) || test (getD l i d)
+  any-next test i h =
+      rw (take-next i h) (any-append test (take i l) (getD l i d ∷ []) ∙ rw (or-false (test (getD l i d))))
+
+  pub gather-next : {B : Type 0} (f : A → List B) (i : ℕ) → i < length l → gather f (take (i + 1) l) ≡ gather f (take i l) ++ f (getD l i d)
+  gather-next f i h =
+      rw (take-next i h) (gather-append f (take i l) (getD l i d ∷ []) ∙ rw (append-nil (f (getD l i d))))
+
+  -- one of the first n passes
+  pub any-found : (test : A → Bool) (n i : ℕ) → i < n → n ≤ length l → test (getD l i d) ≡ true → any test (take n l) ≡ true
+  any-found test n i h k e =
+      any-true test (getD-nth (take n l) i d (rw (length-take-le n l k) h)) (rw (getD-take n l i d h) e)
+
+  -- none of the first n passes
+  pub any-none : (test : A → Bool) (n i : ℕ) → i < n → n ≤ length l → any test (take n l) ≡ false → test (getD l i d) ≡ false
+  any-none test n i h k e = go (test (getD l i d)) refl
+    where
+      go : (b : Bool) → test (getD l i d) ≡ b → test (getD l i d) ≡ false
+      go false p = p
+      go true p = let found : any test (take n l) ≡ true = any-found test n i h k p in let z : _≡_ {A = ℕ} 0 1 = cc in absurd (omega arith)

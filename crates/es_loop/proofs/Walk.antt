@@ -2,7 +2,7 @@
 -- Assumes nothing.
 use Prim.Native.Nat.{ℕ, zero, suc, _+_, _-_, _*_, _≤_, _<_}
 use mathlib.Core.Path.{_≡_, refl, sym, _∙_, ap, subst}
-use mathlib.Core.Bool.{Bool, true, false, cond, not, _&&_, _||_, and-false}
+use mathlib.Core.Bool.{Bool, true, false, cond, not, _&&_, _||_}
 use mathlib.Core.List.{List, [], _∷_, _++_, map, append-nil}
 use native.Mathlib.Omega.{arith}
 use native.Mathlib.Nat.{not-suc-le-zero}
@@ -11,7 +11,7 @@ use borrow.Author.Tests.{lt-ltb, le-ltb, ltb-true}
 use lib.Dec.{eqb, ltb}
 use lib.ListN.{length, getD, take, drop, set, replicate, length-drop, drop-of-length-le, length-map}
 use lib.Seq.{drop-drop, take-all, take-take, take-add, drop-at, length-take-le}
-use Rattle.combinators.specs.Below.{some, First, some-same, at-none}
+use Rattle.combinators.specs.Below.{First}
 use Rattle.combinators.specs.Lists.{firstTrue, first-true, Next, next}
 use Rattle.combinators.specs.Lowest.{Lowest, lowest-start, lowest-replace, lowest-keep}
 use Rattle.combinators.specs.Marks.{Marks, marks-start, marks-step}
@@ -21,7 +21,7 @@ use Rattle.vocabulary.specs.declared.stream_types.Reading.{Reading}
 use Rattle.vocabulary.specs.declared.refusal.Refusal.{Refusal}
 use Rattle.vocabulary.specs.declared.refusal.Refusal.the-variants.{DoesNotFit}
 use Rattle.descriptors.specs.declared.records.Record.{Record}
-use Rattle.judging.specs.Judging.{isLayer, indexOf, sameIndex}
+use Rattle.judging.specs.Judging.{isLayer, indexOf}
 use Rattle.es_loop.specs.declared.entries.Entry.{Entry}
 use Rattle.es_loop.specs.declared.entries.Stream.{Stream}
 use Rattle.es_loop.specs.declared.faults.Fault.{Fault}
@@ -29,30 +29,9 @@ use Rattle.es_loop.specs.declared.reader.Outcome.the-variants.{Accepted}
 use Rattle.es_loop.specs.declared.reader.LoopRead.{LoopRead}
 use Rattle.es_loop.specs.Entries.{noStream, esInfoLength, sizeOf, streamOf, streamsOf, entryOf, blankEntry, entriesOf}
 use Rattle.es_loop.specs.Conditions.{streamAt, pidAt, recordAt, repeatedPid, repeatedIndex, conditions, applies, refusalOf, slotOf, lowerOf}
+use Rattle.es_loop.specs.Marked.{marked-tests}
 use Rattle.es_loop.specs.Reading.{refusedWith, accepted, judged}
 use Rattle.es_loop.specs.Judged.{judged-refused, judged-accepted}
-
--- A mark for each slot says whether an earlier layer holds the index; a stream that is no layer asks none.
-held-before : (streams : List Stream) (n : ℕ) (r : Record) (held : List Bool) → indexOf r < 256
-    → Marks 257 (λ j. slotOf (recordAt streams j)) n held
-    → (isLayer r && getD held (slotOf r) false) ≡ some (λ j. sameIndex (recordAt streams j) r) n
-held-before streams n r held small m = go (isLayer r) refl
-  where
-    layer : (s : Record) (i : ℕ) → i < 256 → (b : Bool) → isLayer s ≡ b → eqb (slotOf s) i ≡ ((isLayer s && true) && eqb (indexOf s) i)
-    layer s i h true p = rw p
-    layer s i h false p = rw (p, borrow.Author.Tests.ne-eqb 256 i (omega arith))
-
-    go : (b : Bool) → isLayer r ≡ b → (isLayer r && getD held (slotOf r) false) ≡ some (λ j. sameIndex (recordAt streams j) r) n
-    go true p =
-        rw p
-        (m .marked (indexOf r) (omega arith)
-        ∙ some-same (λ j. eqb (slotOf (recordAt streams j)) (indexOf r)) _ n
-        (λ k h. layer (recordAt streams k) (indexOf r) small (isLayer (recordAt streams k)) refl))
-    go false p =
-        rw p
-        (sym
-        (at-none (λ j. (isLayer (recordAt streams j) && false) && eqb (indexOf (recordAt streams j)) (indexOf r)) n
-        (λ k h. rw (and-false (isLayer (recordAt streams k))))))
 
 -- the sizes and keys that the walk meets
 pub size-large : (left : List ℕ) → 5 ≤ sizeOf left
@@ -64,13 +43,6 @@ size-large left = go (ltb (length left) 5) refl
 
 pub pid-below : (reading : Reading) (head info : List ℕ) → (streamOf reading (whole head info)) .pid < 8192
 pid-below reading head info = omega arith
-
-pub slot-below : (r : Record) → indexOf r < 256 → slotOf r < 257
-slot-below r h = go (isLayer r) refl
-  where
-    go : (b : Bool) → isLayer r ≡ b → slotOf r < 257
-    go true p = rw p (omega arith)
-    go false p = rw p (omega arith)
 
 -- The first entry that does not fit, where all before it have only higher numbers.
 pub does-not-fit : (streams : List Stream) (number place count : ℕ) → count < length streams → (streamAt streams count) .fits ≡ false
@@ -137,12 +109,7 @@ module _ (reading : Reading) (bytes : List ℕ) where
     here = entry .here noStream
 
     same-tests : conditions (repeatedPid all count) (repeatedIndex all count) (streamAt all count) ≡ tests
-    same-tests =
-        ap
-        (λ (t : Stream). conditions (some (λ j. eqb (pidAt all j) (t .pid)) count) (some (λ j. sameIndex (recordAt all j) (t .seen .«record»)) count) t)
-        here
-        ∙ ap (λ (b : Bool). conditions b (some (λ j. sameIndex (recordAt all j) (s .seen .«record»)) count) s) (sym (known .pids .marked (s .pid) pid-small))
-        ∙ ap (λ (b : Bool). conditions (getD marks (s .pid) false) b s) (sym (held-before all count (s .seen .«record») held index-small (known .indices)))
+    same-tests = marked-tests all count marks held (known .pids) (known .indices) s here pid-small index-small
 
     first : First (λ n. applies all n count) 11 (firstTrue tests)
     first = subst (λ (ts : List Bool). First (λ n. getD ts n false) 11 (firstTrue tests)) (sym same-tests) (first-true tests)

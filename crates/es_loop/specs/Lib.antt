@@ -1,5 +1,6 @@
 pub mod Entries
 pub mod Conditions
+pub mod Marked
 pub mod Reading
 pub mod Judged
 pub mod Meaning

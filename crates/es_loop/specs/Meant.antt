@@ -12,7 +12,7 @@ use lib.Dec.{eqb, ltb}
 use lib.ListN.{length, getD, length-map}
 use Rattle.combinators.specs.Below.{some, some-at, some-which}
 use Rattle.combinators.specs.Bools.{both-left, both-right}
-use Rattle.combinators.specs.Lists.{Nth, here, there, nth-inside, nth-getD, getD-nth, any, any-true, any-which, gather, handled}
+use Rattle.combinators.specs.Lists.{Nth, here, there, nth-inside, nth-getD, getD-nth, getD-map, any, any-true, any-which, gather, handled}
 use Rattle.combinators.specs.Lowest.{Lowest, lowestNumber, earliestPlace, lowest-is}
 use Rattle.combinators.specs.Padding.{padTo}
 use Rattle.framing.specs.Pieces.{Item, whole, broken, Cuts, nothing-left, does-not-fit as cut-short, piece, cut, cut-cuts, cuts-unique}
@@ -36,10 +36,6 @@ use Rattle.es_loop.specs.declared.reader.LoopRead.{LoopRead}
 use Rattle.es_loop.specs.Reading.{refusedWith, accepted, answerAt, judged, loopRead}
 use Rattle.es_loop.specs.Judged.{judged-refused, judged-accepted}
 use Rattle.es_loop.specs.Meaning.{KnownAt, LayerAt, Condition, entry-unfit, descriptor-unfit, pid-seen, length-wrong, two-records, type-wrong, flags-wrong, index-held, embedded-wrong, embedded-many, Answers, too-long, refuses, accepts}
-
-getD-map : {A B : Type 0} (f : A → B) {l : List A} {k : ℕ} {x : A} (d : B) → Nth l k x → getD (map f l) k d ≡ f x
-getD-map f d here = refl
-getD-map f d (there n) = getD-map f d n
 
 -- CONDITIONS TO TESTS.
 module _ (reading : Reading) (entries : List Item) where

@@ -1,11 +1,11 @@
 -- A table at unknown bytes or unknown values: how a law on its lists comes down to equations of numbers, which one `omega` proves.
 -- Assumes nothing.
-use Prim.Native.Nat.{ℕ, _/_, _%_, _^_}
+use Prim.Native.Nat.{ℕ, _/_, _%_, _^_, _<_}
 use mathlib.Core.Path.{_≡_, refl, ap, ap₂, _∙_}
 use mathlib.Core.Bool.{Bool, true, _&&_, and-true, and-assoc}
 use mathlib.Core.List.{List, [], _∷_}
 use lib.Dec.{eqb}
-use Rattle.syntax.specs.Table.{value, reserved, fixed, Table, bits, fixedHold}
+use Rattle.syntax.specs.Table.{value, reserved, fixed, Table, bits, fixedHold, Fit, none, at-value, at-reserved, at-fixed}
 
 -- two lists, element by element: at lists that are written out this is one equation for each place
 abbrev pub Each : List ℕ → List ℕ → Type 0
@@ -46,3 +46,17 @@ fixed-after before (fixed w b ∷ t) n = rw (← and-assoc) (fixed-after (before
 
 pub fixed-at : (t : Table) (n : ℕ) (fs : List ℕ) → Each (fixedOf t n) fs → fixedHold t n ≡ tests t fs
 fixed-at t n fs e = fixed-after true t n ∙ ap (tests t) (each e)
+
+-- values that fit a table, value by value: at a list that is written out this is one bound for each
+abbrev pub Bounds : Table → List ℕ → Type 0
+Bounds [] vs = Unit {0}
+Bounds (value w name ∷ t) [] = ⊥
+Bounds (value w name ∷ t) (v ∷ vs) = (v < 2 ^ w) × Bounds t vs
+Bounds (reserved w ∷ t) vs = Bounds t vs
+Bounds (fixed w b ∷ t) vs = Bounds t vs
+
+pub bounds : {t : Table} {vs : List ℕ} → Fit t vs → Bounds t vs
+bounds none = tt
+bounds (at-value h fit) = (h, bounds fit)
+bounds (at-reserved fit) = bounds fit
+bounds (at-fixed fit) = bounds fit

@@ -1,0 +1,93 @@
+-- The answer of writing a loop and the buffer's content, from what the tests on the way say.
+-- Assumes nothing.
+use Prim.Native.Nat.{ℕ, _+_, _≤_, _<_, min}
+use mathlib.Core.Path.{_≡_, refl, sym, _∙_, ap}
+use mathlib.Core.Bool.{Bool, true, false, cond, _||_}
+use mathlib.Core.List.{List, _++_}
+use native.Mathlib.Omega.{arith}
+use native.Mathlib.Nat.{zero-add}
+use native.Mathlib.Decide.{decLt}
+use borrow.Author.Tests.{lt-ltb, le-ltb}
+use lib.Dec.{ltb}
+use lib.ListN.{length, take, drop}
+use lib.Seq.{take-all}
+use Rattle.combinators.specs.Bools.{either-left, either-right}
+use Rattle.combinators.specs.Lists.{any}
+use Rattle.combinators.specs.Lowest.{Lowest, lowestNumber, earliestPlace, lowest-number, earliest-place}
+use Rattle.text.specs.Text.{Laid}
+use Rattle.text.specs.Laws.{placed-whole}
+use Rattle.vocabulary.specs.declared.refusal.Refusal.{Refusal}
+use Rattle.vocabulary.specs.declared.refusal.Refusal.the-variants.{LoopTooLong, NoRoom, TooWide}
+use Rattle.es_loop.specs.declared.entries.Entry.{Entry}
+use Rattle.es_loop.specs.Conditions.{refusalOf}
+use Rattle.loop_writer.specs.declared.Written.{Written}
+use Rattle.loop_writer.specs.declared.Written.the-variants.{Bytes, Refused}
+use Rattle.loop_writer.specs.Layout.{loopBytes, tooWide}
+use Rattle.loop_writer.specs.Writing.{appliesTo, inRoom, judgedIn, answer, contentAfter, content}
+
+-- a count beyond the array takes all of it
+pub within-array : (array : List Entry) (count given : ℕ) → length array ≡ 201 → given ≡ min count 201 → take given array ≡ take count array
+within-array array count given long e = go (decLt count 201)
+  where
+    go : Dec (count < 201) → take given array ≡ take count array
+    go (yes h) = let same : given ≡ count = omega arith in rw same
+    go (no h) = take-all given array (omega arith) ∙ sym (take-all count array (omega arith))
+
+module _ (count : ℕ) (array : List Entry) (old : List ℕ) where
+  abbrev given : List Entry
+  given = take count array
+
+  -- what a call promises of its answer and of the buffer
+  abbrev pub Promised : Written → List ℕ → Type 0
+  Promised w new = (w ≡ answer (length old) count array) × (new ≡ content count array old)
+
+  refused : (r : Refusal) → answer (length old) count array ≡ Refused r → Promised (Refused r) old
+  refused r e = (sym e, sym (ap (λ (w : Written). contentAfter w (loopBytes given) old) e))
+
+  pub some-wide : any tooWide given ≡ true → Promised (Refused TooWide) old
+  some-wide e = refused TooWide (rw e)
+
+  module _ (none-wide : any tooWide given ≡ false) where
+    too-long : (ltb 201 count || ltb 1008 (length (loopBytes given))) ≡ true → Promised (Refused LoopTooLong) old
+    too-long e = refused LoopTooLong (rw (none-wide, e))
+
+    pub too-many : 201 < count → Promised (Refused LoopTooLong) old
+    too-many h = too-long (either-left (ltb 201 count) (ltb 1008 (length (loopBytes given))) (lt-ltb 201 count h))
+
+    pub too-large : 1008 < length (loopBytes given) → Promised (Refused LoopTooLong) old
+    too-large h = too-long (either-right (ltb 201 count) (ltb 1008 (length (loopBytes given))) (lt-ltb 1008 (length (loopBytes given)) h))
+
+    module _ (few : count ≤ 201) (short : length (loopBytes given) ≤ 1008) (number place : ℕ)
+        (lowest : Lowest (appliesTo given) 11 (length given) number place) where
+      is-lowest : number ≡ lowestNumber (appliesTo given) 11 (length given)
+      is-lowest = lowest-number (appliesTo given) 11 (length given) number place lowest
+
+      -- the answer at the number that was found
+      abbrev answerAt : ℕ → Written
+      answerAt n =
+          cond (ltb n 11) (Refused (refusalOf n (earliestPlace (appliesTo given) n (length given)))) (inRoom (length old) (length (loopBytes given)))
+
+      found : answer (length old) count array ≡ answerAt number
+      found = rw (none-wide, le-ltb 201 count few, le-ltb 1008 (length (loopBytes given)) short) (ap answerAt (sym is-lowest))
+
+      pub applies-to-one : number < 11 → Promised (Refused (refusalOf number place)) old
+      applies-to-one h =
+          refused (refusalOf number place)
+          (found ∙ rw (lt-ltb number 11 h, ← earliest-place (appliesTo given) 11 (length given) number place lowest h))
+
+      module _ (none : 11 ≤ number) where
+        in-room : answer (length old) count array ≡ inRoom (length old) (length (loopBytes given))
+        in-room = found ∙ rw (le-ltb number 11 none)
+
+        pub no-room : length old < length (loopBytes given) → Promised (Refused NoRoom) old
+        no-room h = refused NoRoom (in-room ∙ rw (lt-ltb (length old) (length (loopBytes given)) h))
+
+        pub written : length (loopBytes given) ≤ length old → (next : ℕ) (new : List ℕ) → Laid old 0 (loopBytes given) next new
+            → Promised (Bytes (length (loopBytes given))) new
+        written h next new laid =
+            let size : ℕ = length (loopBytes given) in
+            let e : answer (length old) count array ≡ Bytes size = in-room ∙ rw (le-ltb (length old) size h) in (
+              sym e,
+              laid .content ∙ placed-whole old 0 (loopBytes given) (omega arith) ∙ ap (λ (n : ℕ). loopBytes given ++ drop n old) (zero-add size)
+                  ∙ sym (ap (λ (w : Written). contentAfter w (loopBytes given) old) e),
+            )

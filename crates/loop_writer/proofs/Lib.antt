@@ -1,0 +1,4 @@
+pub mod Wide
+pub mod Pieces
+pub mod Walk
+pub mod Answers

@@ -1,0 +1,5 @@
+pub mod Layout
+pub mod Writing
+pub mod Sizes
+pub mod Bytes
+pub mod Judged
