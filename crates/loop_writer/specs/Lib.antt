@@ -2,4 +2,6 @@ pub mod Layout
 pub mod Writing
 pub mod Sizes
 pub mod Bytes
+pub mod ReadBack
+pub mod Verdicts
 pub mod Judged
