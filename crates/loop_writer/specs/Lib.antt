@@ -4,4 +4,5 @@ pub mod Sizes
 pub mod Bytes
 pub mod ReadBack
 pub mod Verdicts
+pub mod RoundTrip
 pub mod Judged
