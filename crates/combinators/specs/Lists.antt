@@ -9,7 +9,7 @@ use native.Mathlib.Nat.{not-suc-le-zero, add-zero, zero-add, add-suc, suc-add}
 use native.Mathlib.Numerals.{add-one}
 use lib.ListN.{length, getD, take, drop, length-drop}
 use lib.Seq.{take-all, drop-cons, take-suc, length-take-le, getD-take}
-use Rattle.combinators.specs.Bools.{either-left, either-right}
+use Rattle.combinators.specs.Bools.{neither-left, neither-right, either-left, either-right}
 use Rattle.combinators.specs.Below.{First}
 
 module _ {A : Type 0} where
@@ -90,19 +90,27 @@ pub nth-one : {A : Type 0} {l : List A} {k : ℕ} {x y : A} → Nth l k x → Nt
 nth-one {y = y} n m = sym (nth-getD y n) ∙ nth-getD y m
 
 -- what stands in a list of which each element was taken by f
-pub nth-map : {A B : Type 0} (f : A → B) (l : List A) {k : ℕ} {y : B} → Nth (map f l) k y → (x : A) × Nth l k x × (f x ≡ y)
-nth-map f [] n = absurd (not-suc-le-zero (nth-inside n))
-nth-map f (x ∷ xs) here = (x, here, refl)
-nth-map f (x ∷ xs) (there n) = let w = nth-map f xs n in (w .0, there (w .1), w .2)
+pub nth-of-map : {A B : Type 0} (f : A → B) (l : List A) {k : ℕ} {y : B} → Nth (map f l) k y → (x : A) × Nth l k x × (f x ≡ y)
+nth-of-map f [] n = absurd (not-suc-le-zero (nth-inside n))
+nth-of-map f (x ∷ xs) here = (x, here, refl)
+nth-of-map f (x ∷ xs) (there n) = let w = nth-of-map f xs n in (w .0, there (w .1), w .2)
+
+pub nth-map : {A B : Type 0} (f : A → B) {l : List A} {k : ℕ} {x : A} → Nth l k x → Nth (map f l) k (f x)
+nth-map f here = here
+nth-map f (there n) = there (nth-map f n)
 
 pub getD-map : {A B : Type 0} (f : A → B) {l : List A} {k : ℕ} {x : A} (d : B) → Nth l k x → getD (map f l) k d ≡ f x
-getD-map f d here = refl
-getD-map f d (there n) = getD-map f d n
+getD-map f d n = nth-getD d (nth-map f n)
 
 -- an element of a list that passes a test
 pub any-true : {A : Type 0} (test : A → Bool) {l : List A} {k : ℕ} {x : A} → Nth l k x → test x ≡ true → any test l ≡ true
 any-true test (here {x} {xs}) e = either-left (test x) (any test xs) e
 any-true test (there {x} {y} {xs} n) e = either-right (test y) (any test xs) (any-true test n e)
+
+-- where none passes, each fails
+pub any-false : {A : Type 0} (test : A → Bool) {l : List A} {k : ℕ} {x : A} → any test l ≡ false → Nth l k x → test x ≡ false
+any-false test e (here {x} {xs}) = neither-left (test x) (any test xs) e
+any-false test e (there {x} {y} {xs} n) = any-false test (neither-right (test y) (any test xs) e) n
 
 -- where some element passes, one can be named
 pub any-which : {A : Type 0} (test : A → Bool) (l : List A) → any test l ≡ true → (k : ℕ) × (x : A) × Nth l k x × (test x ≡ true)
@@ -161,8 +169,5 @@ module _ {A : Type 0} (l : List A) (d : A) where
 
   -- none of the first n passes
   pub any-none : (test : A → Bool) (n i : ℕ) → i < n → n ≤ length l → any test (take n l) ≡ false → test (getD l i d) ≡ false
-  any-none test n i h k e = go (test (getD l i d)) refl
-    where
-      go : (b : Bool) → test (getD l i d) ≡ b → test (getD l i d) ≡ false
-      go false p = p
-      go true p = let found : any test (take n l) ≡ true = any-found test n i h k p in let z : _≡_ {A = ℕ} 0 1 = cc in absurd (omega arith)
+  any-none test n i h k e =
+      ap test (sym (getD-take n l i d h)) ∙ any-false test e (getD-nth (take n l) i d (rw (length-take-le n l k) h))

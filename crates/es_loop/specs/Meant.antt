@@ -305,7 +305,7 @@ condition-number reading entries (index-held h l l′ p) = omega arith
 condition-number reading entries (embedded-wrong l w) = omega arith
 condition-number reading entries (embedded-many l w) = omega arith
 
-by-head : (head rest : List ℕ) → length head ≡ 5 → esInfoLength (head ++ rest) ≡ esInfoLength head
+pub by-head : (head rest : List ℕ) → length head ≡ 5 → esInfoLength (head ++ rest) ≡ esInfoLength head
 by-head head rest h = ap (λ (vs : List ℕ). getD vs 2 0) (read-before entryHead head rest (omega arith))
 
 both-ways : {b : Bool} → b ≡ true → b ≡ false → ⊥

@@ -12,7 +12,7 @@ use lib.Dec.{eqb, leb, ltb}
 use lib.ListN.{length, getD, take}
 use Rattle.combinators.specs.Below.{none-at}
 use Rattle.combinators.specs.Bools.{neither-left}
-use Rattle.combinators.specs.Lists.{Nth, nth-inside, nth-getD, nth-map, gather}
+use Rattle.combinators.specs.Lists.{Nth, nth-inside, nth-getD, nth-of-map, gather}
 use Rattle.combinators.specs.Lowest.{lowestNumber, earliestPlace, lowest-is}
 use Rattle.combinators.specs.Members.{member, member-which}
 use Rattle.framing.specs.Pieces.{Item, whole, broken, cut}
@@ -149,8 +149,8 @@ module _ (reading : Reading) (bytes : List ℕ) (is-accepted : (loopRead reading
 
   stream-of : {k : ℕ} {e : Entry} → Nth entries k e → StreamOf k e
   stream-of {k} {e} n =
-      let w = nth-map entryOf streams (subst (λ (l : List Entry). Nth l k e) are-entries n) in
-      let v = nth-map (streamOf reading) (cut 5 esInfoLength bytes) (w .1) in
+      let w = nth-of-map entryOf streams (subst (λ (l : List Entry). Nth l k e) are-entries n) in
+      let v = nth-of-map (streamOf reading) (cut 5 esInfoLength bytes) (w .1) in
       record {
         item = v .0;
         inside = nth-inside (w .1);

@@ -78,7 +78,7 @@ recordSize NoRecord = 0
 recordSize (Hierarchy h) = 6
 recordSize (Extension x) = 9 + x .«num_embedded_layers»
 
-length-layers : (layers : List LayerIndex) → length (gather bytesIn (map layerTable layers)) ≡ length layers
+pub length-layers : (layers : List LayerIndex) → length (gather bytesIn (map layerTable layers)) ≡ length layers
 length-layers [] = refl
 length-layers (index ∷ layers) =
     length-append (bytesIn (layerTable index)) (gather bytesIn (map layerTable layers)) ∙ rw (length-layers layers) (omega arith)

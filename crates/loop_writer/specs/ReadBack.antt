@@ -1,0 +1,219 @@
+-- WHAT READING SEES OF WHAT WAS WRITTEN, under the 2015 reading, entry by entry.
+-- Assumes nothing.
+use Prim.Native.Nat.{ℕ, _+_, _≤_, _<_}
+use mathlib.Core.Path.{_≡_, refl, sym, _∙_, ap, ap₂, subst}
+use mathlib.Core.Bool.{Bool, true, false, cond, _&&_}
+use mathlib.Core.List.{List, [], _∷_, _++_, map, append-nil, append-assoc}
+use native.Mathlib.Omega.{arith}
+use borrow.Author.Tests.{lt-ltb, eq-eqb}
+use lib.Dec.{eqb, ltb}
+use lib.ListN.{length, getD, take, drop, length-append}
+use lib.Seq.{length-take-le}
+use Rattle.combinators.specs.Bools.{neither-left, neither-right}
+use Rattle.combinators.specs.Lists.{Nth, here, there, any, gather}
+use Rattle.combinators.specs.Padding.{padTo}
+use Rattle.framing.specs.Pieces.{Item, whole, cut, Cuts, nothing-left, piece, cuts-unique}
+use Rattle.syntax.specs.Table.{Table, readTable, writeTable, Fit, Sound}
+use Rattle.syntax.specs.Laws.{read-before, read-write, length-written}
+use Rattle.syntax.specs.Equations.{bounds}
+use Rattle.vocabulary.specs.declared.LayerIndex.{LayerIndex}
+use Rattle.vocabulary.specs.declared.stream_types.Reading.{Reading}
+use Rattle.vocabulary.specs.declared.stream_types.Reading.the-variants.{Edition2015}
+use Rattle.vocabulary.specs.StreamTypes.{known}
+use Rattle.descriptors.specs.declared.records.HierarchyRecord.{HierarchyRecord}
+use Rattle.descriptors.specs.declared.records.ExtensionRecord.{ExtensionRecord}
+use Rattle.descriptors.specs.declared.records.Record.{Record}
+use Rattle.descriptors.specs.declared.records.Record.the-variants.{NoRecord, Hierarchy, Extension}
+use Rattle.descriptors.specs.declared.looking.Seen.{Seen}
+use Rattle.descriptors.specs.Tables.{descriptorHead, hierarchyDescriptor, extensionHead, embeddedLayer}
+use Rattle.descriptors.specs.Records.{noLayer, hierarchyFrom, hierarchyOf, extensionFrom, extensionOf, layersOf, embeddedOf}
+use Rattle.descriptors.specs.Looking.{Kind, hierarchy, extension, payloadKind, extensionKind, descriptorTag, descriptorLength, kindOf, kindsOf, seenOfKinds, seenOf, nothingSeen}
+use Rattle.es_loop.specs.declared.entries.Entry.{Entry}
+use Rattle.es_loop.specs.declared.entries.Stream.{Stream}
+use Rattle.es_loop.specs.Entries.{entryHead, esInfoLength, seenIn, streamOf, streamsOf}
+use Rattle.es_loop.specs.Meant.{by-head}
+use Rattle.loop_writer.specs.Layout.{Filled, filled, bytesIn, tooWideIn, bitOf, hierarchyFields, extensionFields, layerTable, recordTables, infoBytes, entryBytes, loopBytes, tooWide}
+use Rattle.loop_writer.specs.Writing.{streamFor}
+use Rattle.loop_writer.specs.Sizes.{fit-in, fit-first, fit-others, hierarchy-fit, extension-fit, layers-fit, count-small, listed, head-fit, record-fit, length-layers, info-short}
+use Rattle.loop_writer.specs.Bytes.{extension-bytes}
+
+-- THE ENTRIES READ. The layers that a record lists, and blanks after them: what stands beyond the count in the array is not written.
+abbrev pub layersKept : Record → List LayerIndex → List LayerIndex
+layersKept NoRecord layers = []
+layersKept (Hierarchy h) layers = []
+layersKept (Extension x) layers = take (x .«num_embedded_layers») layers
+
+-- an entry with blanks beyond the count
+abbrev pub normal : Entry → Entry
+normal e =
+    record {
+      «stream_type» = e .«stream_type»;
+      pid = e .pid;
+      «record» = e .«record»;
+      embedded = padTo 63 noLayer (layersKept (e .«record») (e .embedded));
+    }
+
+-- an entry as it is read again: of a type that the 2015 reading does not know no record is seen
+abbrev pub withoutRecord : Entry → Entry
+withoutRecord e = record { «stream_type» = e .«stream_type»; pid = e .pid; «record» = NoRecord; embedded = padTo 63 noLayer [] }
+
+abbrev pub readAs : Entry → Entry
+readAs e = cond (known Edition2015 (e .«stream_type»)) (normal e) (withoutRecord e)
+
+-- ---- each table
+
+entry-sound : Sound entryHead
+entry-sound = record { whole = refl; fixed-fit = refl }
+
+descriptor-sound : Sound descriptorHead
+descriptor-sound = record { whole = refl; fixed-fit = refl }
+
+hierarchy-sound : Sound (hierarchyDescriptor Edition2015)
+hierarchy-sound = record { whole = refl; fixed-fit = refl }
+
+extension-sound : Sound extensionHead
+extension-sound = record { whole = refl; fixed-fit = refl }
+
+layer-sound : Sound embeddedLayer
+layer-sound = record { whole = refl; fixed-fit = refl }
+
+bit-back : (b : Bool) → eqb (bitOf b) 1 ≡ b
+bit-back true = refl
+bit-back false = refl
+
+hierarchy-fields : (h : HierarchyRecord) → hierarchyFrom (hierarchyFields h) ≡ h
+hierarchy-fields h =
+    rw (bit-back (h .«no_view»), bit-back (h .«no_temporal»), bit-back (h .«no_spatial»), bit-back (h .«no_quality»), bit-back (h .«tref_present_flag»))
+
+extension-fields : (x : ExtensionRecord) → extensionFrom (extensionFields x) ≡ x
+extension-fields x = rw (bit-back (x .«tref_present_flag»))
+
+hierarchy-back : (h : HierarchyRecord) → Fit (hierarchyDescriptor Edition2015) (hierarchyFields h)
+    → hierarchyOf Edition2015 (writeTable (hierarchyDescriptor Edition2015) (hierarchyFields h)) ≡ h
+hierarchy-back h fit = ap hierarchyFrom (read-write hierarchy-sound fit []) ∙ hierarchy-fields h
+
+extension-back : (x : ExtensionRecord) (rest : List ℕ) → Fit extensionHead (extensionFields x)
+    → extensionOf (writeTable extensionHead (extensionFields x) ++ rest) ≡ x
+extension-back x rest fit = ap extensionFrom (read-write extension-sound fit rest) ∙ extension-fields x
+
+layers-back : (layers : List LayerIndex) → any tooWideIn (map layerTable layers) ≡ false → layersOf (gather bytesIn (map layerTable layers)) ≡ layers
+layers-back [] e = refl
+layers-back (index ∷ layers) e =
+    let fit : Fit embeddedLayer (index .0 ∷ []) = fit-first (layerTable index) (map layerTable layers) e in
+    ap₂ (λ (i : LayerIndex) (is : List LayerIndex). i ∷ is)
+    (ap (λ (vs : List ℕ). record { 0 = getD vs 0 0 }) (read-write layer-sound fit []))
+    (layers-back layers (fit-others (layerTable index) (map layerTable layers) e))
+
+-- ---- one descriptor
+
+by-tag : (head rest : List ℕ) → length head ≡ 2 → descriptorLength (head ++ rest) ≡ descriptorLength head
+by-tag head rest h = ap (λ (vs : List ℕ). getD vs 1 0) (read-before descriptorHead head rest (omega arith))
+
+-- a descriptor's head, and a payload as long as it says
+module _ (tag long : ℕ) (payload : List ℕ) (fit : Fit descriptorHead (tag ∷ long ∷ [])) (size : length payload ≡ long) where
+  abbrev descriptor : List ℕ
+  descriptor = writeTable descriptorHead (tag ∷ long ∷ [])
+
+  values : readTable descriptorHead descriptor ≡ tag ∷ long ∷ []
+  values = read-write descriptor-sound fit []
+
+  one-piece : cut 2 descriptorLength (descriptor ++ payload) ≡ whole descriptor payload ∷ []
+  one-piece =
+      let c : Cuts 2 descriptorLength (descriptor ++ (payload ++ [])) (whole descriptor payload ∷ []) =
+      piece (length-written descriptorHead (tag ∷ long ∷ [])) (size ∙ sym (ap (λ (vs : List ℕ). getD vs 1 0) values)) nothing-left in
+      sym (cuts-unique 2 descriptorLength (omega arith) by-tag (subst (λ (l : List ℕ). Cuts 2 descriptorLength (descriptor ++ l) (whole descriptor payload ∷ [])) (append-nil payload) c))
+
+  one-kind : kindsOf Edition2015 (descriptor ++ payload) ≡ payloadKind Edition2015 tag payload ∷ []
+  one-kind =
+      ap (map (kindOf Edition2015)) one-piece ∙ ap (λ (t : ℕ). payloadKind Edition2015 t payload ∷ []) (ap (λ (vs : List ℕ). getD vs 0 0) values)
+
+-- ---- a record
+
+-- what is seen of the descriptors where there is one record, or none
+abbrev seenWith : Record → List LayerIndex → Seen
+seenWith r layers = record { fits = true; «wrong_length» = false; «second_record» = false; «record» = r; embedded = padTo 63 noLayer layers }
+
+seen-extension : (x : ExtensionRecord) (layers : List LayerIndex) → length layers ≡ 63 → any tooWideIn (recordTables (Extension x) layers) ≡ false
+    → seenOf Edition2015 (gather bytesIn (recordTables (Extension x) layers)) ≡ seenWith (Extension x) (take (x .«num_embedded_layers») layers)
+seen-extension x layers room e =
+    let n : ℕ = x .«num_embedded_layers» in
+    let fit : Fit extensionHead (extensionFields x) = extension-fit x layers e in
+    let list : List ℕ = gather bytesIn (map layerTable (take n layers)) in
+    let payload : List ℕ = writeTable extensionHead (extensionFields x) ++ list in
+    let counted : length (take n layers) ≡ n = length-take-le n layers (omega (arith, count-small x layers e)) in
+    let size : length payload ≡ 7 + n = omega (arith, length-layers (take n layers)) in
+    let first : getD payload 0 0 ≡ 6 = sym (ap (λ (l : List ℕ). getD (l ++ list) 0 0) (extension-bytes x fit)) in
+    let back : extensionOf payload ≡ x = extension-back x list fit in
+    let kind : extensionKind payload ≡ extension x (take n layers) =
+    rw (lt-ltb 0 (length payload) (omega arith), eq-eqb (getD payload 0 0) 6 first, eq-eqb (length payload) (7 + (extensionOf payload) .«num_embedded_layers») (size ∙ sym (ap (λ (y : ExtensionRecord). 7 + y .«num_embedded_layers») back)), back, layers-back (take n layers) (layers-fit x layers e)) in
+    ap seenOfKinds (one-kind 63 (7 + n) payload (fit-first (filled descriptorHead (63 ∷ (7 + n) ∷ [])) (filled extensionHead (extensionFields x) ∷ map layerTable (take n layers)) e) size ∙ ap (λ (k : Kind). k ∷ []) kind)
+
+seen-record : (r : Record) (layers : List LayerIndex) → length layers ≡ 63 → any tooWideIn (recordTables r layers) ≡ false
+    → seenOf Edition2015 (gather bytesIn (recordTables r layers)) ≡ seenWith r (layersKept r layers)
+seen-record NoRecord layers room e = refl
+seen-record (Hierarchy h) layers room e =
+    let payload : List ℕ = writeTable (hierarchyDescriptor Edition2015) (hierarchyFields h) in
+    ap seenOfKinds
+    (one-kind 4 4 payload (fit-first (filled descriptorHead (4 ∷ 4 ∷ [])) (filled (hierarchyDescriptor Edition2015) (hierarchyFields h) ∷ []) e) refl
+    ∙ ap (λ (g : HierarchyRecord). hierarchy g ∷ []) (hierarchy-back h (hierarchy-fit h layers e)))
+seen-record (Extension x) layers room e = seen-extension x layers room e
+
+-- ---- an entry
+
+module _ (e : Entry) (room : length (e .embedded) ≡ 63) (fit : tooWide e ≡ false) where
+  abbrev head : List ℕ
+  head = writeTable entryHead (e .«stream_type» ∷ e .pid ∷ length (infoBytes e) ∷ [])
+
+  head-values : readTable entryHead head ≡ e .«stream_type» ∷ e .pid ∷ length (infoBytes e) ∷ []
+  head-values = read-write entry-sound (head-fit e fit) []
+
+  info-length : length (infoBytes e) ≡ esInfoLength head
+  info-length = sym (ap (λ (vs : List ℕ). getD vs 2 0) head-values)
+
+  abbrev streamWith : List ℕ → Seen → Stream
+  streamWith values seen = record { fits = seen .fits; «stream_type» = getD values 0 0; pid = getD values 1 0; seen = seen }
+
+  seen-again : (b : Bool) → known Edition2015 (e .«stream_type») ≡ b
+      → streamWith (e .«stream_type» ∷ e .pid ∷ length (infoBytes e) ∷ []) (seenIn Edition2015 (e .«stream_type») (infoBytes e)) ≡ streamFor (readAs e)
+  seen-again true p =
+      rw p (ap (streamWith (e .«stream_type» ∷ e .pid ∷ length (infoBytes e) ∷ [])) (seen-record (e .«record») (e .embedded) room (record-fit e fit)))
+  seen-again false p = rw p
+
+  stream-again : streamOf Edition2015 (whole head (infoBytes e)) ≡ streamFor (readAs e)
+  stream-again =
+      ap (λ (vs : List ℕ). streamWith vs (seenIn Edition2015 (getD vs 0 0) (infoBytes e))) head-values
+      ∙ seen-again (known Edition2015 (e .«stream_type»)) refl
+
+-- ---- THE LOOP
+
+-- entries as their type has them: each with an array of 63 places
+pub data Typed : List Entry → Type 0 where
+  none : Typed []
+  one-more : {e : Entry} {es : List Entry} → length (e .embedded) ≡ 63 → Typed es → Typed (e ∷ es)
+
+pub typed-at : {es : List Entry} {k : ℕ} {e : Entry} → Typed es → Nth es k e → length (e .embedded) ≡ 63
+typed-at (one-more room typed) here = room
+typed-at (one-more room typed) (there n) = typed-at typed n
+
+abbrev itemOf : Entry → Item
+itemOf e = whole (writeTable entryHead (e .«stream_type» ∷ e .pid ∷ length (infoBytes e) ∷ [])) (infoBytes e)
+
+loop-cuts : {es : List Entry} → Typed es → any tooWide es ≡ false → Cuts 5 esInfoLength (loopBytes es) (map itemOf es)
+loop-cuts none fit = nothing-left
+loop-cuts (one-more {e} {es} room typed) fit =
+    let here : tooWide e ≡ false = neither-left (tooWide e) (any tooWide es) fit in
+    subst (λ (l : List ℕ). Cuts 5 esInfoLength l (itemOf e ∷ map itemOf es))
+    (sym (append-assoc (head e room here) (infoBytes e) (loopBytes es)))
+    (piece (length-written entryHead (e .«stream_type» ∷ e .pid ∷ length (infoBytes e) ∷ [])) (info-length e room here)
+    (loop-cuts typed (neither-right (tooWide e) (any tooWide es) fit)))
+
+streams-again : {es : List Entry} → Typed es → any tooWide es ≡ false → map (streamOf Edition2015) (map itemOf es) ≡ map streamFor (map readAs es)
+streams-again none fit = refl
+streams-again (one-more {e} {es} room typed) fit =
+    ap₂ (λ (s : Stream) (ss : List Stream). s ∷ ss) (stream-again e room (neither-left (tooWide e) (any tooWide es) fit))
+    (streams-again typed (neither-right (tooWide e) (any tooWide es) fit))
+
+-- Reading what was written sees each entry as it was given, blanks beyond its count.
+pub read-written : {es : List Entry} → Typed es → any tooWide es ≡ false → streamsOf Edition2015 (loopBytes es) ≡ map streamFor (map readAs es)
+read-written {es} typed fit =
+    sym (ap (map (streamOf Edition2015)) (cuts-unique 5 esInfoLength (omega arith) by-head (loop-cuts typed fit))) ∙ streams-again typed fit

@@ -1,0 +1,219 @@
+-- THE ROUND TRIPS OF THE WRITER, under the 2015 reading.
+-- * `read-back`: what the writer accepts is read again, and the entries come back as they were given (`read-back-exactly`, `buffer-holds`).
+-- * `same-refusal`: what the writer refuses with 1, 3 or 6 to 10, reading the same entries' bytes refuses with the same number and place. The
+--   exception is a record on a stream type that the 2015 reading does not know: the writer refuses it with 6, and reading does not look at it.
+--   (25 is of values that no bytes hold, and 17 of the buffer: reading has neither.)
+-- Assumes nothing.
+use Prim.Native.Nat.{ℕ, zero, suc, _≤_, _<_}
+use mathlib.Core.Path.{_≡_, refl, sym, _∙_, ap, ap₂, subst}
+use mathlib.Core.Bool.{Bool, true, false, cond, _||_}
+use mathlib.Core.List.{List, [], _∷_, _++_, map}
+use native.Mathlib.Omega.{arith}
+use borrow.Author.Tests.{lt-ltb, le-ltb, ltb-true, ltb-false}
+use lib.Dec.{ltb}
+use lib.ListN.{length, getD, take, drop, replicate, length-map, getD-replicate}
+use lib.Seq.{take-append-seam}
+use Rattle.combinators.specs.Bools.{neither-left, neither-right}
+use Rattle.combinators.specs.Lists.{Nth, here, there, nth-inside, nth-getD, any, handled}
+use Rattle.combinators.specs.Lowest.{Lowest, lowestNumber, earliestPlace, lowest-is}
+use Rattle.combinators.specs.Padding.{padTo}
+use Rattle.vocabulary.specs.declared.stream_types.Reading.the-variants.{Edition2015}
+use Rattle.vocabulary.specs.declared.refusal.Refusal.{Refusal}
+use Rattle.vocabulary.specs.declared.refusal.Refusal.the-variants.{LoopTooLong, NoRoom, TooWide}
+use Rattle.vocabulary.specs.Refusals.{numberOf, placeOf}
+use Rattle.es_loop.specs.declared.entries.Entry.{Entry}
+use Rattle.es_loop.specs.declared.entries.Stream.{Stream}
+use Rattle.es_loop.specs.declared.reader.Outcome.the-variants.{Accepted}
+use Rattle.es_loop.specs.declared.reader.LoopRead.{LoopRead}
+use Rattle.es_loop.specs.Entries.{blankEntry, entryOf, streamsOf}
+use Rattle.es_loop.specs.Conditions.{applies, refusalOf}
+use Rattle.es_loop.specs.Reading.{refusedWith, accepted, judged, loopRead}
+use Rattle.es_loop.specs.Judged.{judged-refused, judged-accepted}
+use Rattle.loop_writer.specs.declared.Written.{Written}
+use Rattle.loop_writer.specs.declared.Written.the-variants.{Bytes, Refused}
+use Rattle.loop_writer.specs.Layout.{loopBytes, tooWide}
+use Rattle.loop_writer.specs.Writing.{streamFor, onUnknownType, appliesTo, inRoom, judgedIn, answer, contentAfter, content}
+use Rattle.loop_writer.specs.ReadBack.{normal, readAs, Typed, read-written}
+use Rattle.loop_writer.specs.Verdicts.{NotBySix, read-normal, same-lowest, none-unknown}
+
+-- THE ANSWER, CASE BY CASE: what is known where it is so many bytes, and where it is a refusal.
+pub record Writes (room count : ℕ) (array : List Entry) (n : ℕ) : Type 0 where
+  pub none-wide : any tooWide (take count array) ≡ false
+  pub few : count ≤ 201
+  pub short : length (loopBytes (take count array)) ≤ 1008
+  pub none-applies : 11 ≤ lowestNumber (appliesTo (take count array)) 11 (length (take count array))
+  pub fits : length (loopBytes (take count array)) ≤ room
+  pub size : n ≡ length (loopBytes (take count array))
+
+pub data Refuses (room count : ℕ) (array : List Entry) : Refusal → Type 0 where
+  wide : any tooWide (take count array) ≡ true → Refuses room count array TooWide
+  too-long : any tooWide (take count array) ≡ false → (ltb 201 count || ltb 1008 (length (loopBytes (take count array)))) ≡ true
+      → Refuses room count array LoopTooLong
+  judged-by : {n k : ℕ} → any tooWide (take count array) ≡ false → count ≤ 201 → length (loopBytes (take count array)) ≤ 1008
+      → Lowest (appliesTo (take count array)) 11 (length (take count array)) n k → n < 11 → Refuses room count array (refusalOf n k)
+  no-room : any tooWide (take count array) ≡ false → room < length (loopBytes (take count array)) → Refuses room count array NoRoom
+
+-- which of the two it is
+abbrev Case : ℕ → ℕ → List Entry → Written → Type 0
+Case room count array (Bytes n) = Writes room count array n
+Case room count array (Refused r) = Refuses room count array r
+
+module _ (room count : ℕ) (array : List Entry) where
+  abbrev given : List Entry
+  given = take count array
+
+  abbrev lowest : ℕ
+  lowest = lowestNumber (appliesTo given) 11 (length given)
+
+  answer-case : Case room count array (answer room count array)
+  answer-case =
+      go (any tooWide given) refl (ltb 201 count || ltb 1008 (length (loopBytes given))) refl (ltb lowest 11) refl (ltb room (length (loopBytes given))) refl
+    where
+      go : (a : Bool) → any tooWide given ≡ a → (b : Bool) → (ltb 201 count || ltb 1008 (length (loopBytes given))) ≡ b → (c : Bool)
+          → ltb lowest 11 ≡ c → (d : Bool) → ltb room (length (loopBytes given)) ≡ d → Case room count array (answer room count array)
+      go true p b q c s d t = rw p (wide p)
+      go false p true q c s d t = rw (p, q) (too-long p q)
+      go false p false q true s d t =
+          let few : count ≤ 201 = ltb-false 201 count (neither-left (ltb 201 count) (ltb 1008 (length (loopBytes given))) q) in
+          let short : length (loopBytes given) ≤ 1008 =
+          ltb-false 1008 (length (loopBytes given)) (neither-right (ltb 201 count) (ltb 1008 (length (loopBytes given))) q) in
+          rw (p, q, s) (judged-by p few short (lowest-is (appliesTo given) 11 (length given)) (ltb-true lowest 11 s))
+      go false p false q false s true t = rw (p, q, s, t) (no-room p (ltb-true room (length (loopBytes given)) t))
+      go false p false q false s false t =
+          rw (p, q, s, t)
+          (record {
+            none-wide = p;
+            few = ltb-false 201 count (neither-left (ltb 201 count) (ltb 1008 (length (loopBytes given))) q);
+            short = ltb-false 1008 (length (loopBytes given)) (neither-right (ltb 201 count) (ltb 1008 (length (loopBytes given))) q);
+            none-applies = ltb-false lowest 11 s;
+            fits = ltb-false room (length (loopBytes given)) t;
+            size = refl;
+          })
+
+  pub writes : {n : ℕ} → answer room count array ≡ Bytes n → Writes room count array n
+  writes e = subst (Case room count array) e answer-case
+
+  pub refuses : {r : Refusal} → answer room count array ≡ Refused r → Refuses room count array r
+  refuses e = subst (Case room count array) e answer-case
+
+-- ---- reading the bytes of entries none of which is too wide
+
+all-normal : (es : List Entry) → ((k : ℕ) (e : Entry) → Nth es k e → onUnknownType e ≡ false) → map readAs es ≡ map normal es
+all-normal [] f = refl
+all-normal (e ∷ es) f =
+    ap₂ (λ (x : Entry) (xs : List Entry). x ∷ xs) (read-normal e (f 0 e here)) (all-normal es (λ k x n. f (suc k) x (there n)))
+
+entries-back : (es : List Entry) → map entryOf (map streamFor es) ≡ es
+entries-back [] = refl
+entries-back (e ∷ es) = ap (λ (l : List Entry). e ∷ l) (entries-back es)
+
+module _ {es : List Entry} (typed : Typed es) (fit : any tooWide es ≡ false) where
+  abbrev seen : List Stream
+  seen = map streamFor (map readAs es)
+
+  as-long : length seen ≡ length es
+  as-long = length-map (map readAs es) streamFor ∙ length-map es readAs
+
+  reading : length (loopBytes es) ≤ 1008 → loopRead Edition2015 (loopBytes es) ≡ judged seen
+  reading short =
+      ap (λ (b : Bool). cond b (refusedWith LoopTooLong) (judged (streamsOf Edition2015 (loopBytes es)))) (le-ltb 1008 (length (loopBytes es)) short)
+      ∙ ap judged (read-written typed fit)
+
+  reading-long : 1008 < length (loopBytes es) → loopRead Edition2015 (loopBytes es) ≡ refusedWith LoopTooLong
+  reading-long long =
+      ap (λ (b : Bool). cond b (refusedWith LoopTooLong) (judged (streamsOf Edition2015 (loopBytes es)))) (lt-ltb 1008 (length (loopBytes es)) long)
+
+  module _ (number place : ℕ) (low : Lowest (appliesTo es) 11 (length es) number place) (u : NotBySix es typed fit number place) where
+    seen-lowest : Lowest (applies seen) 11 (length seen) number place
+    seen-lowest = subst (λ (n : ℕ). Lowest (applies seen) 11 n number place) (sym as-long) (same-lowest es typed fit number place low u)
+
+  -- no number applies: the reader accepts, and answers the entries
+  reading-accepts : (place : ℕ) → Lowest (appliesTo es) 11 (length es) 11 place → length (loopBytes es) ≤ 1008
+      → loopRead Edition2015 (loopBytes es) ≡ record { outcome = Accepted; count = length es; entries = padTo 201 blankEntry (map normal es) }
+  reading-accepts place low short =
+      let unknown : (k : ℕ) (e : Entry) → Nth es k e → onUnknownType e ≡ false =
+      λ k e n. sym (ap onUnknownType (nth-getD blankEntry n)) ∙ none-unknown es typed fit 11 place low (omega arith) k (nth-inside n) in
+      let low-seen = seen-lowest 11 place low (λ six. absurd (omega arith)) in
+      reading short ∙ sym (judged-accepted seen place low-seen)
+      ∙ ap₂ (λ (n : ℕ) (l : List Entry). record { outcome = Accepted; count = n; entries = padTo 201 blankEntry l }) as-long
+      (entries-back (map readAs es) ∙ all-normal es unknown)
+
+-- ---- THE ROUND TRIPS
+
+module _ (room count : ℕ) (array : List Entry) (typed : Typed (take count array)) where
+  -- READING WHAT WAS WRITTEN is accepted, and gives back the entries that were given, with blanks in each array beyond its count.
+  pub read-back : {n : ℕ} → answer room count array ≡ Bytes n
+      → loopRead Edition2015 (loopBytes (take count array))
+      ≡ record { outcome = Accepted; count = length (take count array); entries = padTo 201 blankEntry (map normal (take count array)) }
+  read-back e =
+      let es : List Entry = take count array in
+      let w = writes room count array e in
+      let low = lowest-is (appliesTo es) 11 (length es) in
+      let number : ℕ = lowestNumber (appliesTo es) 11 (length es) in
+      let eleven : number ≡ 11 = omega (arith, low .within, w .none-applies) in
+      reading-accepts typed (w .none-wide) (earliestPlace (appliesTo es) number (length es))
+      (subst (λ (m : ℕ). Lowest (appliesTo es) 11 (length es) m (earliestPlace (appliesTo es) number (length es))) eleven low) (w .short)
+
+  -- Where each array has blanks beyond its count, as the reader leaves it, these are exactly the entries that were given.
+  pub read-back-exactly : {n : ℕ} → map normal (take count array) ≡ take count array → answer room count array ≡ Bytes n
+      → loopRead Edition2015 (loopBytes (take count array))
+      ≡ record { outcome = Accepted; count = length (take count array); entries = padTo 201 blankEntry (take count array) }
+  read-back-exactly blank e =
+      read-back e
+      ∙ ap (λ (l : List Entry). record { outcome = Accepted; count = length (take count array); entries = padTo 201 blankEntry l }) blank
+
+  -- A REFUSAL IS THE SAME: 1, 3 and 7 to 10 in every case, 6 where the record at its place stands on a known stream type.
+  pub same-refusal : {r : Refusal} → count ≤ 201 → answer room count array ≡ Refused r → numberOf r ≤ 10
+      → (numberOf r ≡ 6 → onUnknownType (getD (take count array) (placeOf r) blankEntry) ≡ false)
+      → loopRead Edition2015 (loopBytes (take count array)) ≡ refusedWith r
+  same-refusal few e small six = go (refuses room count array e) small six
+    where
+      es : List Entry
+      es = take count array
+
+      -- the numbers that apply are those of their refusals
+      numbered : (n k : ℕ) → n < 11 → 2 ≤ n → (numberOf (refusalOf n k) ≡ n) × (placeOf (refusalOf n k) ≡ k)
+      numbered n k h l =
+          handled (λ m. 2 ≤ m → (numberOf (refusalOf m k) ≡ m) × (placeOf (refusalOf m k) ≡ k)) (replicate 11 true) (
+            (λ t i. absurd (omega arith)),
+            (
+              (λ t i. absurd (omega arith)),
+              (
+                (λ t i. (refl, refl)),
+                (
+                  (λ t i. (refl, refl)),
+                  (
+                    (λ t i. (refl, refl)),
+                    ((λ t i. (refl, refl)), ((λ t i. (refl, refl)), ((λ t i. (refl, refl)), ((λ t i. (refl, refl)), ((λ t i. (refl, refl)), ((λ t i. (refl, refl)), tt)))))),
+                  ),
+                ),
+              ),
+            ),
+          )
+          n (getD-replicate 11 n true false h) l
+
+      none-below : (n k : ℕ) → appliesTo es n k ≡ true → 2 ≤ n
+      none-below zero k t = let z : _≡_ {A = ℕ} 0 1 = cc in absurd (omega arith)
+      none-below (suc zero) k t = let z : _≡_ {A = ℕ} 0 1 = cc in absurd (omega arith)
+      none-below (suc (suc n)) k t = omega arith
+
+      go : {r : Refusal} → Refuses room count array r → numberOf r ≤ 10 → (numberOf r ≡ 6 → onUnknownType (getD es (placeOf r) blankEntry) ≡ false)
+          → loopRead Edition2015 (loopBytes es) ≡ refusedWith r
+      go (wide p) h s = absurd (omega arith)
+      go (too-long p q) h s =
+          reading-long typed p (ltb-true 1008 (length (loopBytes es)) (rw (le-ltb 201 count few) at q))
+      go (judged-by {n} {k} p f short low l) h s =
+          let named = numbered n k l (none-below n k (low .holds l)) in
+          reading typed p short
+          ∙ sym (judged-refused (map streamFor (map readAs es)) n k
+          (seen-lowest typed p n k low (λ is-six. rw (← named .1) (s (named .0 ∙ is-six)))) l)
+      go (no-room p q) h s = absurd (omega arith)
+
+-- What the buffer holds after writing are the bytes of which this speaks.
+pub buffer-holds : (count : ℕ) (array : List Entry) (old : List ℕ) {n : ℕ} → answer (length old) count array ≡ Bytes n
+    → take n (content count array old) ≡ loopBytes (take count array)
+buffer-holds count array old {n} e =
+    let bytes : List ℕ = loopBytes (take count array) in
+    let size : n ≡ length bytes = (writes (length old) count array e) .size in
+    ap (λ (w : Written). take n (contentAfter w bytes old)) e
+    ∙ ap (λ (m : ℕ). take m (bytes ++ drop n old)) size ∙ take-append-seam bytes (drop n old)
