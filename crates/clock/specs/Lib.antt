@@ -1,0 +1,4 @@
+pub mod Clock
+pub mod Differences
+pub mod Laws
+pub mod Examples

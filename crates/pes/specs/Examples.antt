@@ -1,0 +1,51 @@
+-- The two headers of document 01, read and written.
+-- Assumes nothing.
+use Prim.Native.Nat.{ℕ}
+use mathlib.Core.Path.{_≡_, refl}
+use mathlib.Core.List.{List, [], _∷_}
+use Rattle.pes.specs.Reading.{readOf}
+use Rattle.pes.specs.Writing.{headerOf}
+use Rattle.pes.specs.declared.Answer.the-variants.{Times}
+
+-- 'PTS 9000 alone'
+abbrev pub pts9000 : List ℕ
+pts9000 = 0x00 ∷ 0x00 ∷ 0x01 ∷ 0xE0 ∷ 0x00 ∷ 0x00 ∷ 0x84 ∷ 0x80 ∷ 0x05 ∷ 0x21 ∷ 0x00 ∷ 0x01 ∷ 0x46 ∷ 0x51 ∷ []
+
+pub pts9000-read : readOf pts9000 ≡ Times 9000 9000 9000
+pts9000-read = refl
+
+pub pts9000-written : headerOf 9000 9000 9000 ≡ pts9000
+pts9000-written = refl
+
+-- 'PTS 12000, TREF 12600'
+abbrev pub tref12600 : List ℕ
+tref12600 =
+    0x00
+    ∷ 0x00
+    ∷ 0x01
+    ∷ 0xE0
+    ∷ 0x00
+    ∷ 0x00
+    ∷ 0x84
+    ∷ 0x81
+    ∷ 0x0D
+    ∷ 0x21
+    ∷ 0x00
+    ∷ 0x01
+    ∷ 0x5D
+    ∷ 0xC1
+    ∷ 0x0F
+    ∷ 0x86
+    ∷ 0xFE
+    ∷ 0xF1
+    ∷ 0x00
+    ∷ 0x01
+    ∷ 0x62
+    ∷ 0x71
+    ∷ []
+
+pub tref12600-read : readOf tref12600 ≡ Times 12000 12000 12600
+tref12600-read = refl
+
+pub tref12600-written : headerOf 12000 12000 12600 ≡ tref12600
+tref12600-written = refl

@@ -1,0 +1,651 @@
+// Headers derived by hand from Table 2-21 of H.222.0, source 003 and document 01, each with its name, run through the reader and the
+// writer. What every line has to say was worked out from the documents before the program ran, and stands in the file `stdout`.
+use libc::STDOUT_FILENO;
+use pes::Answer;
+use pes::Written;
+
+fn say(text: &[u8]) {
+    io::write_all(STDOUT_FILENO, text);
+}
+
+fn say_number(n: u64) {
+    io::print_decimal(STDOUT_FILENO, n);
+}
+
+fn say_refused(refusal: vocabulary::Refusal) {
+    say(b" refused ");
+    say_number(vocabulary::number(refusal) as u64);
+}
+
+fn say_times(pts: u64, decoding: u64, matching: u64) {
+    say(b" times ");
+    say_number(pts);
+    say(b" ");
+    say_number(decoding);
+    say(b" ");
+    say_number(matching);
+}
+
+// A header, and what the reader answers.
+fn read(name: &[u8], header: &[u8]) {
+    say(b"read ");
+    say(name);
+    say(b":");
+    let answer = pes::read(header);
+    match answer {
+        Answer::Times {
+            pts,
+            decoding,
+            matching,
+        } => say_times(pts, decoding, matching),
+        Answer::Refused(refusal) => say_refused(refusal),
+    }
+    say(b"\n");
+}
+
+fn say_byte(byte: u8) {
+    say(b" ");
+    io::print_hex(STDOUT_FILENO, byte as u64, 2);
+}
+
+fn say_bytes(bytes: &[u8]) {
+    let mut i = 0;
+    while i < bytes.len() {
+        say_byte(bytes[i]);
+        i += 1;
+    }
+}
+
+// Three times and a buffer, what the writer answers, and the whole buffer after it.
+fn write(name: &[u8], pts: u64, decoding: u64, matching: u64, out: &mut [u8]) {
+    say(b"write ");
+    say(name);
+    say(b":");
+    let written = pes::write(pts, decoding, matching, out);
+    match written {
+        Written::Bytes(n) => {
+            say(b" bytes ");
+            say_number(n as u64);
+        }
+        Written::Refused(refusal) => say_refused(refusal),
+    }
+    say(b" leaves");
+    say_bytes(out);
+    say(b"\n");
+}
+
+// The two headers of document 01.
+fn document() {
+    read(
+        b"document: PTS 9000 alone",
+        b"\x00\x00\x01\xE0\x00\x00\x84\x80\x05\x21\x00\x01\x46\x51",
+    );
+    read(
+        b"document: PTS 12000, TREF 12600",
+        b"\x00\x00\x01\xE0\x00\x00\x84\x81\x0D\x21\x00\x01\x5D\xC1\x0F\x86\xFE\xF1\x00\x01\x62\x71",
+    );
+}
+
+// Refusal 20, and what it does not judge.
+fn not_a_video_header() {
+    read(b"no bytes", b"");
+    read(b"eight bytes", b"\x00\x00\x01\xE0\x00\x00\x84\x80");
+    read(
+        b"prefix 01 00 01",
+        b"\x01\x00\x01\xE0\x00\x00\x84\x80\x05\x21\x00\x01\x46\x51",
+    );
+    read(
+        b"prefix 00 01 01",
+        b"\x00\x01\x01\xE0\x00\x00\x84\x80\x05\x21\x00\x01\x46\x51",
+    );
+    read(
+        b"prefix 00 00 00",
+        b"\x00\x00\x00\xE0\x00\x00\x84\x80\x05\x21\x00\x01\x46\x51",
+    );
+    read(
+        b"stream_id DF",
+        b"\x00\x00\x01\xDF\x00\x00\x84\x80\x05\x21\x00\x01\x46\x51",
+    );
+    read(
+        b"stream_id E0",
+        b"\x00\x00\x01\xE0\x00\x00\x84\x80\x05\x21\x00\x01\x46\x51",
+    );
+    read(
+        b"stream_id EF",
+        b"\x00\x00\x01\xEF\x00\x00\x84\x80\x05\x21\x00\x01\x46\x51",
+    );
+    read(
+        b"stream_id F0",
+        b"\x00\x00\x01\xF0\x00\x00\x84\x80\x05\x21\x00\x01\x46\x51",
+    );
+    read(
+        b"stream_id C0, audio",
+        b"\x00\x00\x01\xC0\x00\x00\x84\x80\x05\x21\x00\x01\x46\x51",
+    );
+}
+
+// Refusal 20: the two bits after the length, and the header data within the input.
+fn marks_and_lengths() {
+    read(
+        b"'00' after the length",
+        b"\x00\x00\x01\xE0\x00\x00\x04\x80\x05\x21\x00\x01\x46\x51",
+    );
+    read(
+        b"'01' after the length",
+        b"\x00\x00\x01\xE0\x00\x00\x44\x80\x05\x21\x00\x01\x46\x51",
+    );
+    read(
+        b"'11' after the length",
+        b"\x00\x00\x01\xE0\x00\x00\xC4\x80\x05\x21\x00\x01\x46\x51",
+    );
+    read(
+        b"the six bits after '10' set",
+        b"\x00\x00\x01\xE0\x00\x00\xBF\x80\x05\x21\x00\x01\x46\x51",
+    );
+    read(
+        b"PES_packet_length FFFF",
+        b"\x00\x00\x01\xE0\xFF\xFF\x84\x80\x05\x21\x00\x01\x46\x51",
+    );
+    read(
+        b"header data one past the input",
+        b"\x00\x00\x01\xE0\x00\x00\x84\x80\x06\x21\x00\x01\x46\x51",
+    );
+    read(
+        b"header data of 255 past the input",
+        b"\x00\x00\x01\xE0\x00\x00\x84\x80\xFF\x21\x00\x01\x46\x51",
+    );
+    read(
+        b"payload after the header data",
+        b"\x00\x00\x01\xE0\x00\x00\x84\x80\x05\x21\x00\x01\x46\x51\x00\x00\x01\x09",
+    );
+}
+
+// Refusal 21, after 20 and before 22.
+fn without_pts() {
+    read(b"PTS_DTS_flags 00", b"\x00\x00\x01\xE0\x00\x00\x84\x00\x00");
+    read(
+        b"PTS_DTS_flags 00 with stuffing",
+        b"\x00\x00\x01\xE0\x00\x00\x84\x00\x05\xFF\xFF\xFF\xFF\xFF",
+    );
+    read(
+        b"PTS_DTS_flags 01",
+        b"\x00\x00\x01\xE0\x00\x00\x84\x40\x05\x21\x00\x01\x46\x51",
+    );
+    read(
+        b"PTS_DTS_flags 01 and no room for a field",
+        b"\x00\x00\x01\xE0\x00\x00\x84\x7F\x00",
+    );
+    read(
+        b"PTS_DTS_flags 00 on stream_id F0",
+        b"\x00\x00\x01\xF0\x00\x00\x84\x00\x00",
+    );
+}
+
+// Times at the ends of the clock.
+fn times_alone() {
+    read(
+        b"PTS 0",
+        b"\x00\x00\x01\xE0\x00\x00\x84\x80\x05\x21\x00\x01\x00\x01",
+    );
+    read(
+        b"PTS 4294967295",
+        b"\x00\x00\x01\xE0\x00\x00\x84\x80\x05\x27\xFF\xFF\xFF\xFF",
+    );
+    read(
+        b"PTS 4294967296",
+        b"\x00\x00\x01\xE0\x00\x00\x84\x80\x05\x29\x00\x01\x00\x01",
+    );
+    read(
+        b"PTS 8589934591",
+        b"\x00\x00\x01\xE0\x00\x00\x84\x80\x05\x2F\xFF\xFF\xFF\xFF",
+    );
+    read(
+        b"PTS 12000, DTS 9000",
+        b"\x00\x00\x01\xE0\x00\x00\x84\xC0\x0A\x31\x00\x01\x5D\xC1\x11\x00\x01\x46\x51",
+    );
+    read(
+        b"PTS 1073741824, DTS 32768",
+        b"\x00\x00\x01\xE0\x00\x00\x84\xC0\x0A\x33\x00\x01\x00\x01\x11\x00\x03\x00\x01",
+    );
+    read(
+        b"PTS 900, DTS 600, TREF 300",
+        b"\x00\x00\x01\xE0\x00\x00\x84\xC1\x12\x31\x00\x01\x07\x09\x11\x00\x01\x04\xB1\x0F\x86\xFE\xF1\x00\x01\x02\x59",
+    );
+    read(
+        b"PTS 7, TREF 8589934591",
+        b"\x00\x00\x01\xE0\x00\x00\x84\x81\x0D\x21\x00\x01\x00\x0F\x0F\x86\xFE\xFF\xFF\xFF\xFF\xFF",
+    );
+    read(
+        b"PTS 7, TREF 0",
+        b"\x00\x00\x01\xE0\x00\x00\x84\x81\x0D\x21\x00\x01\x00\x0F\x0F\x86\xFE\xF1\x00\x01\x00\x01",
+    );
+    read(
+        b"PTS 9000, TREF 9000",
+        b"\x00\x00\x01\xE0\x00\x00\x84\x81\x0D\x21\x00\x01\x46\x51\x0F\x86\xFE\xF1\x00\x01\x46\x51",
+    );
+}
+
+// Refusal 24.
+fn order_of_times() {
+    read(
+        b"PTS equal to DTS",
+        b"\x00\x00\x01\xE0\x00\x00\x84\xC0\x0A\x31\x00\x01\x46\x51\x11\x00\x01\x46\x51",
+    );
+    read(
+        b"PTS before DTS by one",
+        b"\x00\x00\x01\xE0\x00\x00\x84\xC0\x0A\x31\x00\x01\x46\x4F\x11\x00\x01\x46\x51",
+    );
+    read(
+        b"PTS after DTS by 4294967295",
+        b"\x00\x00\x01\xE0\x00\x00\x84\xC0\x0A\x37\xFF\xFF\xFF\xFF\x11\x00\x01\x00\x01",
+    );
+    read(
+        b"PTS before DTS by 4294967296",
+        b"\x00\x00\x01\xE0\x00\x00\x84\xC0\x0A\x31\x00\x01\x00\x01\x19\x00\x01\x00\x01",
+    );
+    read(
+        b"PTS after DTS by 4294967296",
+        b"\x00\x00\x01\xE0\x00\x00\x84\xC0\x0A\x39\x00\x01\x00\x01\x11\x00\x01\x00\x01",
+    );
+    read(
+        b"PTS 400 after DTS 8589934000, across the wrap",
+        b"\x00\x00\x01\xE0\x00\x00\x84\xC0\x0A\x31\x00\x01\x03\x21\x1F\xFF\xFF\xFB\x61",
+    );
+    read(
+        b"PTS 8589934000 before DTS 400, across the wrap",
+        b"\x00\x00\x01\xE0\x00\x00\x84\xC0\x0A\x3F\xFF\xFF\xFB\x61\x11\x00\x01\x03\x21",
+    );
+    read(
+        b"PTS 0 after DTS 8589934591",
+        b"\x00\x00\x01\xE0\x00\x00\x84\xC0\x0A\x31\x00\x01\x00\x01\x1F\xFF\xFF\xFF\xFF",
+    );
+}
+
+// Each optional field alone, and its length one short.
+fn fields_before_the_extension() {
+    read(
+        b"PTS one short",
+        b"\x00\x00\x01\xE0\x00\x00\x84\x80\x04\x21\x00\x01\x46\x51",
+    );
+    read(
+        b"PTS and no header data",
+        b"\x00\x00\x01\xE0\x00\x00\x84\x80\x00",
+    );
+    read(
+        b"DTS one short",
+        b"\x00\x00\x01\xE0\x00\x00\x84\xC0\x09\x31\x00\x01\x5D\xC1\x11\x00\x01\x46\x51",
+    );
+    read(
+        b"ESCR",
+        b"\x00\x00\x01\xE0\x00\x00\x84\xA0\x0B\x21\x00\x01\x46\x51\x04\x00\x04\x00\x04\x01",
+    );
+    read(
+        b"ESCR one short",
+        b"\x00\x00\x01\xE0\x00\x00\x84\xA0\x0A\x21\x00\x01\x46\x51\x04\x00\x04\x00\x04\x01",
+    );
+    read(
+        b"ES rate",
+        b"\x00\x00\x01\xE0\x00\x00\x84\x90\x08\x21\x00\x01\x46\x51\x80\x00\x01",
+    );
+    read(
+        b"ES rate one short",
+        b"\x00\x00\x01\xE0\x00\x00\x84\x90\x07\x21\x00\x01\x46\x51\x80\x00\x01",
+    );
+    read(
+        b"trick mode",
+        b"\x00\x00\x01\xE0\x00\x00\x84\x88\x06\x21\x00\x01\x46\x51\x00",
+    );
+    read(
+        b"trick mode one short",
+        b"\x00\x00\x01\xE0\x00\x00\x84\x88\x05\x21\x00\x01\x46\x51\x00",
+    );
+    read(
+        b"copy info",
+        b"\x00\x00\x01\xE0\x00\x00\x84\x84\x06\x21\x00\x01\x46\x51\x80",
+    );
+    read(
+        b"copy info one short",
+        b"\x00\x00\x01\xE0\x00\x00\x84\x84\x05\x21\x00\x01\x46\x51\x80",
+    );
+    read(
+        b"CRC",
+        b"\x00\x00\x01\xE0\x00\x00\x84\x82\x07\x21\x00\x01\x46\x51\x12\x34",
+    );
+    read(
+        b"CRC one short",
+        b"\x00\x00\x01\xE0\x00\x00\x84\x82\x06\x21\x00\x01\x46\x51\x12\x34",
+    );
+}
+
+// The extension and each of its fields alone, and its length one short.
+fn fields_of_the_extension() {
+    read(
+        b"extension flags alone",
+        b"\x00\x00\x01\xE0\x00\x00\x84\x81\x06\x21\x00\x01\x46\x51\x0E",
+    );
+    read(
+        b"extension flags one short",
+        b"\x00\x00\x01\xE0\x00\x00\x84\x81\x05\x21\x00\x01\x46\x51\x0E",
+    );
+    read(
+        b"private data",
+        b"\x00\x00\x01\xE0\x00\x00\x84\x81\x16\x21\x00\x01\x46\x51\x8E\x30\x31\x32\x33\x34\x35\x36\x37\x38\x39\x3A\x3B\x3C\x3D\x3E\x3F",
+    );
+    read(
+        b"private data one short",
+        b"\x00\x00\x01\xE0\x00\x00\x84\x81\x15\x21\x00\x01\x46\x51\x8E\x30\x31\x32\x33\x34\x35\x36\x37\x38\x39\x3A\x3B\x3C\x3D\x3E\x3F",
+    );
+    read(
+        b"pack header of 3 bytes",
+        b"\x00\x00\x01\xE0\x00\x00\x84\x81\x0A\x21\x00\x01\x46\x51\x4E\x03\xBA\xBA\xBA",
+    );
+    read(
+        b"pack header of 3 bytes one short",
+        b"\x00\x00\x01\xE0\x00\x00\x84\x81\x09\x21\x00\x01\x46\x51\x4E\x03\xBA\xBA\xBA",
+    );
+    read(
+        b"pack header of 0 bytes",
+        b"\x00\x00\x01\xE0\x00\x00\x84\x81\x07\x21\x00\x01\x46\x51\x4E\x00",
+    );
+    read(
+        b"pack header without its length byte",
+        b"\x00\x00\x01\xE0\x00\x00\x84\x81\x06\x21\x00\x01\x46\x51\x4E",
+    );
+    read(
+        b"pack header of 255 bytes past the header data",
+        b"\x00\x00\x01\xE0\x00\x00\x84\x81\x11\x21\x00\x01\x46\x51\x4E\xFF\x00\x00\x00\x00\x00\x00\x00\x00\x00\x00",
+    );
+    read(
+        b"sequence counter",
+        b"\x00\x00\x01\xE0\x00\x00\x84\x81\x08\x21\x00\x01\x46\x51\x2E\x80\x80",
+    );
+    read(
+        b"sequence counter one short",
+        b"\x00\x00\x01\xE0\x00\x00\x84\x81\x07\x21\x00\x01\x46\x51\x2E\x80\x80",
+    );
+    read(
+        b"P-STD buffer",
+        b"\x00\x00\x01\xE0\x00\x00\x84\x81\x08\x21\x00\x01\x46\x51\x1E\x40\x01",
+    );
+    read(
+        b"P-STD buffer one short",
+        b"\x00\x00\x01\xE0\x00\x00\x84\x81\x07\x21\x00\x01\x46\x51\x1E\x40\x01",
+    );
+}
+
+// The second extension: its own length, its flags, and TREF within it.
+fn second_extension() {
+    read(
+        b"second extension without its length byte",
+        b"\x00\x00\x01\xE0\x00\x00\x84\x81\x06\x21\x00\x01\x46\x51\x0F",
+    );
+    read(
+        b"second extension of length 0",
+        b"\x00\x00\x01\xE0\x00\x00\x84\x81\x07\x21\x00\x01\x46\x51\x0F\x80",
+    );
+    read(
+        b"stream_id_extension_flag 0",
+        b"\x00\x00\x01\xE0\x00\x00\x84\x81\x08\x21\x00\x01\x46\x51\x0F\x81\x7E",
+    );
+    read(
+        b"stream_id_extension_flag 0 before five bytes like a TREF",
+        b"\x00\x00\x01\xE0\x00\x00\x84\x81\x0D\x21\x00\x01\x46\x51\x0F\x86\x7E\xF1\x00\x01\x02\x59",
+    );
+    read(
+        b"tref_extension_flag 1",
+        b"\x00\x00\x01\xE0\x00\x00\x84\x81\x08\x21\x00\x01\x46\x51\x0F\x81\xFF",
+    );
+    read(
+        b"tref_extension_flag 1 before five bytes like a TREF",
+        b"\x00\x00\x01\xE0\x00\x00\x84\x81\x0D\x21\x00\x01\x46\x51\x0F\x86\xFF\xF1\x00\x01\x02\x59",
+    );
+    read(
+        b"TREF flagged in a length of 1",
+        b"\x00\x00\x01\xE0\x00\x00\x84\x81\x08\x21\x00\x01\x46\x51\x0F\x81\xFE",
+    );
+    read(
+        b"TREF one short of its length",
+        b"\x00\x00\x01\xE0\x00\x00\x84\x81\x0D\x21\x00\x01\x46\x51\x0F\x85\xFE\xF1\x00\x01\x02\x59",
+    );
+    read(
+        b"second extension one past the header data",
+        b"\x00\x00\x01\xE0\x00\x00\x84\x81\x0D\x21\x00\x01\x46\x51\x0F\x87\xFE\xF1\x00\x01\x02\x59",
+    );
+    read(
+        b"TREF with one byte cut off the header data",
+        b"\x00\x00\x01\xE0\x00\x00\x84\x81\x0C\x21\x00\x01\x46\x51\x0F\x86\xFE\xF1\x00\x01\x02\x59",
+    );
+    read(
+        b"extension ends right after TREF",
+        b"\x00\x00\x01\xE0\x00\x00\x84\x81\x0D\x21\x00\x01\x46\x51\x0F\x86\xFE\xF1\x00\x01\x02\x59",
+    );
+    read(
+        b"extension with two bytes left over",
+        b"\x00\x00\x01\xE0\x00\x00\x84\x81\x0F\x21\x00\x01\x46\x51\x0F\x88\xFE\xF1\x00\x01\x02\x59\x00\x00",
+    );
+    read(
+        b"reserved bits before TREF at 0",
+        b"\x00\x00\x01\xE0\x00\x00\x84\x81\x0D\x21\x00\x01\x46\x51\x01\x86\x80\x01\x00\x01\x02\x59",
+    );
+}
+
+// All fields, stuffing, and a pack header before TREF.
+fn all_together() {
+    read(
+        b"every field",
+        b"\x00\x00\x01\xE0\x00\x00\x84\xFF\x38\x31\x00\x01\x5D\xC1\x11\x00\x01\x46\x51\x04\x00\x04\x00\x04\x01\x80\x00\x01\x00\x80\x12\x34\xFF\x30\x31\x32\x33\x34\x35\x36\x37\x38\x39\x3A\x3B\x3C\x3D\x3E\x3F\x03\xBA\xBA\xBA\x80\x80\x40\x01\x87\xFE\xF1\x00\x01\x43\xF9\xFF",
+    );
+    read(
+        b"every field, one short",
+        b"\x00\x00\x01\xE0\x00\x00\x84\xFF\x37\x31\x00\x01\x5D\xC1\x11\x00\x01\x46\x51\x04\x00\x04\x00\x04\x01\x80\x00\x01\x00\x80\x12\x34\xFF\x30\x31\x32\x33\x34\x35\x36\x37\x38\x39\x3A\x3B\x3C\x3D\x3E\x3F\x03\xBA\xBA\xBA\x80\x80\x40\x01\x87\xFE\xF1\x00\x01\x43\xF9\xFF",
+    );
+    read(
+        b"every field and stuffing",
+        b"\x00\x00\x01\xE0\x00\x00\x84\xFF\x3C\x31\x00\x01\x5D\xC1\x11\x00\x01\x46\x51\x04\x00\x04\x00\x04\x01\x80\x00\x01\x00\x80\x12\x34\xFF\x30\x31\x32\x33\x34\x35\x36\x37\x38\x39\x3A\x3B\x3C\x3D\x3E\x3F\x03\xBA\xBA\xBA\x80\x80\x40\x01\x87\xFE\xF1\x00\x01\x43\xF9\xFF\xFF\xFF\xFF\xFF",
+    );
+    read(
+        b"stuffing after PTS",
+        b"\x00\x00\x01\xE0\x00\x00\x84\x80\x08\x21\x00\x01\x46\x51\xFF\xFF\xFF",
+    );
+    read(
+        b"stuffing like a DTS after PTS",
+        b"\x00\x00\x01\xE0\x00\x00\x84\x80\x0A\x21\x00\x01\x46\x51\x11\x00\x01\x04\xB1",
+    );
+    read(
+        b"stuffing after TREF",
+        b"\x00\x00\x01\xE0\x00\x00\x84\x81\x10\x21\x00\x01\x46\x51\x0F\x86\xFE\xF1\x00\x01\x02\x59\xFF\xFF\xFF",
+    );
+    read(
+        b"pack header of 7 bytes before TREF",
+        b"\x00\x00\x01\xE0\x00\x00\x84\x81\x15\x21\x00\x01\x46\x51\x4F\x07\xBA\xBA\xBA\xBA\xBA\xBA\xBA\x86\xFE\xF1\x00\x01\x02\x59",
+    );
+    read(
+        b"private data before TREF",
+        b"\x00\x00\x01\xE0\x00\x00\x84\x81\x1D\x21\x00\x01\x46\x51\x8F\x30\x31\x32\x33\x34\x35\x36\x37\x38\x39\x3A\x3B\x3C\x3D\x3E\x3F\x86\xFE\xF1\x00\x01\x02\x59",
+    );
+}
+
+// Refusal 23: each marker and prefix of PTS and DTS wrong in turn.
+fn markers_of_pts_and_dts() {
+    read(
+        b"PTS prefix '0011' without a DTS",
+        b"\x00\x00\x01\xE0\x00\x00\x84\x80\x05\x31\x00\x01\x46\x51",
+    );
+    read(
+        b"PTS prefix '0000'",
+        b"\x00\x00\x01\xE0\x00\x00\x84\x80\x05\x01\x00\x01\x46\x51",
+    );
+    read(
+        b"PTS prefix '1010'",
+        b"\x00\x00\x01\xE0\x00\x00\x84\x80\x05\xA1\x00\x01\x46\x51",
+    );
+    read(
+        b"PTS marker after [32..30] at 0",
+        b"\x00\x00\x01\xE0\x00\x00\x84\x80\x05\x20\x00\x01\x46\x51",
+    );
+    read(
+        b"PTS marker after [29..15] at 0",
+        b"\x00\x00\x01\xE0\x00\x00\x84\x80\x05\x21\x00\x00\x46\x51",
+    );
+    read(
+        b"PTS marker after [14..0] at 0",
+        b"\x00\x00\x01\xE0\x00\x00\x84\x80\x05\x21\x00\x01\x46\x50",
+    );
+    read(
+        b"PTS prefix '0010' before a DTS",
+        b"\x00\x00\x01\xE0\x00\x00\x84\xC0\x0A\x21\x00\x01\x5D\xC1\x11\x00\x01\x46\x51",
+    );
+    read(
+        b"DTS prefix '0010'",
+        b"\x00\x00\x01\xE0\x00\x00\x84\xC0\x0A\x31\x00\x01\x5D\xC1\x21\x00\x01\x46\x51",
+    );
+    read(
+        b"DTS prefix '0000'",
+        b"\x00\x00\x01\xE0\x00\x00\x84\xC0\x0A\x31\x00\x01\x5D\xC1\x01\x00\x01\x46\x51",
+    );
+    read(
+        b"DTS marker after [32..30] at 0",
+        b"\x00\x00\x01\xE0\x00\x00\x84\xC0\x0A\x31\x00\x01\x5D\xC1\x10\x00\x01\x46\x51",
+    );
+    read(
+        b"DTS marker after [29..15] at 0",
+        b"\x00\x00\x01\xE0\x00\x00\x84\xC0\x0A\x31\x00\x01\x5D\xC1\x11\x00\x00\x46\x51",
+    );
+    read(
+        b"DTS marker after [14..0] at 0",
+        b"\x00\x00\x01\xE0\x00\x00\x84\xC0\x0A\x31\x00\x01\x5D\xC1\x11\x00\x01\x46\x50",
+    );
+}
+
+// Refusal 23 in the second extension, and its place between 22 and 24.
+fn markers_of_the_extension() {
+    read(
+        b"TREF marker after [32..30] at 0",
+        b"\x00\x00\x01\xE0\x00\x00\x84\x81\x0D\x21\x00\x01\x46\x51\x0F\x86\xFE\xF0\x00\x01\x02\x59",
+    );
+    read(
+        b"TREF marker after [29..15] at 0",
+        b"\x00\x00\x01\xE0\x00\x00\x84\x81\x0D\x21\x00\x01\x46\x51\x0F\x86\xFE\xF1\x00\x00\x02\x59",
+    );
+    read(
+        b"TREF marker after [14..0] at 0",
+        b"\x00\x00\x01\xE0\x00\x00\x84\x81\x0D\x21\x00\x01\x46\x51\x0F\x86\xFE\xF1\x00\x01\x02\x58",
+    );
+    read(
+        b"marker of the extension length at 0",
+        b"\x00\x00\x01\xE0\x00\x00\x84\x81\x0D\x21\x00\x01\x46\x51\x0F\x06\xFE\xF1\x00\x01\x02\x59",
+    );
+    read(
+        b"marker of the extension length at 0 without TREF",
+        b"\x00\x00\x01\xE0\x00\x00\x84\x81\x08\x21\x00\x01\x46\x51\x0F\x01\x7E",
+    );
+    read(
+        b"marker of the extension length at 0, TREF short",
+        b"\x00\x00\x01\xE0\x00\x00\x84\x81\x0D\x21\x00\x01\x46\x51\x0F\x05\xFE\xF1\x00\x01\x02\x59",
+    );
+    read(
+        b"PTS marker at 0, ESCR one short",
+        b"\x00\x00\x01\xE0\x00\x00\x84\xA0\x0A\x20\x00\x01\x46\x51\x04\x00\x04\x00\x04\x01",
+    );
+    read(
+        b"PTS marker at 0, PTS before DTS",
+        b"\x00\x00\x01\xE0\x00\x00\x84\xC0\x0A\x30\x00\x01\x46\x4F\x11\x00\x01\x46\x51",
+    );
+    read(
+        b"TREF marker at 0, PTS before DTS",
+        b"\x00\x00\x01\xE0\x00\x00\x84\xC1\x12\x31\x00\x01\x46\x4F\x11\x00\x01\x46\x51\x0F\x86\xFE\xF1\x00\x01\x02\x58",
+    );
+    read(
+        b"TREF right, PTS before DTS",
+        b"\x00\x00\x01\xE0\x00\x00\x84\xC1\x12\x31\x00\x01\x46\x4F\x11\x00\x01\x46\x51\x0F\x86\xFE\xF1\x00\x01\x02\x59",
+    );
+}
+
+// What is written, byte by byte, in a buffer of AA.
+fn written() {
+    let mut room0 = [0xAAu8; 14];
+    write(b"document: PTS 9000 alone", 9000, 9000, 9000, &mut room0);
+    let mut room1 = [0xAAu8; 25];
+    write(
+        b"document: PTS 12000, TREF 12600, and room beyond",
+        12000,
+        12000,
+        12600,
+        &mut room1,
+    );
+    let mut room2 = [0xAAu8; 20];
+    write(b"PTS 12000, DTS 9000", 12000, 9000, 9000, &mut room2);
+    let mut room3 = [0xAAu8; 27];
+    write(b"PTS 900, DTS 600, TREF 300", 900, 600, 300, &mut room3);
+    let mut room4 = [0xAAu8; 14];
+    write(
+        b"all times 8589934591",
+        8589934591,
+        8589934591,
+        8589934591,
+        &mut room4,
+    );
+    let mut room5 = [0xAAu8; 19];
+    write(
+        b"PTS 400, DTS 8589934000, across the wrap",
+        400,
+        8589934000,
+        8589934000,
+        &mut room5,
+    );
+}
+
+// Refusals 17, 24 and 25: the buffer stays as it was.
+fn not_written() {
+    let mut room0 = [0xAAu8; 13];
+    write(b"one byte short", 9000, 9000, 9000, &mut room0);
+    let mut room1 = [0xAAu8; 26];
+    write(
+        b"one byte short with DTS and TREF",
+        900,
+        600,
+        300,
+        &mut room1,
+    );
+    let mut room2 = [0xAAu8; 0];
+    write(b"no room", 9000, 9000, 9000, &mut room2);
+    let mut room3 = [0xAAu8; 27];
+    write(b"PTS too wide", 8589934592, 0, 0, &mut room3);
+    let mut room4 = [0xAAu8; 27];
+    write(b"decoding time too wide", 0, 8589934592, 0, &mut room4);
+    let mut room5 = [0xAAu8; 0];
+    write(
+        b"match time too wide and no room",
+        0,
+        0,
+        8589934592,
+        &mut room5,
+    );
+    let mut room6 = [0xAAu8; 19];
+    write(b"PTS before DTS", 8999, 9000, 9000, &mut room6);
+    let mut room7 = [0xAAu8; 18];
+    write(
+        b"PTS before DTS, one byte short",
+        8999,
+        9000,
+        9000,
+        &mut room7,
+    );
+}
+
+fn main() {
+    document();
+    not_a_video_header();
+    marks_and_lengths();
+    without_pts();
+    times_alone();
+    order_of_times();
+    fields_before_the_extension();
+    fields_of_the_extension();
+    second_extension();
+    all_together();
+    markers_of_pts_and_dts();
+    markers_of_the_extension();
+    written();
+    not_written();
+}
