@@ -116,6 +116,13 @@ module _ (test : ℕ → Bool) where
   pub first-seek : (n k : ℕ) → First test n k → k ≡ seek test n
   first-seek n k f = first-unique n k (seek test n) f (seek-first n)
 
+  -- a search as a loop does it: nothing before k passes, and k is where it stops
+  pub seek-here : (n k : ℕ) → k < n → ((j : ℕ) → j < k → test j ≡ false) → test k ≡ true → k ≡ seek test n
+  seek-here n k h f e = first-seek n k (record { within = omega arith; before = f; found = λ l. e })
+
+  pub seek-end : (n k : ℕ) → k ≡ n → ((j : ℕ) → j < k → test j ≡ false) → k ≡ seek test n
+  seek-end n k h f = first-seek n k (record { within = omega arith; before = f; found = λ l. absurd (omega arith) })
+
   -- where some number passes, the search stops below the bound
   pub seek-inside : (n : ℕ) → some test n ≡ true → seek test n < n
   seek-inside n e = go (some-which test n e) (decLt (seek test n) n)

@@ -1,5 +1,6 @@
 pub mod Bools
 pub mod Below
+pub mod Those
 pub mod Lists
 pub mod Members
 pub mod Padding
