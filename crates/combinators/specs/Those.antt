@@ -70,16 +70,18 @@ module _ (test : ℕ → Bool) where
       go : (b : Bool) → test n ≡ b → mathlib.Core.Logic._⊎_ (k ≡ n) (k < n)
           → (k < n → test k ≡ true → (p : ℕ) × (p < length (those test n)) × (getD (those test n) p 0 ≡ k))
           → (p : ℕ) × (p < length (those test (suc n))) × (getD (those test (suc n)) p 0 ≡ k)
-      go true q (mathlib.Core.Logic.inl s) ih =
-          (length (those test n),
-            (let long = ap length (one-more n q) ∙ length-append (those test n) (n ∷ []) in omega arith),
-            rw (one-more n q) (getD-at (those test n) n [] 0 (length (those test n)) refl ∙ sym s))
+      go true q (mathlib.Core.Logic.inl s) ih = (
+        length (those test n),
+        (let long = ap length (one-more n q) ∙ length-append (those test n) (n ∷ []) in omega arith),
+        rw (one-more n q) (getD-at (those test n) n [] 0 (length (those test n)) refl ∙ sym s),
+      )
       go false q (mathlib.Core.Logic.inl s) ih = absurd (true≢false (sym e ∙ rw s q))
       go true q (mathlib.Core.Logic.inr l) ih =
-          let w = ih l e in
-          (w .0,
+          let w = ih l e in (
+            w .0,
             (let long = ap length (one-more n q) ∙ length-append (those test n) (n ∷ []) in omega (arith, w .1)),
-            rw (one-more n q) (List·getD-append (those test n) (n ∷ []) 0 (w .0) (w .1) ∙ w .2))
+            rw (one-more n q) (List·getD-append (those test n) (n ∷ []) 0 (w .0) (w .1) ∙ w .2),
+          )
       go false q (mathlib.Core.Logic.inr l) ih =
           let w = ih l e in
           (w .0, (let same = ap length (no-more n q) in omega (arith, w .1)), rw (no-more n q) (w .2))

@@ -1,7 +1,7 @@
 -- The row table of document 01, 'Rows and units', and what is judged on single rows of it: refusals 13 and 14.
 -- Assumes nothing.
 use Prim.Native.Nat.{ℕ}
-use mathlib.Core.Bool.{Bool, not, _&&_, _||_}
+use mathlib.Core.Bool.{Bool, not, cond, _&&_, _||_}
 use mathlib.Core.List.{List}
 use lib.Dec.{eqb, leb, ltb}
 use lib.ListN.{length, getD}
@@ -54,6 +54,10 @@ firstRow t layer = seek (λ k. eqb (layerOf t k) layer) (rowsIn t)
 
 abbrev pub ahead : Table → ℕ → ℕ
 ahead t k = distanceOf (decodingOf t (firstRow t (layerOf t k))) (decodingOf t k)
+
+-- the decoding time of a layer's first row, where `least` is 0 exactly when there was no row of the layer before the one at hand
+abbrev pub firstTime : ℕ → ℕ → ℕ → ℕ
+firstTime least known time = cond (eqb least 0) time known
 
 -- whether an earlier row of the layer lies as far ahead or farther
 abbrev pub passed : Table → ℕ → ℕ → ℕ → Bool
