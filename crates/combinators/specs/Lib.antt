@@ -4,5 +4,6 @@ pub mod Those
 pub mod Lists
 pub mod Members
 pub mod Padding
+pub mod Gathering
 pub mod Lowest
 pub mod Marks

@@ -11,7 +11,7 @@ use native.Mathlib.Nat.{eq-or-lt-of-le, not-suc-le-zero, le-of-suc-le-suc}
 use native.Mathlib.Numerals.{add-one}
 use lib.ListN.{length, getD, length-append, List·getD-append}
 use lib.Seq.{getD-at}
-use Rattle.combinators.specs.Below.{count}
+use Rattle.combinators.specs.Below.{count, seek, seek-here}
 
 abbrev pub those : (ℕ → Bool) → ℕ → List ℕ
 those test zero = []
@@ -39,6 +39,15 @@ module _ (test : ℕ → Bool) where
       go : (b : Bool) → test n ≡ b → length (those test n) ≡ count test n → length (those test (suc n)) ≡ count test (suc n)
       go true p ih = rw (p, length-append (those test n) (n ∷ []), ih) (omega arith)
       go false p ih = rw (p, append-nil (those test n), ih)
+
+  -- no more than there are numbers
+  pub those-short : (n : ℕ) → length (those test n) ≤ n
+  those-short zero = omega arith
+  those-short (suc n) = go (test n) refl (those-short n)
+    where
+      go : (b : Bool) → test n ≡ b → length (those test n) ≤ n → length (those test (suc n)) ≤ suc n
+      go true p ih = rw (p, length-append (those test n) (n ∷ [])) (omega arith)
+      go false p ih = rw (p, append-nil (those test n)) (omega arith)
 
   -- each is below the bound, and passes
   pub record Passing (n k : ℕ) : Type 0 where
@@ -101,3 +110,33 @@ module _ (test : ℕ → Bool) where
           rw (one-more n e, getD-at (those test n) n [] 0 q last, List·getD-append (those test n) (n ∷ []) 0 p inside) (those-at n p inside .below)
       go false e ih (yes s) = rw (no-more n e) (ih s)
       go false e ih (no s) = absurd (let same = ap length (no-more n e) in omega arith)
+
+  -- as many pass before each as stand before it in the list
+  pub those-rank : (n p : ℕ) → p < length (those test n) → count test (getD (those test n) p 0) ≡ p
+  those-rank zero p h = absurd (not-suc-le-zero h)
+  those-rank (suc n) p h = go (test n) refl (those-rank n p) (decLt p (length (those test n)))
+    where
+      go : (b : Bool) → test n ≡ b → (p < length (those test n) → count test (getD (those test n) p 0) ≡ p) → Dec (p < length (those test n))
+          → count test (getD (those test (suc n)) p 0) ≡ p
+      go true e ih (yes l) = rw (one-more n e, List·getD-append (those test n) (n ∷ []) 0 p l) (ih l)
+      go true e ih (no l) =
+          let last : length (those test n) ≡ p = (let long = ap length (one-more n e) ∙ length-append (those test n) (n ∷ []) in omega arith) in
+          rw (one-more n e, getD-at (those test n) n [] 0 p last) (sym (length-those n) ∙ last)
+      go false e ih (yes l) = rw (no-more n e) (ih l)
+      go false e ih (no l) = absurd (let same = ap length (no-more n e) in omega arith)
+
+  -- the first of them is where a search stops
+  pub those-first : (n : ℕ) → 0 < length (those test n) → getD (those test n) 0 0 ≡ seek test n
+  those-first n h =
+      let w = those-at n 0 h in
+      seek-here test n (getD (those test n) 0 0) (w .below) (λ j l. go j l (test j) refl) (w .passes)
+    where
+      before-first : (j p : ℕ) → j < getD (those test n) 0 0 → p < length (those test n) → getD (those test n) p 0 ≡ j → ⊥
+      before-first j zero l q e = omega arith
+      before-first j (suc p) l q e = let rise = those-rise n 0 (suc p) (omega arith) q in omega arith
+
+      go : (j : ℕ) → j < getD (those test n) 0 0 → (b : Bool) → test j ≡ b → test j ≡ false
+      go j l true e =
+          let inside = those-at n 0 h .below in
+          let w = those-which n j (omega arith) e in absurd (before-first j (w .0) l (w .1) (w .2))
+      go j l false e = e
