@@ -5,8 +5,8 @@ ghost use Prim.Native.Nat.{_<_};
 ghost use lib.ListN.{length};
 ghost use Rattle.combinators.specs.Padding.{padTo};
 ghost use Rattle.joining.specs.Table.{table};
-ghost use Rattle.joining.specs.Index.{Sorted, Rising, Climbing, Reached};
-ghost use Rattle.joining.specs.Assemblies.{upperOf, lowerOf, joins, edgesOf, membersOf, rowAt, pairedRow};
+ghost use Rattle.joining.specs.Index.{Sorted, Rising, Climbing, Reached, Ready};
+ghost use Rattle.joining.specs.Assemblies.{upperOf, lowerOf, joins, edgesOf, membersOf, rowAt, pairedRow, assembled};
 use closure::Layers;
 
 // The edges of a closure, as many as `count`, in `list`.
@@ -169,4 +169,56 @@ fn paired_row(
         return indices.len();
     }
     row_at(indices, decodings, starts, order, layer, time)
+}
+
+// The assembly that the row `head` of the layer `top` is at the head of.
+pub fn assemble(
+    indices: &[u8],
+    decodings: &[u64],
+    matches: &[u64],
+    starts: &[usize; 65],
+    order: &[usize; 512],
+    edges: &[u16],
+    top: usize,
+    head: usize,
+) -> Assembly
+    requires { ⌜ Ready (table (now indices) (now decodings) (now matches)) (now starts) (now order) (now edges) × (top < 64) ⌝ }
+    ensures { λ r. ⌜ r ≡ assembled (table (now (indices .entry)) (now (decodings .entry)) (now (matches .entry))) (now (edges .entry)) top head ⌝ }
+{
+    let none = indices.len();
+    let mut rows = [none; 64];
+    rows[top] = head;
+    let mut at = 0;
+    while at < edges.len() {
+        let edge = edges[at] as usize;
+        let upper = rows[63 - edge / 64 % 64];
+        if none <= upper {
+            return Assembly {
+                complete: false,
+                rows,
+            };
+        }
+        let lower = edge % 64;
+        let row = paired_row(
+            indices,
+            decodings,
+            starts,
+            order,
+            rows[lower],
+            lower,
+            matches[upper],
+        );
+        if none <= row {
+            return Assembly {
+                complete: false,
+                rows,
+            };
+        }
+        rows[lower] = row;
+        at += 1;
+    }
+    Assembly {
+        complete: true,
+        rows,
+    }
 }
