@@ -1,3 +1,5 @@
 pub mod Table
 pub mod Index
 pub mod Assemblies
+pub mod Units
+pub mod Judging

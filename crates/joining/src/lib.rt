@@ -3,3 +3,4 @@
 mod assembly;
 mod index;
 mod table;
+mod units;
