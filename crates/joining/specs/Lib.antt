@@ -1,5 +1,6 @@
 pub mod Table
 pub mod Index
 pub mod Assemblies
+pub mod Assembled
 pub mod Units
 pub mod Judging
