@@ -12,12 +12,12 @@ use Rattle.joining.specs.Units.{unitFrom}
 use Rattle.joining.specs.Judging.{marked}
 
 module _ (members rows : List ℕ) (at : ℕ) where
-  next-member : at < length members → unitFrom (drop at members) rows ≡ getD rows (getD members at 0) 0 ∷ unitFrom (drop (at + 1) members) rows
+  pub next-member : at < length members → unitFrom (drop at members) rows ≡ getD rows (getD members at 0) 0 ∷ unitFrom (drop (at + 1) members) rows
   next-member h =
       ap (λ (l : List ℕ). unitFrom l rows) (drop-cons members at 0 h)
       ∙ ap (λ (n : ℕ). getD rows (getD members at 0) 0 ∷ unitFrom (drop n members) rows) (sym (add-one at))
 
-  no-member : length members ≤ at → unitFrom (drop at members) rows ≡ []
+  pub no-member : length members ≤ at → unitFrom (drop at members) rows ≡ []
   no-member h = ap (λ (l : List ℕ). unitFrom l rows) (drop-of-length-le members h)
 
   module _ (used : List Bool) where

@@ -38,9 +38,10 @@ module _ (t : Table) where
   pub row-found : (layer time : ℕ) → rowAt t layer time < rowsIn t → (layerOf t (rowAt t layer time) ≡ layer) × (decodingOf t (rowAt t layer time) ≡ time)
   row-found layer time h =
       let both = seek-first (λ k. eqb (layerOf t k) layer && eqb (decodingOf t k) time) (rowsIn t) .found h in
-      let k : ℕ = rowAt t layer time in
-      (eqb-true (layerOf t k) layer (both-left (eqb (layerOf t k) layer) (eqb (decodingOf t k) time) both),
-      eqb-true (decodingOf t k) time (both-right (eqb (layerOf t k) layer) (eqb (decodingOf t k) time) both))
+      let k : ℕ = rowAt t layer time in (
+        eqb-true (layerOf t k) layer (both-left (eqb (layerOf t k) layer) (eqb (decodingOf t k) time) both),
+        eqb-true (decodingOf t k) time (both-right (eqb (layerOf t k) layer) (eqb (decodingOf t k) time) both),
+      )
 
   -- ---- one edge
 
@@ -90,7 +91,7 @@ module _ (t : Table) where
       where
         go : Dec (layer ≡ lowerOf edge)
             → ((getD rows (lowerOf edge) 0 < rowsIn t) × (row ≡ getD rows (lowerOf edge) 0))
-                ⊎ ((rowsIn t ≤ getD rows (lowerOf edge) 0) × (layerOf t row ≡ lowerOf edge))
+            ⊎ ((rowsIn t ≤ getD rows (lowerOf edge) 0) × (layerOf t row ≡ lowerOf edge))
             → getD (set rows (lowerOf edge) row) layer 0 ≡ getD rows layer 0
         go (no e) o = getD-set-other rows (lowerOf edge) layer row 0 e
         go (yes e) (inl w) = rw e (getD-set-same rows (lowerOf edge) row 0 (omega (arith, long, lower-below edge)) ∙ w .1)
@@ -108,7 +109,7 @@ module _ (t : Table) where
       where
         go : (layer : ℕ) → layer < 64 → getD (set rows (lowerOf edge) row) layer 0 < rowsIn t → Dec (layer ≡ lowerOf edge)
             → ((getD rows (lowerOf edge) 0 < rowsIn t) × (row ≡ getD rows (lowerOf edge) 0))
-                ⊎ ((rowsIn t ≤ getD rows (lowerOf edge) 0) × (layerOf t row ≡ lowerOf edge))
+            ⊎ ((rowsIn t ≤ getD rows (lowerOf edge) 0) × (layerOf t row ≡ lowerOf edge))
             → layerOf t (getD (set rows (lowerOf edge) row) layer 0) ≡ layer
         go layer h l (no e) o =
             let same = getD-set-other rows (lowerOf edge) layer row 0 e in
@@ -122,12 +123,12 @@ module _ (t : Table) where
   -- a complete assembly came by its first edge
   first-met : (edge : ℕ) (edges rows : List ℕ) → assembledFrom t (edge ∷ edges) rows .complete ≡ true
       → (partner t rows edge < rowsIn t)
-          × (assembledFrom t (edge ∷ edges) rows ≡ assembledFrom t edges (set rows (lowerOf edge) (partner t rows edge)))
+      × (assembledFrom t (edge ∷ edges) rows ≡ assembledFrom t edges (set rows (lowerOf edge) (partner t rows edge)))
   first-met edge edges rows e = go (decLt (partner t rows edge) (rowsIn t)) e
     where
       go : Dec (partner t rows edge < rowsIn t) → assembledFrom t (edge ∷ edges) rows .complete ≡ true
           → (partner t rows edge < rowsIn t)
-              × (assembledFrom t (edge ∷ edges) rows ≡ assembledFrom t edges (set rows (lowerOf edge) (partner t rows edge)))
+          × (assembledFrom t (edge ∷ edges) rows ≡ assembledFrom t edges (set rows (lowerOf edge) (partner t rows edge)))
       go (yes h) e = (h, rw (lt-ltb (partner t rows edge) (rowsIn t) h))
       go (no h) e = absurd (true≢false (sym (rw (le-ltb (partner t rows edge) (rowsIn t) (omega arith)) at e)))
 

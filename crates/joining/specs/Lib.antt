@@ -4,3 +4,4 @@ pub mod Assemblies
 pub mod Assembled
 pub mod Units
 pub mod Judging
+pub mod Writing

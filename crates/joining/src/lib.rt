@@ -4,3 +4,4 @@ mod assembly;
 mod index;
 mod table;
 mod units;
+mod writing;
