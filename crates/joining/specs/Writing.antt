@@ -1,12 +1,17 @@
 -- Lists laid over the front of a buffer, as stores one after another leave them.
 -- Assumes nothing.
-use Prim.Native.Nat.{ℕ, zero, suc, _+_, _≤_, _<_}
+use Prim.Native.Nat.{ℕ, zero, suc, _+_, _*_, _≤_, _<_}
+use mathlib.Core.Bool.{false}
 use mathlib.Core.List.{List, [], _∷_, _++_}
 use mathlib.Core.Path.{_≡_, refl, sym, _∙_, ap}
 use native.Mathlib.Nat.{zero-add, add-suc, suc-add, add-zero}
 use native.Mathlib.Omega.{arith}
+use lib.IntN.{ℤ}
 use lib.ListN.{length, drop, getD}
 use lib.Seq.{sets, sets-eq}
+use Rattle.joining.specs.Table.{Table, rowsIn}
+use Rattle.joining.specs.Units.{Frame, unpaired, unitsIn}
+use Rattle.joining.specs.Judging.{Whole}
 
 module _ {A : Type 0} where
   -- 'On acceptance the room beyond what was written is untouched too.'
@@ -29,3 +34,10 @@ module _ {A : Type 0} where
 pub record Placed (members rows column : List ℕ) : Type 0 where
   pub index : (p : ℕ) → p < length members → getD members p 0 < 64
   pub row : (p : ℕ) → p < length members → getD rows (getD members p 0) 0 < length column
+
+-- what writing all units asks: every target row has its assembly, and there is room for them in both lists
+pub record Writable (t : Table) (f : Frame) (numbers : List ℕ) (lags : List ℤ) : Type 0 where
+  pub whole : Whole t f
+  pub paired : (k : ℕ) → k < rowsIn t → unpaired t f k ≡ false
+  pub room-numbers : unitsIn t f * length (f .members) ≤ length numbers
+  pub room-lags : unitsIn t f * length (f .members) ≤ length lags
