@@ -140,3 +140,12 @@ module _ (test : ℕ → Bool) where
           let inside = those-at n 0 h .below in
           let w = those-which n j (omega arith) e in absurd (before-first j (w .0) l (w .1) (w .2))
       go j l false e = e
+
+  -- a lower one comes earlier
+  pub those-earlier : (n i j : ℕ) → i < length (those test n) → j < length (those test n) → getD (those test n) j 0 < getD (those test n) i 0 → j < i
+  those-earlier n i j h l k = go (decLt j i) (decLt i j)
+    where
+      go : Dec (j < i) → Dec (i < j) → j < i
+      go (yes s) d = s
+      go (no s) (yes d) = absurd (let rise = those-rise n i j d l in omega arith)
+      go (no s) (no d) = absurd (let same : i ≡ j = omega arith in let eq = ap (λ (m : ℕ). getD (those test n) m 0) same in omega arith)

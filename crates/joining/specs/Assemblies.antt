@@ -30,10 +30,10 @@ abbrev pub isEdge : Layers → ℕ → ℕ → Bool
 isEdge layers closure edge = joins closure (getD (layers .embedded) (upperOf edge) 0) (upperOf edge) (lowerOf edge)
 
 -- the edges of a closure, and its layers in rising index
-abbrev pub edgesOf : Layers → ℕ → List ℕ
+unfoldable pub edgesOf : Layers → ℕ → List ℕ
 edgesOf layers closure = those (isEdge layers closure) 4096
 
-abbrev pub membersOf : ℕ → List ℕ
+unfoldable pub membersOf : ℕ → List ℕ
 membersOf closure = those (has closure) 64
 
 -- the row of a layer that has a decoding time, or the number of rows where there is none

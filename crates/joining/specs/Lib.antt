@@ -5,3 +5,4 @@ pub mod Assembled
 pub mod Units
 pub mod Judging
 pub mod Writing
+pub mod Frames

@@ -8,7 +8,7 @@ use native.Mathlib.Omega.{arith}
 use borrow.Author.Needs.{needs}
 use lib.ListN.{getD}
 use Rattle.combinators.specs.Gathering.{Gathered, gathered-start, gathered-room, gathered-more, gathered-same, gathered-count, gathered-array}
-use Rattle.joining.specs.Assemblies.{isEdge, joins}
+use Rattle.joining.specs.Assemblies.{isEdge, edgesOf, joins}
 use Rattle.joining.proofs.assembly.edges_of.Statement.{statement}
 use Rattle.joining.proofs.assembly.edges_of.Tie as tie
 
@@ -76,6 +76,7 @@ loop-again c =
     (c .if1 .came)
 
 returns : tie.Need-returns Inv-loop μ-loop
+unfolding edgesOf
 returns c =
     let at = c .before .loop in
     let counted = gathered-count _ 4096 _ _ _ (at .inv) (c .loop-test .left) in

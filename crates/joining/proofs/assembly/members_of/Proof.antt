@@ -8,6 +8,7 @@ use native.Mathlib.Omega.{arith}
 use borrow.Author.Needs.{needs}
 use Rattle.combinators.specs.Gathering.{Gathered, gathered-start, gathered-room, gathered-more, gathered-same, gathered-count, gathered-array}
 use Rattle.sets.specs.Sets.{has}
+use Rattle.joining.specs.Assemblies.{membersOf}
 use Rattle.joining.proofs.assembly.members_of.Statement.{statement}
 use Rattle.joining.proofs.assembly.members_of.Tie as tie
 
@@ -50,6 +51,7 @@ loop-again c =
     (c .if1 .came)
 
 returns : tie.Need-returns Inv-loop μ-loop
+unfolding membersOf
 returns c =
     let at = c .before .loop in
     let counted = gathered-count _ 64 _ _ _ (at .inv) (c .loop-test .left) in
