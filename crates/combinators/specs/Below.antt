@@ -7,6 +7,7 @@ use mathlib.Core.Bool.{Bool, true, false, cond, _&&_, _||_}
 use mathlib.Core.Logic.{_⊎_, inl, inr, ⊎-elim}
 use native.Mathlib.Omega.{arith}
 use native.Mathlib.Decide.{decLt}
+use native.Mathlib.Numerals.{add-one}
 use native.Mathlib.Nat.{add-suc, suc-add, zero-add, eq-or-lt-of-le, not-suc-le-zero, le-of-suc-le-suc}
 use borrow.Author.Tests.{lt-ltb, le-ltb, ltb-true, ltb-false}
 use lib.Dec.{T, ltb}
@@ -116,6 +117,13 @@ module _ (test : ℕ → Bool) where
   pub first-seek : (n k : ℕ) → First test n k → k ≡ seek test n
   first-seek n k f = first-unique n k (seek test n) f (seek-first n)
 
+  -- a search as a loop does it: nothing before k passes, and k is where it stops
+  pub seek-here : (n k : ℕ) → k < n → ((j : ℕ) → j < k → test j ≡ false) → test k ≡ true → k ≡ seek test n
+  seek-here n k h f e = first-seek n k (record { within = omega arith; before = f; found = λ l. e })
+
+  pub seek-end : (n k : ℕ) → k ≡ n → ((j : ℕ) → j < k → test j ≡ false) → k ≡ seek test n
+  seek-end n k h f = first-seek n k (record { within = omega arith; before = f; found = λ l. absurd (omega arith) })
+
   -- where some number passes, the search stops below the bound
   pub seek-inside : (n : ℕ) → some test n ≡ true → seek test n < n
   seek-inside n e = go (some-which test n e) (decLt (seek test n) n)
@@ -123,3 +131,36 @@ module _ (test : ℕ → Bool) where
       go : (k : ℕ) × (k < n) × (test k ≡ true) → Dec (seek test n < n) → seek test n < n
       go w (yes h) = h
       go w (no h) = absurd (apart (w .2) (seek-first n .before (w .0) (omega (arith, w .1, seek-first n .within))))
+
+-- ---- counts
+
+module _ (test : ℕ → Bool) where
+  pub count-short : (n : ℕ) → count test n ≤ n
+  count-short zero = omega arith
+  count-short (suc n) = go (test n) (count-short n)
+    where
+      go : (b : Bool) → count test n ≤ n → cond b (suc (count test n)) (count test n) ≤ suc n
+      go true ih = omega arith
+      go false ih = omega arith
+
+  pub count-more : (n : ℕ) → test n ≡ true → count test (n + 1) ≡ count test n + 1
+  count-more n e = rw (add-one n, e, add-one (count test n))
+
+  pub count-same : (n : ℕ) → test n ≡ false → count test (n + 1) ≡ count test n
+  count-same n e = rw (add-one n, e)
+
+  count-step : (n : ℕ) → count test n ≤ count test (suc n)
+  count-step n = go (test n)
+    where
+      go : (b : Bool) → count test n ≤ cond b (suc (count test n)) (count test n)
+      go true = omega arith
+      go false = omega arith
+
+  -- a number that passes is counted past it
+  pub count-less : (j k : ℕ) → j < k → test j ≡ true → count test j < count test k
+  count-less j zero h e = absurd (not-suc-le-zero h)
+  count-less j (suc k) h e = go (eq-or-lt-of-le (le-of-suc-le-suc h)) (count-less j k)
+    where
+      go : (j ≡ k) ⊎ (j < k) → (j < k → test j ≡ true → count test j < count test k) → count test j < count test (suc k)
+      go (inl p) ih = let q : test k ≡ true = rw (← p) e in rw (p, q) (omega arith)
+      go (inr l) ih = let less = ih l e in let step = count-step k in omega arith

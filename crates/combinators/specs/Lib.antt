@@ -1,7 +1,9 @@
 pub mod Bools
 pub mod Below
+pub mod Those
 pub mod Lists
 pub mod Members
 pub mod Padding
+pub mod Gathering
 pub mod Lowest
 pub mod Marks

@@ -1,7 +1,7 @@
 -- Searches over a list, what is gathered from one, and a list from a place on.
 -- Assumes nothing.
 use Prim.Native.Nat.{ℕ, zero, suc, _+_, _-_, _≤_, _<_}
-use mathlib.Core.Path.{_≡_, refl, sym, ap, _∙_}
+use mathlib.Core.Path.{_≡_, refl, sym, ap, ap₂, _∙_}
 use mathlib.Core.Bool.{Bool, true, false, _||_, or-assoc, or-false}
 use mathlib.Core.List.{List, [], _∷_, _++_, map, append-nil, append-assoc, head-eq-of-cons-eq, tail-eq-of-cons-eq}
 use native.Mathlib.Omega.{arith}
@@ -121,6 +121,13 @@ any-which test (x ∷ xs) e = go (test x) refl (any-which test xs)
         → (k : ℕ) × (y : _) × Nth (x ∷ xs) k y × (test y ≡ true)
     go true p later = (0, x, here, p)
     go false p later = let w = later (rw p at e) in (suc (w .0), w .1, there (w .2), w .3)
+
+-- tests that agree on a list's elements pass at some of them alike
+pub any-same : {A : Type 0} (test other : A → Bool) (d : A) (l : List A) → ((k : ℕ) → k < length l → test (getD l k d) ≡ other (getD l k d))
+    → any test l ≡ any other l
+any-same test other d [] f = refl
+any-same test other d (x ∷ xs) f =
+    ap₂ (λ (a b : Bool). a || b) (f 0 (omega arith)) (any-same test other d xs (λ k h. f (suc k) (omega arith)))
 
 -- A list of tests, each with what follows where it holds, by its place in the list.
 abbrev pub Handled : (ℕ → Type 0) → ℕ → List Bool → Type 0

@@ -1,0 +1,138 @@
+-- All units written, target row after target row: what is known after some rows of the table, and what another row adds.
+-- Assumes nothing.
+use Prim.Native.Nat.{ℕ, zero, suc, _+_, _*_, _≤_, _<_}
+use mathlib.Core.Path.{_≡_, refl, sym, _∙_, ap, ap₂, subst}
+use mathlib.Core.Bool.{Bool, true, false, not, _&&_}
+use mathlib.Core.List.{List, [], _∷_, _++_, append-nil, map}
+use native.Mathlib.Omega.{arith}
+use native.Mathlib.Nat.{zero-add, mul-le-mul-right, suc-mul, le-trans}
+use native.Mathlib.Numerals.{add-one}
+use borrow.Author.Tests.{not-false}
+use lib.IntN.{ℤ}
+use lib.ListN.{length, getD, length-append, length-map}
+use lib.Seq.{sets, length-sets}
+use Rattle.combinators.specs.Below.{count, count-more, count-same, count-less}
+use Rattle.combinators.specs.Lists.{gather, gather-append}
+use Rattle.combinators.specs.Those.{those, length-those, those-more, those-same}
+use Rattle.joining.specs.Table.{Table, rowsIn, decodingOf}
+use Rattle.joining.specs.Units.{Frame, isTarget, assemblyOf, unitFrom, lagsFrom, unitOf, lagsOf, rowsBelow, lagsBelow, unpaired, unitsIn}
+use Rattle.joining.specs.Writing.{sets-append, Placed, Writable}
+
+-- ---- what is gathered from one row more, and how long it is
+
+module _ {A : Type 0} (g : ℕ → List A) where
+  pub gathered-more : (test : ℕ → Bool) (k : ℕ) → test k ≡ true → gather g (those test (k + 1)) ≡ gather g (those test k) ++ g k
+  gathered-more test k e =
+      ap (gather g) (those-more test k e)
+      ∙ gather-append g (those test k) (k ∷ [])
+      ∙ ap (λ (l : List A). gather g (those test k) ++ l) (append-nil (g k))
+
+  pub gathered-same : (test : ℕ → Bool) (k : ℕ) → test k ≡ false → gather g (those test (k + 1)) ≡ gather g (those test k)
+  gathered-same test k e = ap (gather g) (those-same test k e)
+
+  length-gather : (size : ℕ) → ((k : ℕ) → length (g k) ≡ size) → (l : List ℕ) → length (gather g l) ≡ length l * size
+  length-gather size f [] = omega arith
+  length-gather size f (k ∷ l) =
+      length-append (g k) (gather g l) ∙ ap₂ (λ (a b : ℕ). a + b) (f k) (length-gather size f l) ∙ (let e = suc-mul (length l) size in omega arith)
+
+  pub length-gathered : (size : ℕ) → ((k : ℕ) → length (g k) ≡ size) → (test : ℕ → Bool) (k : ℕ) → length (gather g (those test k)) ≡ count test k * size
+  length-gathered size f test k = length-gather size f (those test k) ∙ ap (λ (n : ℕ). n * size) (length-those test k)
+
+module _ (t : Table) (f : Frame) where
+  unit-long : (k : ℕ) → length (unitOf t f k) ≡ length (f .members)
+  unit-long k = length-map (f .members) (λ layer. getD (assemblyOf t f k .rows) layer 0)
+
+  lags-long : (k : ℕ) → length (lagsOf t f k) ≡ length (f .members)
+  lags-long k = length-map (unitOf t f k) (λ row. Rattle.clock.specs.Clock.lagOf (decodingOf t row) (decodingOf t k)) ∙ unit-long k
+
+  pub rows-long : (k : ℕ) → length (rowsBelow t f k) ≡ count (isTarget t f) k * length (f .members)
+  rows-long k = length-gathered (unitOf t f) (length (f .members)) unit-long (isTarget t f) k
+
+  pub beside-long : (k : ℕ) → length (lagsBelow t f k) ≡ count (isTarget t f) k * length (f .members)
+  beside-long k = length-gathered (lagsOf t f) (length (f .members)) lags-long (isTarget t f) k
+
+-- ---- the walk
+
+pub record Filled (t : Table) (f : Frame) (numbers₀ : List ℕ) (lags₀ : List ℤ) (k at : ℕ) (numbers : List ℕ) (lags : List ℤ) : Type 0 where
+  pub within : k ≤ rowsIn t
+  pub place : at ≡ count (isTarget t f) k * length (f .members)
+  pub content : numbers ≡ sets numbers₀ 0 (rowsBelow t f k)
+  pub beside : lags ≡ sets lags₀ 0 (lagsBelow t f k)
+
+module _ (t : Table) (f : Frame) (numbers₀ : List ℕ) (lags₀ : List ℤ) where
+  pub filled-start : Filled t f numbers₀ lags₀ 0 0 numbers₀ lags₀
+  filled-start = record { within = omega arith; place = omega arith; content = refl; beside = refl }
+
+  module _ (k at : ℕ) (numbers : List ℕ) (lags : List ℤ) (known : Filled t f numbers₀ lags₀ k at numbers lags) where
+    pub long-numbers : length numbers ≡ length numbers₀
+    long-numbers = ap length (known .content) ∙ length-sets numbers₀ 0 (rowsBelow t f k)
+
+    pub long-lags : length lags ≡ length lags₀
+    long-lags = ap length (known .beside) ∙ length-sets lags₀ 0 (lagsBelow t f k)
+
+    pub filled-end : rowsIn t ≤ k → (numbers ≡ sets numbers₀ 0 (rowsBelow t f (rowsIn t))) × (lags ≡ sets lags₀ 0 (lagsBelow t f (rowsIn t)))
+    filled-end h =
+        let all : k ≡ rowsIn t = omega (arith, known .within) in
+        (known .content ∙ ap (λ (n : ℕ). sets numbers₀ 0 (rowsBelow t f n)) all, known .beside ∙ ap (λ (n : ℕ). sets lags₀ 0 (lagsBelow t f n)) all)
+
+    module _ (inside : k < rowsIn t) where
+      pub filled-other : isTarget t f k ≡ false → Filled t f numbers₀ lags₀ (k + 1) at numbers lags
+      filled-other m =
+          record {
+            within = omega arith;
+            place = known .place ∙ ap (λ (n : ℕ). n * length (f .members)) (sym (count-same (isTarget t f) k m));
+            content = known .content ∙ ap (sets numbers₀ 0) (sym (gathered-same (unitOf t f) (isTarget t f) k m));
+            beside = known .beside ∙ ap (sets lags₀ 0) (sym (gathered-same (lagsOf t f) (isTarget t f) k m));
+          }
+
+      module _ (m : isTarget t f k ≡ true) where
+        next-place : at + length (f .members) ≡ count (isTarget t f) (k + 1) * length (f .members)
+        next-place =
+            ap (λ (n : ℕ). n + length (f .members)) (known .place)
+            ∙ (let e = suc-mul (count (isTarget t f) k) (length (f .members)) in
+            let c = ap (λ (n : ℕ). n * length (f .members)) (count-more (isTarget t f) k m ∙ add-one (count (isTarget t f) k)) in omega arith)
+
+        module _ (ready : Writable t f numbers₀ lags₀) where
+          below-all : at + length (f .members) ≤ unitsIn t f * length (f .members)
+          below-all =
+              let less = count-less (isTarget t f) k (rowsIn t) inside m in
+              let more = count-more (isTarget t f) k m in
+              subst (λ (n : ℕ). n ≤ unitsIn t f * length (f .members)) (sym next-place)
+              (mul-le-mul-right (length (f .members)) (omega arith))
+
+          pub room-numbers : at + length (f .members) ≤ length numbers
+          room-numbers = omega (arith, below-all, ready .room-numbers, long-numbers)
+
+          pub room-lags : at + length (f .members) ≤ length lags
+          room-lags = omega (arith, below-all, ready .room-lags, long-lags)
+
+          pub unit-placed : length (t .decodings) ≡ rowsIn t → Placed (f .members) (assemblyOf t f k .rows) (t .decodings)
+          unit-placed long =
+              record {
+                index = ready .whole .index;
+                row = λ p h. (let r = ready .whole .row k p inside complete h in omega arith);
+              }
+            where
+              complete : assemblyOf t f k .complete ≡ true
+              complete =
+                  not-false (assemblyOf t f k .complete)
+                  (sym (ap (λ (b : Bool). b && not (assemblyOf t f k .complete)) m) ∙ ready .paired k inside)
+
+        -- a unit more
+        pub filled-target : (numbers′ : List ℕ) (lags′ : List ℤ) → numbers′ ≡ sets numbers at (unitOf t f k) → lags′ ≡ sets lags at (lagsOf t f k)
+            → Filled t f numbers₀ lags₀ (k + 1) (at + length (f .members)) numbers′ lags′
+        filled-target numbers′ lags′ n l =
+            record {
+              within = omega arith;
+              place = next-place;
+              content =
+                  n ∙ ap₂ (λ (x : List ℕ) (a : ℕ). sets x a (unitOf t f k)) (known .content)
+                  (known .place ∙ sym (rows-long t f k) ∙ sym (zero-add (length (rowsBelow t f k))))
+                  ∙ sets-append numbers₀ 0 (rowsBelow t f k) (unitOf t f k)
+                  ∙ ap (sets numbers₀ 0) (sym (gathered-more (unitOf t f) (isTarget t f) k m));
+              beside =
+                  l ∙ ap₂ (λ (x : List ℤ) (a : ℕ). sets x a (lagsOf t f k)) (known .beside)
+                  (known .place ∙ sym (beside-long t f k) ∙ sym (zero-add (length (lagsBelow t f k))))
+                  ∙ sets-append lags₀ 0 (lagsBelow t f k) (lagsOf t f k)
+                  ∙ ap (sets lags₀ 0) (sym (gathered-more (lagsOf t f) (isTarget t f) k m));
+            }
