@@ -29,12 +29,12 @@ use Rattle.es_loop.specs.Entries.{blankEntry, entryOf, streamsOf}
 use Rattle.es_loop.specs.Conditions.{applies, refusalOf}
 use Rattle.es_loop.specs.Reading.{refusedWith, accepted, judged, loopRead}
 use Rattle.es_loop.specs.Judged.{judged-refused, judged-accepted}
 use Rattle.loop_writer.specs.declared.Written.{Written}
 use Rattle.loop_writer.specs.declared.Written.the-variants.{Bytes, Refused}
 use Rattle.loop_writer.specs.Layout.{loopBytes, tooWide}
 use Rattle.loop_writer.specs.Writing.{streamFor, onUnknownType, appliesTo, inRoom, judgedIn, answer, contentAfter, content}
-use Rattle.loop_writer.specs.ReadBack.{normal, readAs, Typed, read-written}
-use Rattle.loop_writer.specs.Verdicts.{NotBySix, read-normal, same-lowest, none-unknown}
+use Rattle.loop_round_trip.specs.ReadBack.{normal, readAs, Typed, read-written}
+use Rattle.loop_round_trip.specs.Verdicts.{NotBySix, read-normal, same-lowest, none-unknown}
 
 -- THE ANSWER, CASE BY CASE: what is known where it is so many bytes, and where it is a refusal.
 pub record Writes (room count : ℕ) (array : List Entry) (n : ℕ) : Type 0 where

@@ -1,0 +1,72 @@
+// Writes the sample loops from their values, and prints each as hexadecimal bytes, or its refusal. What it prints is held to the file
+// 'stdout', which has the samples' own bytes.
+mod entries;
+mod shown;
+
+use entries::above;
+use entries::base;
+use entries::enhancement;
+use entries::extension;
+use entries::two_below;
+use es_loop::Entry;
+use es_loop::blank_entries;
+
+fn write(name: &[u8], count: usize, list: [Entry; 201]) {
+    let mut out = [0u8; 1008];
+    let written = loop_writer::write_loop(count, list, &mut out);
+    shown::show(name, written, &out);
+}
+
+// Document 01's loop A: AVC base, SVC spatial enhancement, HEVC extension.
+fn loop_a() {
+    let mut list = blank_entries();
+    list[0] = base(0x1B, 0x100);
+    list[1] = enhancement(0x1F, 0x101, 1, 1, 0, 1);
+    list[2] = extension(0x28, 0x102, 2, 2, 0, 1, true, 2, above(0));
+    write(b"loop-a", 3, list);
+}
+
+// A base view and two MVC views.
+fn mvc() {
+    let mut list = blank_entries();
+    list[0] = base(0x1B, 0x110);
+    list[1] = enhancement(0x20, 0x111, 9, 1, 0, 1);
+    list[2] = enhancement(0x20, 0x112, 9, 2, 1, 1);
+    write(b"mvc", 3, list);
+}
+
+// Two views of HEVC, each with a temporal layer above its base.
+fn mv_hevc() {
+    let mut list = blank_entries();
+    list[0] = base(0x24, 0x100);
+    list[1] = enhancement(0x25, 0x101, 3, 1, 0, 1);
+    list[2] = extension(0x28, 0x102, 1, 2, 0, 1, false, 2, above(0));
+    list[3] = extension(0x29, 0x103, 9, 3, 1, 1, false, 3, two_below(1, 2));
+    list[4] = extension(0x28, 0x104, 1, 4, 0, 2, false, 4, above(0));
+    list[5] = extension(0x29, 0x105, 9, 5, 1, 2, false, 5, two_below(1, 4));
+    write(b"mv-hevc", 6, list);
+}
+
+// An enhancement that rests on a layer which is not in the loop: that is no fault of the loop.
+fn absent() {
+    let mut list = blank_entries();
+    list[0] = base(0x1B, 0x100);
+    list[1] = enhancement(0x1F, 0x102, 2, 2, 1, 2);
+    write(b"absent", 2, list);
+}
+
+// A layer that names its own index.
+fn refused() {
+    let mut list = blank_entries();
+    list[0] = base(0x1B, 0x100);
+    list[1] = enhancement(0x1F, 0x101, 1, 1, 1, 1);
+    write(b"refused", 2, list);
+}
+
+fn main() {
+    loop_a();
+    mvc();
+    mv_hevc();
+    absent();
+    refused();
+}
