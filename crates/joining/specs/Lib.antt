@@ -6,3 +6,4 @@ pub mod Units
 pub mod Judging
 pub mod Writing
 pub mod Frames
+pub mod Joining

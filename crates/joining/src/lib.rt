@@ -2,6 +2,7 @@
 // give the units of the target's rows, or the refusal (11 to 17) with its place.
 mod assembly;
 mod index;
+mod join;
 mod table;
 mod units;
 mod writing;
