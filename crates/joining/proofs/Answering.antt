@@ -1,27 +1,33 @@
 -- The answer, way by way: each return of the code is a case of the definition, given what its calls answer.
 -- Assumes nothing.
-use Prim.Native.Nat.{ℕ, zero, suc, _+_, _*_, _≤_, _<_}
+use Prim.Native.Nat.{ℕ, zero, suc, _+_, _-_, _*_, _≤_, _<_}
 use mathlib.Core.Path.{_≡_, refl, sym, _∙_, ap, ap₂, subst}
-use mathlib.Core.Bool.{Bool, true, false, not, cond, _&&_}
+use mathlib.Core.Bool.{Bool, true, false, not, cond, _&&_, _||_}
 use mathlib.Core.List.{List}
 use native.Mathlib.Omega.{arith}
 use native.Mathlib.Nat.{mul-le-mul}
-use borrow.Author.Tests.{lt-ltb, le-ltb}
-use lib.Dec.{ltb}
+use borrow.Author.Tests.{lt-ltb, le-ltb, ltb-false, eqb-true, not-false}
+use lib.Dec.{eqb, leb, ltb}
 use lib.IntN.{ℤ}
-use lib.ListN.{length, getD}
-use lib.Seq.{sets}
+use lib.ListN.{length, getD, take, replicate, length-append}
+use lib.Seq.{sets, take-append-seam}
+use Rattle.closure.specs.declared.Layers.{Layers}
+use Rattle.clock.specs.Clock.{ticks}
+use Rattle.combinators.specs.Bools.{neither-left, neither-right}
 use Rattle.combinators.specs.Below.{count, seek-first, count-short, count-alike}
+use Rattle.combinators.specs.Padding.{padTo}
 use Rattle.sets.specs.Sets.{has}
-use Rattle.vocabulary.specs.declared.refusal.Refusal.the-variants.{Unpaired, UsedTwice, NoRoom}
+use Rattle.vocabulary.specs.declared.refusal.Refusal.the-variants.{OutOfRange, TimeOrderBroken, Unpaired, UsedTwice, NoRoom}
 use Rattle.joining.specs.declared.join.Joined.{Joined}
 use Rattle.joining.specs.declared.join.Joined.the-variants.{Units, Refused}
 use Rattle.joining.specs.declared.units.Judged.{Judged}
-use Rattle.joining.specs.Table.{Table, rowsIn, layerOf}
+use Rattle.joining.specs.Table.{Table, rowsIn, layerOf, decodingOf, matchOf, wrongShape, outOfRange, firstOutOfRange, breaksOrder, firstBroken}
 use Rattle.joining.specs.Units.{Frame, isTarget, unpaired, shares, firstUnpaired, firstShared, unitsIn, rowsBelow, lagsBelow, leftOut, isLeftOut}
 use Rattle.joining.specs.Judging.{Whole, Judges}
 use Rattle.joining.specs.Writing.{over, sets-over, Writable}
-use Rattle.joining.specs.Joining.{places, unitsJoined, isSpare}
+use Rattle.joining.specs.Joining.{places, unitsJoined, tableJoined, isSpare}
+use Rattle.joining.specs.Frames.{frameOf}
+use Rattle.joining.specs.Orderly.{Closed, Orderly}
 use Rattle.joining.proofs.Filling.{rows-long, beside-long}
 
 pub taken : {A : Type 0} (x y : A) (b : Bool) → b ≡ true → x ≡ cond b x y
@@ -133,3 +139,93 @@ numbers-over t f numbers h = sets-over (rowsBelow t f (rowsIn t)) numbers (subst
 pub lags-over : (t : Table) (f : Frame) (lags : List ℤ) → places t f ≤ length lags
     → sets lags 0 (lagsBelow t f (rowsIn t)) ≡ over (lagsBelow t f (rowsIn t)) lags
 lags-over t f lags h = sets-over (lagsBelow t f (rowsIn t)) lags (subst (λ (n : ℕ). n ≤ length lags) (sym (beside-long t f (rowsIn t))) h)
+
+-- a list lent out of the array that it fills from the front
+pub part-is : (size count : ℕ) (l array : List ℕ) → count ≡ length l → array ≡ padTo size 0 l → take count array ≡ l
+part-is size count l array e a = ap₂ (λ (n : ℕ) (x : List ℕ). take n x) e a ∙ take-append-seam l (replicate (size - length l) 0)
+
+pub part-fits : (size count : ℕ) (l array : List ℕ) → count ≡ length l → array ≡ padTo size 0 l → count ≤ length array
+part-fits size count l array e a =
+    omega (arith, e, ap length a ∙ length-append l (replicate (size - length l) 0))
+
+-- ---- 13 and 14
+
+-- what a right shape means
+module _ (t : Table) (shape : wrongShape t ≡ false) where
+  shape-rest : (not (eqb (length (t .matches)) (rowsIn t)) || ltb 512 (rowsIn t)) ≡ false
+  shape-rest =
+      neither-right (not (eqb (length (t .decodings)) (rowsIn t))) (not (eqb (length (t .matches)) (rowsIn t)) || ltb 512 (rowsIn t)) shape
+
+  pub shape-decoded : length (t .decodings) ≡ rowsIn t
+  shape-decoded =
+      eqb-true (length (t .decodings)) (rowsIn t) (not-false (eqb (length (t .decodings)) (rowsIn t))
+      (neither-left (not (eqb (length (t .decodings)) (rowsIn t))) (not (eqb (length (t .matches)) (rowsIn t)) || ltb 512 (rowsIn t)) shape))
+
+  pub shape-matched : length (t .matches) ≡ rowsIn t
+  shape-matched =
+      eqb-true (length (t .matches)) (rowsIn t) (not-false (eqb (length (t .matches)) (rowsIn t))
+      (neither-left (not (eqb (length (t .matches)) (rowsIn t))) (ltb 512 (rowsIn t)) shape-rest))
+
+  pub shape-short : rowsIn t ≤ 512
+  shape-short = ltb-false 512 (rowsIn t) (neither-right (not (eqb (length (t .matches)) (rowsIn t))) (ltb 512 (rowsIn t)) shape-rest)
+
+module _ (layers : Layers) (target : ℕ) (t : Table) (closure numberRoom lagRoom : ℕ) where
+  abbrev pastOrder : Joined
+  pastOrder = unitsJoined t closure (frameOf layers closure target) numberRoom lagRoom
+
+  abbrev pastRange : Joined
+  pastRange = cond (ltb (firstBroken t closure) (rowsIn t)) (Refused (TimeOrderBroken (firstBroken t closure))) pastOrder
+
+  abbrev pastShape : Joined
+  pastShape = cond (ltb (firstOutOfRange t) (rowsIn t)) (Refused (OutOfRange (firstOutOfRange t))) pastRange
+
+  pub bad-shape : wrongShape t ≡ true → Refused (OutOfRange 0) ≡ tableJoined layers target t closure numberRoom lagRoom
+  bad-shape e = taken (Refused (OutOfRange 0)) pastShape (wrongShape t) e
+
+  module _ (shape : wrongShape t ≡ false) where
+    after-shape : pastShape ≡ tableJoined layers target t closure numberRoom lagRoom
+    after-shape = passed (Refused (OutOfRange 0)) pastShape (wrongShape t) shape
+
+    module _ (outside : ℕ) (is-outside : outside ≡ firstOutOfRange t) where
+      pub out-of-range : outside < rowsIn t → Refused (OutOfRange outside) ≡ tableJoined layers target t closure numberRoom lagRoom
+      out-of-range h =
+          ap (λ (k : ℕ). Refused (OutOfRange k)) is-outside
+          ∙ taken (Refused (OutOfRange (firstOutOfRange t))) pastRange (ltb (firstOutOfRange t) (rowsIn t))
+          (lt-ltb (firstOutOfRange t) (rowsIn t) (subst (λ (k : ℕ). k < rowsIn t) is-outside h))
+          ∙ after-shape
+
+      module _ (in-range : rowsIn t ≤ outside) (broken : ℕ) (is-broken : broken ≡ firstBroken t closure) where
+        after-range : pastRange ≡ tableJoined layers target t closure numberRoom lagRoom
+        after-range =
+            passed (Refused (OutOfRange (firstOutOfRange t))) pastRange (ltb (firstOutOfRange t) (rowsIn t))
+            (le-ltb (firstOutOfRange t) (rowsIn t) (subst (λ (k : ℕ). rowsIn t ≤ k) is-outside in-range))
+            ∙ after-shape
+
+        pub order-broken : broken < rowsIn t → Refused (TimeOrderBroken broken) ≡ tableJoined layers target t closure numberRoom lagRoom
+        order-broken h =
+            ap (λ (k : ℕ). Refused (TimeOrderBroken k)) is-broken
+            ∙ taken (Refused (TimeOrderBroken (firstBroken t closure))) pastOrder (ltb (firstBroken t closure) (rowsIn t))
+            (lt-ltb (firstBroken t closure) (rowsIn t) (subst (λ (k : ℕ). k < rowsIn t) is-broken h))
+            ∙ after-range
+
+        pub in-order : rowsIn t ≤ broken → pastOrder ≡ tableJoined layers target t closure numberRoom lagRoom
+        in-order h =
+            passed (Refused (TimeOrderBroken (firstBroken t closure))) pastOrder (ltb (firstBroken t closure) (rowsIn t))
+            (le-ltb (firstBroken t closure) (rowsIn t) (subst (λ (k : ℕ). rowsIn t ≤ k) is-broken h))
+            ∙ after-range
+
+        pub orderly : Closed layers target closure → rowsIn t ≤ broken → Orderly layers target closure t
+        orderly closed-over h =
+            record {
+              closed-over = closed-over;
+              decoded = shape-decoded t shape;
+              matched = shape-matched t shape;
+              short = shape-short t shape;
+              within = λ k i. (let n = neither-left (ltb 63 (layerOf t k)) (leb ticks (decodingOf t k) || leb ticks (matchOf t k)) (none-outside k i) in
+                  let s = ltb-false 63 (layerOf t k) n in omega arith);
+              unbroken = λ k i. seek-first (breaksOrder t closure) (rowsIn t) .before k (let w = subst (λ (b : ℕ). rowsIn t ≤ b) is-broken h in omega arith);
+            }
+          where
+            none-outside : (k : ℕ) → k < rowsIn t → outOfRange t k ≡ false
+            none-outside k i =
+                seek-first (outOfRange t) (rowsIn t) .before k (let w = subst (λ (b : ℕ). rowsIn t ≤ b) is-outside in-range in omega arith)

@@ -7,9 +7,19 @@ ghost use Rattle.joining.specs.Table.{table};
 ghost use Rattle.joining.specs.Index.{Ready};
 ghost use Rattle.joining.specs.Units.{frame};
 ghost use Rattle.joining.specs.Judging.{Whole};
-ghost use Rattle.joining.specs.Joining.{isSpare, unitsJoined, framedNumbers, framedLags};
+ghost use Rattle.joining.specs.Frames.{frameOf};
+ghost use Rattle.joining.specs.Orderly.{Closed, Orderly};
+ghost use Rattle.joining.specs.Joining.{isSpare, unitsJoined, tableJoined, framedNumbers, framedLags};
+use super::assembly::edges_of;
+use super::assembly::members_of;
+use super::index::order_of;
+use super::index::starts_of;
+use super::table::first_broken;
+use super::table::first_out_of_range;
+use super::table::wrong_shape;
 use super::units::judge;
 use super::writing::write_units;
+use closure::Layers;
 use vocabulary::Refusal;
 
 // The answer of joining: the set of the closure's layer indices, the number of units, and how many closure rows stand in none; or why
@@ -100,4 +110,82 @@ fn join_framed(
         units: judged.units,
         left_out: count_left_out(closure, indices, &used),
     }
+}
+
+// The units over a whole closure, of a table in range and in order.
+fn join_ordered(
+    layers: Layers,
+    closure: u64,
+    target: usize,
+    indices: &[u8],
+    decodings: &[u64],
+    matches: &[u64],
+    numbers: &mut [u64],
+    lags: &mut [i64],
+) -> Joined
+    requires { ⌜ Orderly layers target closure (table (now indices) (now decodings) (now matches)) ⌝ }
+    ensures answer { λ r. ⌜ r ≡ unitsJoined (table (now (indices .entry)) (now (decodings .entry)) (now (matches .entry))) closure (frameOf layers closure target) (length (now (numbers .entry))) (length (now (lags .entry))) ⌝ }
+    ensures content { λ r. ⌜ now (numbers .exit) ≡ framedNumbers (table (now (indices .entry)) (now (decodings .entry)) (now (matches .entry))) (frameOf layers closure target) r (now (numbers .entry)) ⌝ }
+    ensures beside { λ r. ⌜ now (lags .exit) ≡ framedLags (table (now (indices .entry)) (now (decodings .entry)) (now (matches .entry))) (frameOf layers closure target) r (now (lags .entry)) ⌝ }
+{
+    let starts = starts_of(indices);
+    let order = order_of(indices, starts);
+    let edges = edges_of(layers, closure);
+    let count = edges.count;
+    let pairs = edges.list;
+    let members = members_of(closure);
+    let size = members.count;
+    let list = members.list;
+    join_framed(
+        closure,
+        indices,
+        decodings,
+        matches,
+        &starts,
+        &order,
+        &pairs[..count],
+        &list[..size],
+        target,
+        numbers,
+        lags,
+    )
+}
+
+// The units over a whole closure: 13 and 14 first.
+fn join_closure(
+    layers: Layers,
+    closure: u64,
+    target: usize,
+    indices: &[u8],
+    decodings: &[u64],
+    matches: &[u64],
+    numbers: &mut [u64],
+    lags: &mut [i64],
+) -> Joined
+    requires { ⌜ Closed layers target closure ⌝ }
+    ensures answer { λ r. ⌜ r ≡ tableJoined layers target (table (now (indices .entry)) (now (decodings .entry)) (now (matches .entry))) closure (length (now (numbers .entry))) (length (now (lags .entry))) ⌝ }
+    ensures content { λ r. ⌜ now (numbers .exit) ≡ framedNumbers (table (now (indices .entry)) (now (decodings .entry)) (now (matches .entry))) (frameOf layers closure target) r (now (numbers .entry)) ⌝ }
+    ensures beside { λ r. ⌜ now (lags .exit) ≡ framedLags (table (now (indices .entry)) (now (decodings .entry)) (now (matches .entry))) (frameOf layers closure target) r (now (lags .entry)) ⌝ }
+{
+    if wrong_shape(indices, decodings, matches) {
+        return Joined::Refused(Refusal::OutOfRange(0));
+    }
+    let outside = first_out_of_range(indices, decodings, matches);
+    if outside < indices.len() {
+        return Joined::Refused(Refusal::OutOfRange(outside));
+    }
+    let broken = first_broken(closure, indices, decodings);
+    if broken < indices.len() {
+        return Joined::Refused(Refusal::TimeOrderBroken(broken));
+    }
+    join_ordered(
+        layers,
+        closure,
+        target,
+        indices,
+        decodings,
+        matches,
+        numbers,
+        lags,
+    )
 }
