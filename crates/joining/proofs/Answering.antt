@@ -17,15 +17,16 @@ use Rattle.combinators.specs.Bools.{neither-left, neither-right}
 use Rattle.combinators.specs.Below.{count, seek-first, count-short, count-alike}
 use Rattle.combinators.specs.Padding.{padTo}
 use Rattle.sets.specs.Sets.{has}
+use Rattle.vocabulary.specs.declared.refusal.Refusal.{Refusal}
 use Rattle.vocabulary.specs.declared.refusal.Refusal.the-variants.{OutOfRange, TimeOrderBroken, Unpaired, UsedTwice, NoRoom}
-use Rattle.joining.specs.declared.join.Joined.{Joined}
-use Rattle.joining.specs.declared.join.Joined.the-variants.{Units, Refused}
+use Rattle.joining.specs.declared.answer.Joined.{Joined}
+use Rattle.joining.specs.declared.answer.Joined.the-variants.{Units, Refused}
 use Rattle.joining.specs.declared.units.Judged.{Judged}
 use Rattle.joining.specs.Table.{Table, rowsIn, layerOf, decodingOf, matchOf, wrongShape, outOfRange, firstOutOfRange, breaksOrder, firstBroken}
 use Rattle.joining.specs.Units.{Frame, isTarget, unpaired, shares, firstUnpaired, firstShared, unitsIn, rowsBelow, lagsBelow, leftOut, isLeftOut}
 use Rattle.joining.specs.Judging.{Whole, Judges}
 use Rattle.joining.specs.Writing.{over, sets-over, Writable}
-use Rattle.joining.specs.Joining.{places, unitsJoined, tableJoined, isSpare}
+use Rattle.joining.specs.Joining.{places, unitsJoined, tableJoined, framedNumbers, framedLags, numbersAfter, lagsAfter, isSpare}
 use Rattle.joining.specs.Frames.{frameOf}
 use Rattle.joining.specs.Orderly.{Closed, Orderly}
 use Rattle.joining.proofs.Filling.{rows-long, beside-long}
@@ -229,3 +230,42 @@ module _ (layers : Layers) (target : ℕ) (t : Table) (closure numberRoom lagRoo
             none-outside : (k : ℕ) → k < rowsIn t → outOfRange t k ≡ false
             none-outside k i =
                 seek-first (outOfRange t) (rowsIn t) .before k (let w = subst (λ (b : ℕ). rowsIn t ≤ b) is-outside in-range in omega arith)
+
+-- ---- 11 and 12, and the lists
+
+-- units over the frame of a closure are answered with that closure, so that the lists are the frame's
+of-closure : (layers : Layers) (target : ℕ) (t : Table) (closure units left : ℕ) (refusal₁ refusal₂ refusal₃ refusal₄ refusal₅ : Refusal)
+    (P : Joined → Type 0) → ((units left : ℕ) → P (Units closure units left)) → ((refusal : Refusal) → P (Refused refusal))
+    → (b₁ b₂ b₃ b₄ b₅ b₆ b₇ : Bool)
+    → P (cond b₁ (Refused refusal₁) (cond b₂ (Refused refusal₂) (cond b₃ (Refused refusal₃) (cond b₄ (Refused refusal₄)
+    (cond b₅ (Refused refusal₅) (cond b₆ (Refused NoRoom) (cond b₇ (Refused NoRoom) (Units closure units left))))))))
+of-closure layers target t closure units left r₁ r₂ r₃ r₄ r₅ P u r true b₂ b₃ b₄ b₅ b₆ b₇ = r r₁
+of-closure layers target t closure units left r₁ r₂ r₃ r₄ r₅ P u r false true b₃ b₄ b₅ b₆ b₇ = r r₂
+of-closure layers target t closure units left r₁ r₂ r₃ r₄ r₅ P u r false false true b₄ b₅ b₆ b₇ = r r₃
+of-closure layers target t closure units left r₁ r₂ r₃ r₄ r₅ P u r false false false true b₅ b₆ b₇ = r r₄
+of-closure layers target t closure units left r₁ r₂ r₃ r₄ r₅ P u r false false false false true b₆ b₇ = r r₅
+of-closure layers target t closure units left r₁ r₂ r₃ r₄ r₅ P u r false false false false false true b₇ = r NoRoom
+of-closure layers target t closure units left r₁ r₂ r₃ r₄ r₅ P u r false false false false false false true = r NoRoom
+of-closure layers target t closure units left r₁ r₂ r₃ r₄ r₅ P u r false false false false false false false = u units left
+
+module _ (layers : Layers) (target : ℕ) (t : Table) (closure numberRoom lagRoom : ℕ) where
+  by-cases : (P : Joined → Type 0) → ((units left : ℕ) → P (Units closure units left)) → ((refusal : Refusal) → P (Refused refusal))
+      → P (tableJoined layers target t closure numberRoom lagRoom)
+  by-cases P u r =
+      of-closure layers target t closure (unitsIn t (frameOf layers closure target)) (leftOut t closure (frameOf layers closure target))
+      (OutOfRange 0) (OutOfRange (firstOutOfRange t)) (TimeOrderBroken (firstBroken t closure))
+      (Unpaired (firstUnpaired t (frameOf layers closure target))) (UsedTwice (firstShared t (frameOf layers closure target))) P u r
+      (wrongShape t) (ltb (firstOutOfRange t) (rowsIn t)) (ltb (firstBroken t closure) (rowsIn t))
+      (ltb (firstUnpaired t (frameOf layers closure target)) (rowsIn t)) (ltb (firstShared t (frameOf layers closure target)) (rowsIn t))
+      (ltb numberRoom (places t (frameOf layers closure target))) (ltb lagRoom (places t (frameOf layers closure target)))
+
+  module _ (r : Joined) (e : r ≡ tableJoined layers target t closure numberRoom lagRoom) where
+    pub same-numbers : (numbers : List ℕ) → framedNumbers t (frameOf layers closure target) r numbers ≡ numbersAfter layers target t r numbers
+    same-numbers numbers =
+        subst (λ (x : Joined). framedNumbers t (frameOf layers closure target) x numbers ≡ numbersAfter layers target t x numbers) (sym e)
+        (by-cases (λ (x : Joined). framedNumbers t (frameOf layers closure target) x numbers ≡ numbersAfter layers target t x numbers) (λ u l. refl) (λ q. refl))
+
+    pub same-lags : (lags : List ℤ) → framedLags t (frameOf layers closure target) r lags ≡ lagsAfter layers target t r lags
+    same-lags lags =
+        subst (λ (x : Joined). framedLags t (frameOf layers closure target) x lags ≡ lagsAfter layers target t x lags) (sym e)
+        (by-cases (λ (x : Joined). framedLags t (frameOf layers closure target) x lags ≡ lagsAfter layers target t x lags) (λ u l. refl) (λ q. refl))

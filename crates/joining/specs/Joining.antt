@@ -13,8 +13,8 @@ use Rattle.closure.specs.Closures.{closureOf}
 use Rattle.sets.specs.Sets.{has}
 use Rattle.vocabulary.specs.declared.refusal.Refusal.{Refusal}
 use Rattle.vocabulary.specs.declared.refusal.Refusal.the-variants.{OutOfRange, TimeOrderBroken, Unpaired, UsedTwice, NoRoom}
-use Rattle.joining.specs.declared.join.Joined.{Joined}
-use Rattle.joining.specs.declared.join.Joined.the-variants.{Units, Refused}
+use Rattle.joining.specs.declared.answer.Joined.{Joined}
+use Rattle.joining.specs.declared.answer.Joined.the-variants.{Units, Refused}
 use Rattle.joining.specs.Table.{Table, rowsIn, wrongShape, firstOutOfRange, firstBroken}
 use Rattle.joining.specs.Units.{Frame, rowsBelow, lagsBelow, firstUnpaired, firstShared, unitsIn, leftOut}
 use Rattle.joining.specs.Frames.{frameOf}

@@ -1,4 +1,4 @@
--- `joining::join::join_ordered` meets its contract: the arrays that it lends are the index, the edges and the members that Orderly asks for.
+-- `joining::answer::join_ordered` meets its contract: the arrays that it lends are the index, the edges and the members that Orderly asks for.
 -- Assumes nothing.
 use Prim.Native.Nat.{ℕ, _≤_}
 use mathlib.Core.List.{List}
@@ -20,8 +20,8 @@ use Rattle.joining.specs.Frames.{frameOf, frame-whole}
 use Rattle.joining.specs.Orderly.{ready}
 use Rattle.joining.specs.Joining.{unitsJoined, framedNumbers, framedLags}
 use Rattle.joining.proofs.Answering.{part-is, part-fits}
-use Rattle.joining.proofs.join.join_ordered.Statement.{statement}
-use Rattle.joining.proofs.join.join_ordered.Tie as tie
+use Rattle.joining.proofs.answer.join_ordered.Statement.{statement}
+use Rattle.joining.proofs.answer.join_ordered.Tie as tie
 
 -- the two lists that are lent: the edges and the members of the closure
 edges-are : (c : tie.After-edges-of)

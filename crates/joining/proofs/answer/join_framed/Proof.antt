@@ -1,4 +1,4 @@
--- `joining::join::join_framed` meets its contract: each return is a case of the definition (Answering), given what its calls answer.
+-- `joining::answer::join_framed` meets its contract: each return is a case of the definition (Answering), given what its calls answer.
 -- Assumes nothing.
 use Prim.Native.Nat.{ℕ, _*_, _≤_}
 use mathlib.Core.Path.{_≡_, refl, sym, _∙_, ap, subst}
@@ -9,8 +9,8 @@ use Rattle.joining.specs.Table.{table}
 use Rattle.joining.specs.Units.{frame}
 use Rattle.joining.specs.Joining.{places}
 use Rattle.joining.proofs.Answering.{is-unpaired, is-shared, places-fit, places-is, no-number-room, no-lag-room, are-units, writable, numbers-over, lags-over}
-use Rattle.joining.proofs.join.join_framed.Statement.{statement}
-use Rattle.joining.proofs.join.join_framed.Tie as tie
+use Rattle.joining.proofs.answer.join_framed.Statement.{statement}
+use Rattle.joining.proofs.answer.join_framed.Tie as tie
 
 judge-requires : tie.Need-judge-requires
 judge-requires c κs = (c .before .before .before .before .before .before .pre .0, c .before .before .before .before .before .before .pre .1)

@@ -1,4 +1,4 @@
--- `joining::join::count_left_out` meets its contract. The invariant: the spare rows so far are counted. The measure is the number of rows
+-- `joining::answer::count_left_out` meets its contract. The invariant: the spare rows so far are counted. The measure is the number of rows
 -- left. Assumes nothing.
 use Prim.Native.Nat.{ℕ, _+_, _≤_, _<_, _-_}
 use mathlib.Core.Bool.{Bool, true, false, not, _&&_}
@@ -9,8 +9,8 @@ use borrow.Author.Needs.{needs}
 use lib.ListN.{length, getD}
 use Rattle.combinators.specs.Below.{count, count-more, count-same, count-short}
 use Rattle.joining.specs.Joining.{isSpare}
-use Rattle.joining.proofs.join.count_left_out.Statement.{statement}
-use Rattle.joining.proofs.join.count_left_out.Tie as tie
+use Rattle.joining.proofs.answer.count_left_out.Statement.{statement}
+use Rattle.joining.proofs.answer.count_left_out.Tie as tie
 
 abbrev Inv-loop : tie.InvT-loop
 Inv-loop closure indices used left₀ row₀ left row =

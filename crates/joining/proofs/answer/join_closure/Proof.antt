@@ -1,12 +1,12 @@
--- `joining::join::join_closure` meets its contract: each return is a case of the definition (Answering), given what its calls answer.
+-- `joining::answer::join_closure` meets its contract: each return is a case of the definition (Answering), given what its calls answer.
 -- Assumes nothing.
 use mathlib.Core.Path.{refl, sym, _∙_}
 use borrow.Author.Needs.{needs}
 use lib.ListN.{length}
 use Rattle.joining.specs.Table.{table}
 use Rattle.joining.proofs.Answering.{bad-shape, out-of-range, order-broken, in-order, orderly, shape-decoded, shape-matched}
-use Rattle.joining.proofs.join.join_closure.Statement.{statement}
-use Rattle.joining.proofs.join.join_closure.Tie as tie
+use Rattle.joining.proofs.answer.join_closure.Statement.{statement}
+use Rattle.joining.proofs.answer.join_closure.Tie as tie
 
 wrong-shape-requires : tie.Need-wrong-shape-requires
 wrong-shape-requires c κs = search needs

@@ -9,7 +9,7 @@ ghost use Rattle.joining.specs.Units.{frame};
 ghost use Rattle.joining.specs.Judging.{Whole};
 ghost use Rattle.joining.specs.Frames.{frameOf};
 ghost use Rattle.joining.specs.Orderly.{Closed, Orderly};
-ghost use Rattle.joining.specs.Joining.{isSpare, unitsJoined, tableJoined, framedNumbers, framedLags};
+ghost use Rattle.joining.specs.Joining.{isSpare, unitsJoined, tableJoined, joinedOf, framedNumbers, framedLags, numbersAfter, lagsAfter};
 use super::assembly::edges_of;
 use super::assembly::members_of;
 use super::index::order_of;
@@ -19,6 +19,7 @@ use super::table::first_out_of_range;
 use super::table::wrong_shape;
 use super::units::judge;
 use super::writing::write_units;
+use closure::Closure;
 use closure::Layers;
 use vocabulary::Refusal;
 
@@ -188,4 +189,35 @@ fn join_closure(
         numbers,
         lags,
     )
+}
+
+// THE CALL. The layers of a loop, a target, the three columns of the row table, and the two lists for the answer, of any lengths: the row
+// numbers of the units and the lag beside each. After a refusal both lists are as they were.
+pub fn join(
+    layers: Layers,
+    target: u64,
+    indices: &[u8],
+    decodings: &[u64],
+    matches: &[u64],
+    numbers: &mut [u64],
+    lags: &mut [i64],
+) -> Joined
+    ensures answer { λ r. ⌜ r ≡ joinedOf layers target (table (now (indices .entry)) (now (decodings .entry)) (now (matches .entry))) (length (now (numbers .entry))) (length (now (lags .entry))) ⌝ }
+    ensures content { λ r. ⌜ now (numbers .exit) ≡ numbersAfter layers target (table (now (indices .entry)) (now (decodings .entry)) (now (matches .entry))) r (now (numbers .entry)) ⌝ }
+    ensures beside { λ r. ⌜ now (lags .exit) ≡ lagsAfter layers target (table (now (indices .entry)) (now (decodings .entry)) (now (matches .entry))) r (now (lags .entry)) ⌝ }
+{
+    let found = closure::closure_of(layers, target);
+    match found {
+        Closure::Complete(set) => join_closure(
+            layers,
+            set,
+            target as usize,
+            indices,
+            decodings,
+            matches,
+            numbers,
+            lags,
+        ),
+        Closure::Refused(refusal) => Joined::Refused(refusal),
+    }
 }
