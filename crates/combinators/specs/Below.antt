@@ -164,3 +164,8 @@ module _ (test : ℕ → Bool) where
       go : (j ≡ k) ⊎ (j < k) → (j < k → test j ≡ true → count test j < count test k) → count test j < count test (suc k)
       go (inl p) ih = let q : test k ≡ true = rw (← p) e in rw (p, q) (omega arith)
       go (inr l) ih = let less = ih l e in let step = count-step k in omega arith
+
+-- tests that agree below n count alike
+pub count-alike : (test other : ℕ → Bool) (n : ℕ) → ((k : ℕ) → k < n → test k ≡ other k) → count test n ≡ count other n
+count-alike test other zero f = refl
+count-alike test other (suc n) f = rw (count-alike test other n (λ k h. f k (omega arith)), f n (omega arith))

@@ -6,3 +6,5 @@ pub mod Units
 pub mod Judging
 pub mod Writing
 pub mod Frames
+pub mod Orderly
+pub mod Joining

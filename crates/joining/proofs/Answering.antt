@@ -1,0 +1,271 @@
+-- The answer, way by way: each return of the code is a case of the definition, given what its calls answer.
+-- Assumes nothing.
+use Prim.Native.Nat.{ℕ, zero, suc, _+_, _-_, _*_, _≤_, _<_}
+use mathlib.Core.Path.{_≡_, refl, sym, _∙_, ap, ap₂, subst}
+use mathlib.Core.Bool.{Bool, true, false, not, cond, _&&_, _||_}
+use mathlib.Core.List.{List}
+use native.Mathlib.Omega.{arith}
+use native.Mathlib.Nat.{mul-le-mul}
+use borrow.Author.Tests.{lt-ltb, le-ltb, ltb-false, eqb-true, not-false}
+use lib.Dec.{eqb, leb, ltb}
+use lib.IntN.{ℤ}
+use lib.ListN.{length, getD, take, replicate, length-append}
+use lib.Seq.{sets, take-append-seam}
+use Rattle.closure.specs.declared.Layers.{Layers}
+use Rattle.clock.specs.Clock.{ticks}
+use Rattle.combinators.specs.Bools.{neither-left, neither-right}
+use Rattle.combinators.specs.Below.{count, seek-first, count-short, count-alike}
+use Rattle.combinators.specs.Padding.{padTo}
+use Rattle.sets.specs.Sets.{has}
+use Rattle.vocabulary.specs.declared.refusal.Refusal.{Refusal}
+use Rattle.vocabulary.specs.declared.refusal.Refusal.the-variants.{OutOfRange, TimeOrderBroken, Unpaired, UsedTwice, NoRoom}
+use Rattle.joining.specs.declared.answer.Joined.{Joined}
+use Rattle.joining.specs.declared.answer.Joined.the-variants.{Units, Refused}
+use Rattle.joining.specs.declared.units.Judged.{Judged}
+use Rattle.joining.specs.Table.{Table, rowsIn, layerOf, decodingOf, matchOf, wrongShape, outOfRange, firstOutOfRange, breaksOrder, firstBroken}
+use Rattle.joining.specs.Units.{Frame, isTarget, unpaired, shares, firstUnpaired, firstShared, unitsIn, rowsBelow, lagsBelow, leftOut, isLeftOut}
+use Rattle.joining.specs.Judging.{Whole, Judges}
+use Rattle.joining.specs.Writing.{over, sets-over, Writable}
+use Rattle.joining.specs.Joining.{places, unitsJoined, tableJoined, framedNumbers, framedLags, numbersAfter, lagsAfter, isSpare}
+use Rattle.joining.specs.Frames.{frameOf}
+use Rattle.joining.specs.Orderly.{Closed, Orderly}
+use Rattle.joining.proofs.Filling.{rows-long, beside-long}
+
+pub taken : {A : Type 0} (x y : A) (b : Bool) → b ≡ true → x ≡ cond b x y
+taken x y b e = sym (ap (λ (b : Bool). cond b x y) e)
+
+pub passed : {A : Type 0} (x y : A) (b : Bool) → b ≡ false → y ≡ cond b x y
+passed x y b e = sym (ap (λ (b : Bool). cond b x y) e)
+
+module _ (t : Table) (closure : ℕ) (f : Frame) (numberRoom lagRoom : ℕ) (judged : Judged) (found : Judges t f judged) where
+  -- what is left of the definition past each test
+  abbrev pastRoom : Joined
+  pastRoom = cond (ltb lagRoom (places t f)) (Refused NoRoom) (Units closure (unitsIn t f) (leftOut t closure f))
+
+  abbrev pastShared : Joined
+  pastShared = cond (ltb numberRoom (places t f)) (Refused NoRoom) pastRoom
+
+  abbrev pastUnpaired : Joined
+  pastUnpaired = cond (ltb (firstShared t f) (rowsIn t)) (Refused (UsedTwice (firstShared t f))) pastShared
+
+  -- 15
+  pub is-unpaired : judged .unpaired < rowsIn t → Refused (Unpaired (judged .unpaired)) ≡ unitsJoined t closure f numberRoom lagRoom
+  is-unpaired h =
+      ap (λ (k : ℕ). Refused (Unpaired k)) (found .no-assembly)
+      ∙ taken (Refused (Unpaired (firstUnpaired t f))) pastUnpaired (ltb (firstUnpaired t f) (rowsIn t))
+      (lt-ltb (firstUnpaired t f) (rowsIn t) (subst (λ (k : ℕ). k < rowsIn t) (found .no-assembly) h))
+
+  module _ (paired : rowsIn t ≤ judged .unpaired) where
+    none-unpaired : judged .unpaired ≡ rowsIn t
+    none-unpaired = omega (arith, paired, found .no-assembly, seek-first (unpaired t f) (rowsIn t) .within)
+
+    after-unpaired : pastUnpaired ≡ unitsJoined t closure f numberRoom lagRoom
+    after-unpaired =
+        passed (Refused (Unpaired (firstUnpaired t f))) pastUnpaired (ltb (firstUnpaired t f) (rowsIn t))
+        (le-ltb (firstUnpaired t f) (rowsIn t) (subst (λ (k : ℕ). rowsIn t ≤ k) (found .no-assembly) paired))
+
+    -- 16
+    pub is-shared : judged .shared < rowsIn t → Refused (UsedTwice (judged .shared)) ≡ unitsJoined t closure f numberRoom lagRoom
+    is-shared h =
+        ap (λ (k : ℕ). Refused (UsedTwice k)) (found .two-units none-unpaired)
+        ∙ taken (Refused (UsedTwice (firstShared t f))) pastShared (ltb (firstShared t f) (rowsIn t))
+        (lt-ltb (firstShared t f) (rowsIn t) (subst (λ (k : ℕ). k < rowsIn t) (found .two-units none-unpaired) h))
+        ∙ after-unpaired
+
+    module _ (apart : rowsIn t ≤ judged .shared) where
+      after-shared : pastShared ≡ unitsJoined t closure f numberRoom lagRoom
+      after-shared =
+          passed (Refused (UsedTwice (firstShared t f))) pastShared (ltb (firstShared t f) (rowsIn t))
+          (le-ltb (firstShared t f) (rowsIn t) (subst (λ (k : ℕ). rowsIn t ≤ k) (found .two-units none-unpaired) apart))
+          ∙ after-unpaired
+
+      pub places-is : judged .units * length (f .members) ≡ places t f
+      places-is = ap (λ (n : ℕ). n * length (f .members)) (found .counted none-unpaired)
+
+      -- the product fits
+      pub places-fit : rowsIn t ≤ 512 → length (f .members) ≤ 64 → judged .units * length (f .members) ≤ 32768
+      places-fit short narrow =
+          let few : judged .units ≤ 512 = omega (arith, found .counted none-unpaired, count-short (isTarget t f) (rowsIn t)) in
+          mul-le-mul few narrow
+
+      -- 17
+      pub no-number-room : numberRoom < judged .units * length (f .members) → Refused NoRoom ≡ unitsJoined t closure f numberRoom lagRoom
+      no-number-room h =
+          taken (Refused NoRoom) pastRoom (ltb numberRoom (places t f)) (lt-ltb numberRoom (places t f) (subst (λ (n : ℕ). numberRoom < n) places-is h))
+          ∙ after-shared
+
+      module _ (number-room : judged .units * length (f .members) ≤ numberRoom) where
+        after-number-room : pastRoom ≡ unitsJoined t closure f numberRoom lagRoom
+        after-number-room =
+            passed (Refused NoRoom) pastRoom (ltb numberRoom (places t f)) (le-ltb numberRoom (places t f) (subst (λ (n : ℕ). n ≤ numberRoom) places-is number-room))
+            ∙ after-shared
+
+        pub no-lag-room : lagRoom < judged .units * length (f .members) → Refused NoRoom ≡ unitsJoined t closure f numberRoom lagRoom
+        no-lag-room h =
+            taken (Refused NoRoom) (Units closure (unitsIn t f) (leftOut t closure f)) (ltb lagRoom (places t f))
+            (lt-ltb lagRoom (places t f) (subst (λ (n : ℕ). lagRoom < n) places-is h))
+            ∙ after-number-room
+
+        module _ (lag-room : judged .units * length (f .members) ≤ lagRoom) where
+          -- the units
+          spare-is : rowsIn t ≤ 512 → count (isSpare closure (t .indices) (judged .used)) (rowsIn t) ≡ leftOut t closure f
+          spare-is short =
+              count-alike (isSpare closure (t .indices) (judged .used)) (isLeftOut t closure (rowsBelow t f (rowsIn t))) (rowsIn t)
+              (λ k h. ap (λ (b : Bool). has closure (layerOf t k) && not b) (found .marks none-unpaired .at k (omega arith)))
+
+          pub are-units : rowsIn t ≤ 512 → (left : ℕ) → left ≡ count (isSpare closure (t .indices) (judged .used)) (rowsIn t)
+              → Units closure (judged .units) left ≡ unitsJoined t closure f numberRoom lagRoom
+          are-units short left e =
+              ap₂ (Units closure) (found .counted none-unpaired) (e ∙ spare-is short)
+              ∙ passed (Refused NoRoom) (Units closure (unitsIn t f) (leftOut t closure f)) (ltb lagRoom (places t f))
+              (le-ltb lagRoom (places t f) (subst (λ (n : ℕ). n ≤ lagRoom) places-is lag-room))
+              ∙ after-number-room
+
+      pub writable : Whole t f → (numbers : List ℕ) (lags : List ℤ) → judged .units * length (f .members) ≤ length numbers
+          → judged .units * length (f .members) ≤ length lags → Writable t f numbers lags
+      writable whole numbers lags h l =
+          record {
+            whole = whole;
+            paired = λ k i. seek-first (unpaired t f) (rowsIn t) .before k
+                (subst (λ (n : ℕ). k < n) (sym none-unpaired ∙ found .no-assembly) i);
+            room-numbers = subst (λ (n : ℕ). n ≤ length numbers) places-is h;
+            room-lags = subst (λ (n : ℕ). n ≤ length lags) places-is l;
+          }
+
+-- what was written lies over what stood there
+pub numbers-over : (t : Table) (f : Frame) (numbers : List ℕ) → places t f ≤ length numbers
+    → sets numbers 0 (rowsBelow t f (rowsIn t)) ≡ over (rowsBelow t f (rowsIn t)) numbers
+numbers-over t f numbers h = sets-over (rowsBelow t f (rowsIn t)) numbers (subst (λ (n : ℕ). n ≤ length numbers) (sym (rows-long t f (rowsIn t))) h)
+
+pub lags-over : (t : Table) (f : Frame) (lags : List ℤ) → places t f ≤ length lags
+    → sets lags 0 (lagsBelow t f (rowsIn t)) ≡ over (lagsBelow t f (rowsIn t)) lags
+lags-over t f lags h = sets-over (lagsBelow t f (rowsIn t)) lags (subst (λ (n : ℕ). n ≤ length lags) (sym (beside-long t f (rowsIn t))) h)
+
+-- a list lent out of the array that it fills from the front
+pub part-is : (size count : ℕ) (l array : List ℕ) → count ≡ length l → array ≡ padTo size 0 l → take count array ≡ l
+part-is size count l array e a = ap₂ (λ (n : ℕ) (x : List ℕ). take n x) e a ∙ take-append-seam l (replicate (size - length l) 0)
+
+pub part-fits : (size count : ℕ) (l array : List ℕ) → count ≡ length l → array ≡ padTo size 0 l → count ≤ length array
+part-fits size count l array e a =
+    omega (arith, e, ap length a ∙ length-append l (replicate (size - length l) 0))
+
+-- ---- 13 and 14
+
+-- what a right shape means
+module _ (t : Table) (shape : wrongShape t ≡ false) where
+  shape-rest : (not (eqb (length (t .matches)) (rowsIn t)) || ltb 512 (rowsIn t)) ≡ false
+  shape-rest =
+      neither-right (not (eqb (length (t .decodings)) (rowsIn t))) (not (eqb (length (t .matches)) (rowsIn t)) || ltb 512 (rowsIn t)) shape
+
+  pub shape-decoded : length (t .decodings) ≡ rowsIn t
+  shape-decoded =
+      eqb-true (length (t .decodings)) (rowsIn t) (not-false (eqb (length (t .decodings)) (rowsIn t))
+      (neither-left (not (eqb (length (t .decodings)) (rowsIn t))) (not (eqb (length (t .matches)) (rowsIn t)) || ltb 512 (rowsIn t)) shape))
+
+  pub shape-matched : length (t .matches) ≡ rowsIn t
+  shape-matched =
+      eqb-true (length (t .matches)) (rowsIn t) (not-false (eqb (length (t .matches)) (rowsIn t))
+      (neither-left (not (eqb (length (t .matches)) (rowsIn t))) (ltb 512 (rowsIn t)) shape-rest))
+
+  pub shape-short : rowsIn t ≤ 512
+  shape-short = ltb-false 512 (rowsIn t) (neither-right (not (eqb (length (t .matches)) (rowsIn t))) (ltb 512 (rowsIn t)) shape-rest)
+
+module _ (layers : Layers) (target : ℕ) (t : Table) (closure numberRoom lagRoom : ℕ) where
+  abbrev pastOrder : Joined
+  pastOrder = unitsJoined t closure (frameOf layers closure target) numberRoom lagRoom
+
+  abbrev pastRange : Joined
+  pastRange = cond (ltb (firstBroken t closure) (rowsIn t)) (Refused (TimeOrderBroken (firstBroken t closure))) pastOrder
+
+  abbrev pastShape : Joined
+  pastShape = cond (ltb (firstOutOfRange t) (rowsIn t)) (Refused (OutOfRange (firstOutOfRange t))) pastRange
+
+  pub bad-shape : wrongShape t ≡ true → Refused (OutOfRange 0) ≡ tableJoined layers target t closure numberRoom lagRoom
+  bad-shape e = taken (Refused (OutOfRange 0)) pastShape (wrongShape t) e
+
+  module _ (shape : wrongShape t ≡ false) where
+    after-shape : pastShape ≡ tableJoined layers target t closure numberRoom lagRoom
+    after-shape = passed (Refused (OutOfRange 0)) pastShape (wrongShape t) shape
+
+    module _ (outside : ℕ) (is-outside : outside ≡ firstOutOfRange t) where
+      pub out-of-range : outside < rowsIn t → Refused (OutOfRange outside) ≡ tableJoined layers target t closure numberRoom lagRoom
+      out-of-range h =
+          ap (λ (k : ℕ). Refused (OutOfRange k)) is-outside
+          ∙ taken (Refused (OutOfRange (firstOutOfRange t))) pastRange (ltb (firstOutOfRange t) (rowsIn t))
+          (lt-ltb (firstOutOfRange t) (rowsIn t) (subst (λ (k : ℕ). k < rowsIn t) is-outside h))
+          ∙ after-shape
+
+      module _ (in-range : rowsIn t ≤ outside) (broken : ℕ) (is-broken : broken ≡ firstBroken t closure) where
+        after-range : pastRange ≡ tableJoined layers target t closure numberRoom lagRoom
+        after-range =
+            passed (Refused (OutOfRange (firstOutOfRange t))) pastRange (ltb (firstOutOfRange t) (rowsIn t))
+            (le-ltb (firstOutOfRange t) (rowsIn t) (subst (λ (k : ℕ). rowsIn t ≤ k) is-outside in-range))
+            ∙ after-shape
+
+        pub order-broken : broken < rowsIn t → Refused (TimeOrderBroken broken) ≡ tableJoined layers target t closure numberRoom lagRoom
+        order-broken h =
+            ap (λ (k : ℕ). Refused (TimeOrderBroken k)) is-broken
+            ∙ taken (Refused (TimeOrderBroken (firstBroken t closure))) pastOrder (ltb (firstBroken t closure) (rowsIn t))
+            (lt-ltb (firstBroken t closure) (rowsIn t) (subst (λ (k : ℕ). k < rowsIn t) is-broken h))
+            ∙ after-range
+
+        pub in-order : rowsIn t ≤ broken → pastOrder ≡ tableJoined layers target t closure numberRoom lagRoom
+        in-order h =
+            passed (Refused (TimeOrderBroken (firstBroken t closure))) pastOrder (ltb (firstBroken t closure) (rowsIn t))
+            (le-ltb (firstBroken t closure) (rowsIn t) (subst (λ (k : ℕ). rowsIn t ≤ k) is-broken h))
+            ∙ after-range
+
+        pub orderly : Closed layers target closure → rowsIn t ≤ broken → Orderly layers target closure t
+        orderly closed-over h =
+            record {
+              closed-over = closed-over;
+              decoded = shape-decoded t shape;
+              matched = shape-matched t shape;
+              short = shape-short t shape;
+              within = λ k i. (let n = neither-left (ltb 63 (layerOf t k)) (leb ticks (decodingOf t k) || leb ticks (matchOf t k)) (none-outside k i) in
+                  let s = ltb-false 63 (layerOf t k) n in omega arith);
+              unbroken = λ k i. seek-first (breaksOrder t closure) (rowsIn t) .before k (let w = subst (λ (b : ℕ). rowsIn t ≤ b) is-broken h in omega arith);
+            }
+          where
+            none-outside : (k : ℕ) → k < rowsIn t → outOfRange t k ≡ false
+            none-outside k i =
+                seek-first (outOfRange t) (rowsIn t) .before k (let w = subst (λ (b : ℕ). rowsIn t ≤ b) is-outside in-range in omega arith)
+
+-- ---- 11 and 12, and the lists
+
+-- units over the frame of a closure are answered with that closure, so that the lists are the frame's
+of-closure : (layers : Layers) (target : ℕ) (t : Table) (closure units left : ℕ) (refusal₁ refusal₂ refusal₃ refusal₄ refusal₅ : Refusal)
+    (P : Joined → Type 0) → ((units left : ℕ) → P (Units closure units left)) → ((refusal : Refusal) → P (Refused refusal))
+    → (b₁ b₂ b₃ b₄ b₅ b₆ b₇ : Bool)
+    → P (cond b₁ (Refused refusal₁) (cond b₂ (Refused refusal₂) (cond b₃ (Refused refusal₃) (cond b₄ (Refused refusal₄)
+    (cond b₅ (Refused refusal₅) (cond b₆ (Refused NoRoom) (cond b₇ (Refused NoRoom) (Units closure units left))))))))
+of-closure layers target t closure units left r₁ r₂ r₃ r₄ r₅ P u r true b₂ b₃ b₄ b₅ b₆ b₇ = r r₁
+of-closure layers target t closure units left r₁ r₂ r₃ r₄ r₅ P u r false true b₃ b₄ b₅ b₆ b₇ = r r₂
+of-closure layers target t closure units left r₁ r₂ r₃ r₄ r₅ P u r false false true b₄ b₅ b₆ b₇ = r r₃
+of-closure layers target t closure units left r₁ r₂ r₃ r₄ r₅ P u r false false false true b₅ b₆ b₇ = r r₄
+of-closure layers target t closure units left r₁ r₂ r₃ r₄ r₅ P u r false false false false true b₆ b₇ = r r₅
+of-closure layers target t closure units left r₁ r₂ r₃ r₄ r₅ P u r false false false false false true b₇ = r NoRoom
+of-closure layers target t closure units left r₁ r₂ r₃ r₄ r₅ P u r false false false false false false true = r NoRoom
+of-closure layers target t closure units left r₁ r₂ r₃ r₄ r₅ P u r false false false false false false false = u units left
+
+module _ (layers : Layers) (target : ℕ) (t : Table) (closure numberRoom lagRoom : ℕ) where
+  by-cases : (P : Joined → Type 0) → ((units left : ℕ) → P (Units closure units left)) → ((refusal : Refusal) → P (Refused refusal))
+      → P (tableJoined layers target t closure numberRoom lagRoom)
+  by-cases P u r =
+      of-closure layers target t closure (unitsIn t (frameOf layers closure target)) (leftOut t closure (frameOf layers closure target))
+      (OutOfRange 0) (OutOfRange (firstOutOfRange t)) (TimeOrderBroken (firstBroken t closure))
+      (Unpaired (firstUnpaired t (frameOf layers closure target))) (UsedTwice (firstShared t (frameOf layers closure target))) P u r
+      (wrongShape t) (ltb (firstOutOfRange t) (rowsIn t)) (ltb (firstBroken t closure) (rowsIn t))
+      (ltb (firstUnpaired t (frameOf layers closure target)) (rowsIn t)) (ltb (firstShared t (frameOf layers closure target)) (rowsIn t))
+      (ltb numberRoom (places t (frameOf layers closure target))) (ltb lagRoom (places t (frameOf layers closure target)))
+
+  module _ (r : Joined) (e : r ≡ tableJoined layers target t closure numberRoom lagRoom) where
+    pub same-numbers : (numbers : List ℕ) → framedNumbers t (frameOf layers closure target) r numbers ≡ numbersAfter layers target t r numbers
+    same-numbers numbers =
+        subst (λ (x : Joined). framedNumbers t (frameOf layers closure target) x numbers ≡ numbersAfter layers target t x numbers) (sym e)
+        (by-cases (λ (x : Joined). framedNumbers t (frameOf layers closure target) x numbers ≡ numbersAfter layers target t x numbers) (λ u l. refl) (λ q. refl))
+
+    pub same-lags : (lags : List ℤ) → framedLags t (frameOf layers closure target) r lags ≡ lagsAfter layers target t r lags
+    same-lags lags =
+        subst (λ (x : Joined). framedLags t (frameOf layers closure target) x lags ≡ lagsAfter layers target t x lags) (sym e)
+        (by-cases (λ (x : Joined). framedLags t (frameOf layers closure target) x lags ≡ lagsAfter layers target t x lags) (λ u l. refl) (λ q. refl))

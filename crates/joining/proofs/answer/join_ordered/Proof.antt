@@ -1,0 +1,122 @@
+-- `joining::answer::join_ordered` meets its contract: the arrays that it lends are the index, the edges and the members that Orderly asks for.
+-- Assumes nothing.
+use Prim.Native.Nat.{ℕ, _≤_}
+use mathlib.Core.List.{List}
+use mathlib.Core.Path.{_≡_, refl, sym, _∙_, ap, ap₂, subst}
+use native.Mathlib.Omega.{arith}
+use borrow.Author.Needs.{needs}
+use lib.ListN.{length, take}
+use lib.Seq.{length-take-le}
+use Rattle.combinators.specs.Those.{those-short}
+use Rattle.sets.specs.Sets.{has}
+use Rattle.joining.specs.declared.assembly.Edges.{Edges}
+use Rattle.joining.specs.declared.assembly.Members.{Members}
+use Rattle.joining.specs.Table.{table}
+use Rattle.joining.specs.Index.{Ready}
+use Rattle.joining.specs.Assemblies.{edgesOf, membersOf}
+use Rattle.joining.specs.Units.{Frame, frame}
+use Rattle.joining.specs.Judging.{Whole}
+use Rattle.joining.specs.Frames.{frameOf, frame-whole}
+use Rattle.joining.specs.Orderly.{ready}
+use Rattle.joining.specs.Joining.{unitsJoined, framedNumbers, framedLags}
+use Rattle.joining.proofs.Answering.{part-is, part-fits}
+use Rattle.joining.proofs.answer.join_ordered.Statement.{statement}
+use Rattle.joining.proofs.answer.join_ordered.Tie as tie
+
+-- the two lists that are lent: the edges and the members of the closure
+edges-are : (c : tie.After-edges-of)
+    → take (c .edges-of .result .count) (c .edges-of .result .list) ≡ edgesOf (c .before .before .before .before .before .before .before .args .layers) (c .before .before .before .before .before .before .before .args .closure)
+edges-are c =
+    part-is 4096 _ _ _ (ap (λ (e : Edges). e .count) (c .edges-of .ensures)) (ap (λ (e : Edges). e .list) (c .edges-of .ensures))
+
+edges-fit : (c : tie.After-edges-of) → c .edges-of .result .count ≤ length (c .edges-of .result .list)
+edges-fit c =
+    part-fits 4096 _ (edgesOf (c .before .before .before .before .before .before .before .args .layers) (c .before .before .before .before .before .before .before .args .closure)) _ (ap (λ (e : Edges). e .count) (c .edges-of .ensures)) (ap (λ (e : Edges). e .list) (c .edges-of .ensures))
+
+members-are : (c : tie.After-members-of) → take (c .members-of .result .count) (c .members-of .result .list) ≡ membersOf (c .before .before .before .before .before .before .before .before .before .args .closure)
+members-are c =
+    part-is 64 _ _ _ (ap (λ (e : Members). e .count) (c .members-of .ensures)) (ap (λ (e : Members). e .list) (c .members-of .ensures))
+
+members-fit : (c : tie.After-members-of) → c .members-of .result .count ≤ length (c .members-of .result .list)
+members-fit c =
+    part-fits 64 _ (membersOf (c .before .before .before .before .before .before .before .before .before .args .closure)) _ (ap (λ (e : Members). e .count) (c .members-of .ensures)) (ap (λ (e : Members). e .list) (c .members-of .ensures))
+
+few-members : (closure : ℕ) → length (membersOf closure) ≤ 64
+unfolding membersOf
+few-members closure = those-short (has closure) 64
+
+starts-of-requires : tie.Need-starts-of-requires
+starts-of-requires c κs = c .before .before .before .before .pre .within
+
+order-of-requires : tie.Need-order-of-requires
+order-of-requires c κs = (c .before .before .before .before .before .pre .within, c .before .before .before .before .before .pre .short, c .starts-of .ensures)
+
+edges-of-requires : tie.Need-edges-of-requires
+edges-of-requires c κs = search needs
+
+members-of-requires : tie.Need-members-of-requires
+members-of-requires c κs = search needs
+
+array-share-prefix-pairs : tie.Need-array-share-prefix-pairs
+array-share-prefix-pairs c = edges-fit (c .before .before .before .before .before)
+
+slice-aggregate-join-framed : tie.Need-slice-aggregate-join-framed
+slice-aggregate-join-framed c = sym (length-take-le _ _ (edges-fit (c .before .before .before .before .before .before)))
+
+array-share-prefix-list : tie.Need-array-share-prefix-list
+array-share-prefix-list c = members-fit (c .before .before .before .before)
+
+slice-aggregate-join-framed-2 : tie.Need-slice-aggregate-join-framed-2
+slice-aggregate-join-framed-2 c = sym (length-take-le _ _ (members-fit (c .before .before .before .before .before)))
+
+join-framed-requires : tie.Need-join-framed-requires
+join-framed-requires c κs =
+    let begin = c .before .before .before .before .before .before .before .before .before .before .before .before .before .before .before .before in
+    let a = begin .args in
+    let t = table (a .indices .now) (a .decodings .now) (a .matches .now) in
+    let edges = edges-are (c .before .before .before .before .before .before .before .before .before) in
+    let members = members-are (c .before .before .before .before .before .before .before) in (
+      subst (Ready t _ _) (sym edges) (ready (a .layers) (a .target) (a .closure) t (begin .pre) _ _ (c .before .before .before .before .before .before .before .before .before .before .before .starts-of .ensures) (c .before .before .before .before .before .before .before .before .before .before .order-of .ensures)),
+      subst (Whole t) (sym (ap₂ (frame (a .target)) members edges))
+          (frame-whole (a .layers) (a .target) (a .closure) (begin .pre .closed-over .here) (begin .pre .closed-over .whole) t),
+      subst (λ (l : List ℕ). length l ≤ 64) (sym members) (few-members (a .closure)),
+    )
+
+same-length : tie.Need-same-length
+same-length c = search needs
+
+same-length-2 : tie.Need-same-length-2
+same-length-2 c = search needs
+
+returns : tie.Need-returns
+returns c =
+    let begin = c .before .before .before .before .before .before .before .before .before .before .before .before .before .before .before .before .before .before .before .before in
+    let a = begin .args in
+    let t = table (a .indices .now) (a .decodings .now) (a .matches .now) in
+    let edges = edges-are (c .before .before .before .before .before .before .before .before .before .before .before .before .before) in
+    let members = members-are (c .before .before .before .before .before .before .before .before .before .before .before) in
+    let same = ap₂ (frame (a .target)) members edges in
+    let joined = c .before .before .before .join-framed in (
+      joined .ensures .0 ∙ ap (λ (f : Frame). unitsJoined t (a .closure) f (length (a .numbers .now)) (length (a .lags .now))) same,
+      (
+        joined .ensures .1 .0 ∙ ap (λ (f : Frame). framedNumbers t f (joined .result) (a .numbers .now)) same,
+        joined .ensures .1 .1 ∙ ap (λ (f : Frame). framedLags t f (joined .result) (a .lags .now)) same,
+      ),
+    )
+
+pub join-ordered-spec : {M : Type 1} → statement M
+join-ordered-spec =
+    tie.close
+    (tie.spec
+    starts-of-requires
+    order-of-requires
+    edges-of-requires
+    members-of-requires
+    array-share-prefix-pairs
+    slice-aggregate-join-framed
+    array-share-prefix-list
+    slice-aggregate-join-framed-2
+    join-framed-requires
+    same-length
+    same-length-2
+    returns)

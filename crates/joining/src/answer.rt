@@ -1,0 +1,223 @@
+// The whole of joining: the target's closure, the table, the units, the room, and the lists.
+ghost use mathlib.Core.Path.{_≡_};
+ghost use Prim.Native.Nat.{_≤_};
+ghost use lib.ListN.{length};
+ghost use Rattle.combinators.specs.Below.{count};
+ghost use Rattle.joining.specs.Table.{table};
+ghost use Rattle.joining.specs.Index.{Ready};
+ghost use Rattle.joining.specs.Units.{frame};
+ghost use Rattle.joining.specs.Judging.{Whole};
+ghost use Rattle.joining.specs.Frames.{frameOf};
+ghost use Rattle.joining.specs.Orderly.{Closed, Orderly};
+ghost use Rattle.joining.specs.Joining.{isSpare, unitsJoined, tableJoined, joinedOf, framedNumbers, framedLags, numbersAfter, lagsAfter};
+use super::assembly::edges_of;
+use super::assembly::members_of;
+use super::index::order_of;
+use super::index::starts_of;
+use super::table::first_broken;
+use super::table::first_out_of_range;
+use super::table::wrong_shape;
+use super::units::judge;
+use super::writing::write_units;
+use closure::Closure;
+use closure::Layers;
+use vocabulary::Refusal;
+
+// The answer of joining: the set of the closure's layer indices, the number of units, and how many closure rows stand in none; or why
+// there is none.
+pub enum Joined {
+    Units {
+        closure: u64,
+        units: usize,
+        left_out: usize,
+    },
+    Refused(Refusal),
+}
+
+// How many rows of closure layers bear no mark.
+fn count_left_out(closure: u64, indices: &[u8], used: &[bool; 512]) -> usize
+    requires { ⌜ length (now indices) ≤ 512 ⌝ }
+    ensures { λ r. ⌜ r ≡ count (isSpare closure (now (indices .entry)) (now (used .entry))) (length (now (indices .entry))) ⌝ }
+{
+    let mut left = 0;
+    let mut row = 0;
+    while row < indices.len() {
+        if sets::member(closure, indices[row] as usize) & !used[row] {
+            left += 1;
+        }
+        row += 1;
+    }
+    left
+}
+
+// The units over a frame: 15, 16 and 17, and then the lists.
+fn join_framed(
+    closure: u64,
+    indices: &[u8],
+    decodings: &[u64],
+    matches: &[u64],
+    starts: &[usize; 65],
+    order: &[usize; 512],
+    edges: &[u16],
+    members: &[u8],
+    target: usize,
+    numbers: &mut [u64],
+    lags: &mut [i64],
+) -> Joined
+    requires { ⌜ Ready (table (now indices) (now decodings) (now matches)) (now starts) (now order) (now edges) × Whole (table (now indices) (now decodings) (now matches)) (frame target (now members) (now edges)) × (length (now members) ≤ 64) ⌝ }
+    ensures answer { λ r. ⌜ r ≡ unitsJoined (table (now (indices .entry)) (now (decodings .entry)) (now (matches .entry))) closure (frame target (now (members .entry)) (now (edges .entry))) (length (now (numbers .entry))) (length (now (lags .entry))) ⌝ }
+    ensures content { λ r. ⌜ now (numbers .exit) ≡ framedNumbers (table (now (indices .entry)) (now (decodings .entry)) (now (matches .entry))) (frame target (now (members .entry)) (now (edges .entry))) r (now (numbers .entry)) ⌝ }
+    ensures beside { λ r. ⌜ now (lags .exit) ≡ framedLags (table (now (indices .entry)) (now (decodings .entry)) (now (matches .entry))) (frame target (now (members .entry)) (now (edges .entry))) r (now (lags .entry)) ⌝ }
+{
+    let none = indices.len();
+    let judged = judge(
+        indices,
+        decodings,
+        matches,
+        starts,
+        order,
+        edges,
+        members,
+        target,
+    );
+    if judged.unpaired < none {
+        return Joined::Refused(Refusal::Unpaired(judged.unpaired));
+    }
+    if judged.shared < none {
+        return Joined::Refused(Refusal::UsedTwice(judged.shared));
+    }
+    let places = judged.units * members.len();
+    if numbers.len() < places {
+        return Joined::Refused(Refusal::NoRoom);
+    }
+    if lags.len() < places {
+        return Joined::Refused(Refusal::NoRoom);
+    }
+    write_units(
+        indices,
+        decodings,
+        matches,
+        starts,
+        order,
+        edges,
+        members,
+        target,
+        numbers,
+        lags,
+    );
+    let used = judged.used;
+    Joined::Units {
+        closure,
+        units: judged.units,
+        left_out: count_left_out(closure, indices, &used),
+    }
+}
+
+// The units over a whole closure, of a table in range and in order.
+fn join_ordered(
+    layers: Layers,
+    closure: u64,
+    target: usize,
+    indices: &[u8],
+    decodings: &[u64],
+    matches: &[u64],
+    numbers: &mut [u64],
+    lags: &mut [i64],
+) -> Joined
+    requires { ⌜ Orderly layers target closure (table (now indices) (now decodings) (now matches)) ⌝ }
+    ensures answer { λ r. ⌜ r ≡ unitsJoined (table (now (indices .entry)) (now (decodings .entry)) (now (matches .entry))) closure (frameOf layers closure target) (length (now (numbers .entry))) (length (now (lags .entry))) ⌝ }
+    ensures content { λ r. ⌜ now (numbers .exit) ≡ framedNumbers (table (now (indices .entry)) (now (decodings .entry)) (now (matches .entry))) (frameOf layers closure target) r (now (numbers .entry)) ⌝ }
+    ensures beside { λ r. ⌜ now (lags .exit) ≡ framedLags (table (now (indices .entry)) (now (decodings .entry)) (now (matches .entry))) (frameOf layers closure target) r (now (lags .entry)) ⌝ }
+{
+    let starts = starts_of(indices);
+    let order = order_of(indices, starts);
+    let edges = edges_of(layers, closure);
+    let count = edges.count;
+    let pairs = edges.list;
+    let members = members_of(closure);
+    let size = members.count;
+    let list = members.list;
+    join_framed(
+        closure,
+        indices,
+        decodings,
+        matches,
+        &starts,
+        &order,
+        &pairs[..count],
+        &list[..size],
+        target,
+        numbers,
+        lags,
+    )
+}
+
+// The units over a whole closure: 13 and 14 first.
+fn join_closure(
+    layers: Layers,
+    closure: u64,
+    target: usize,
+    indices: &[u8],
+    decodings: &[u64],
+    matches: &[u64],
+    numbers: &mut [u64],
+    lags: &mut [i64],
+) -> Joined
+    requires { ⌜ Closed layers target closure ⌝ }
+    ensures answer { λ r. ⌜ r ≡ tableJoined layers target (table (now (indices .entry)) (now (decodings .entry)) (now (matches .entry))) closure (length (now (numbers .entry))) (length (now (lags .entry))) ⌝ }
+    ensures content { λ r. ⌜ now (numbers .exit) ≡ framedNumbers (table (now (indices .entry)) (now (decodings .entry)) (now (matches .entry))) (frameOf layers closure target) r (now (numbers .entry)) ⌝ }
+    ensures beside { λ r. ⌜ now (lags .exit) ≡ framedLags (table (now (indices .entry)) (now (decodings .entry)) (now (matches .entry))) (frameOf layers closure target) r (now (lags .entry)) ⌝ }
+{
+    if wrong_shape(indices, decodings, matches) {
+        return Joined::Refused(Refusal::OutOfRange(0));
+    }
+    let outside = first_out_of_range(indices, decodings, matches);
+    if outside < indices.len() {
+        return Joined::Refused(Refusal::OutOfRange(outside));
+    }
+    let broken = first_broken(closure, indices, decodings);
+    if broken < indices.len() {
+        return Joined::Refused(Refusal::TimeOrderBroken(broken));
+    }
+    join_ordered(
+        layers,
+        closure,
+        target,
+        indices,
+        decodings,
+        matches,
+        numbers,
+        lags,
+    )
+}
+
+// THE CALL. The layers of a loop, a target, the three columns of the row table, and the two lists for the answer, of any lengths: the row
+// numbers of the units and the lag beside each. After a refusal both lists are as they were.
+pub fn join(
+    layers: Layers,
+    target: u64,
+    indices: &[u8],
+    decodings: &[u64],
+    matches: &[u64],
+    numbers: &mut [u64],
+    lags: &mut [i64],
+) -> Joined
+    ensures answer { λ r. ⌜ r ≡ joinedOf layers target (table (now (indices .entry)) (now (decodings .entry)) (now (matches .entry))) (length (now (numbers .entry))) (length (now (lags .entry))) ⌝ }
+    ensures content { λ r. ⌜ now (numbers .exit) ≡ numbersAfter layers target (table (now (indices .entry)) (now (decodings .entry)) (now (matches .entry))) r (now (numbers .entry)) ⌝ }
+    ensures beside { λ r. ⌜ now (lags .exit) ≡ lagsAfter layers target (table (now (indices .entry)) (now (decodings .entry)) (now (matches .entry))) r (now (lags .entry)) ⌝ }
+{
+    let found = closure::closure_of(layers, target);
+    match found {
+        Closure::Complete(set) => join_closure(
+            layers,
+            set,
+            target as usize,
+            indices,
+            decodings,
+            matches,
+            numbers,
+            lags,
+        ),
+        Closure::Refused(refusal) => Joined::Refused(refusal),
+    }
+}
