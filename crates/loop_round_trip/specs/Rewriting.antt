@@ -9,10 +9,11 @@ use native.Mathlib.Nat.{not-suc-le-zero}
 use native.Mathlib.Decide.{decLt, ℕ-discrete}
 use borrow.Author.Tests.{lt-ltb, le-ltb, eq-eqb, ne-eqb, eqb-true, ltb-false, ltb-true}
 use lib.Dec.{eqb, ltb}
-use lib.ListN.{length, getD, take, drop, replicate, length-append, length-map, length-drop, take-append-drop}
+use lib.ListN.{length, getD, take, drop, replicate, length-append, length-map, length-drop, take-append-drop, List·getD-eq-default}
 use lib.Seq.{take-at, take-all, take-append-seam, length-take-le}
 use Rattle.combinators.specs.Bools.{both-left, both-right, either-left, either-right, neither-left, neither-right}
-use Rattle.combinators.specs.Lists.{Nth, here, there, nth-inside, nth-getD, any, gather}
+use Rattle.combinators.specs.Lists.{Nth, here, there, nth-inside, getD-nth, getD-map, any, gather}
+use Rattle.combinators.specs.Lowest.{lowestNumber, earliestPlace, lowest-is}
 use Rattle.combinators.specs.Padding.{padTo, length-padTo}
 use Rattle.framing.specs.Pieces.{Item, whole, broken, cut, Cuts, nothing-left, does-not-fit, piece, cut-cuts}
 use Rattle.syntax.specs.Table.{Table, AreBytes, number, bytes, readTable, writeTable, fixedHold, reservedOnes, Fit, Sound}
@@ -31,12 +32,23 @@ use Rattle.descriptors.specs.Records.{noLayer, hierarchyFrom, hierarchyOf, exte
 use Rattle.descriptors.specs.Looking.{Kind, does-not-fit as unfit, skipped, wrong-length, hierarchy, extension, extensionKind, payloadKind, descriptorTag, descriptorLength, kindOf, Held, heldIn, isWrongLength, firstRecord, firstLayers, seenOf, nothingSeen}
 use Rattle.judging.specs.Judging.{isLayer}
 use Rattle.descriptors.specs.declared.looking.Seen.{Seen}
+use Rattle.vocabulary.specs.declared.refusal.Refusal.{Refusal}
+use Rattle.vocabulary.specs.declared.refusal.Refusal.the-variants.{LoopTooLong}
+use Rattle.vocabulary.specs.Refusals.{numberOf, placeOf}
 use Rattle.es_loop.specs.declared.entries.Entry.{Entry}
-use Rattle.es_loop.specs.Entries.{entryHead, streamType, elementaryPid, esInfoLength, seenIn, streamOf, entryOf}
+use Rattle.es_loop.specs.declared.entries.Stream.{Stream}
+use Rattle.es_loop.specs.declared.reader.Outcome.the-variants.{Accepted}
+use Rattle.es_loop.specs.declared.reader.LoopRead.{LoopRead}
+use Rattle.es_loop.specs.Conditions.{streamAt, applies, refusalOf}
+use Rattle.es_loop.specs.Reading.{refusedWith, accepted, loopRead}
+use Rattle.es_loop.specs.Entries.{entryHead, streamType, elementaryPid, esInfoLength, seenIn, streamOf, streamsOf, noStream, entryOf, blankEntry}
 use Rattle.es_loop.specs.Meant.{by-head}
 use Rattle.loop_writer.specs.Layout.{Filled, filled, bytesIn, tooWideIn, bitOf, hierarchyFields, extensionFields, layerTable, recordTables, infoBytes, entryBytes, loopBytes, tooWide}
-use Rattle.loop_writer.specs.Writing.{onUnknownType}
+use Rattle.loop_writer.specs.declared.Written.{Written}
+use Rattle.loop_writer.specs.declared.Written.the-variants.{Bytes, Refused}
+use Rattle.loop_writer.specs.Writing.{onUnknownType, answer}
 use Rattle.loop_round_trip.specs.ReadBack.{Typed, none, one-more as one-typed, by-tag, entry-sound, descriptor-sound, hierarchy-sound, extension-sound, layer-sound}
+use Rattle.loop_round_trip.specs.RoundTrip.{Refuses, wide, too-long, judged-by, no-room, writes, refuses, numbered, none-below, same-refusal}
 use Rattle.loop_round_trip.specs.OwnShape.{Ones, ListOnes, no-more, one-more, OwnDescriptor, hierarchy-own, extension-own, OwnEntry, known-own, bare-own, OwnShape}
 
 -- ---- parts of a list of bytes
@@ -323,3 +335,110 @@ loop-back b (piece {head} {body} {rest} {items} p q c) own fine =
         → Nth (e ∷ es) k x → onUnknownType x ≡ false
     all u f zero x here = u
     all u f (suc k) x (there n) = f k x n
+
+-- an entry takes at least the five bytes of its head
+least-size : (es : List Entry) → 5 * length es ≤ length (loopBytes es)
+least-size [] = omega arith
+least-size (e ∷ es) = omega (arith, least-size es, length-append (entryBytes e) (loopBytes es))
+
+-- ---- REWRITING
+
+-- what is known of a loop that the reader accepts
+record Taken (loop : List ℕ) : Type 0 where
+  short : length loop ≤ 1008
+  answered : loopRead Edition2015 loop ≡ accepted (streamsOf Edition2015 loop)
+  none-applies : (n k : ℕ) → n < 11 → k < length (streamsOf Edition2015 loop) → applies (streamsOf Edition2015 loop) n k ≡ false
+
+taken : (loop : List ℕ) → (loopRead Edition2015 loop) .outcome ≡ Accepted → Taken loop
+taken loop ok = go (ltb 1008 (length loop)) refl (ltb lowest 11) refl
+  where
+    streams : List Stream
+    streams = streamsOf Edition2015 loop
+
+    lowest : ℕ
+    lowest = lowestNumber (applies streams) 11 (length streams)
+
+    refused : (r : Refusal) → loopRead Edition2015 loop ≡ refusedWith r → Taken loop
+    refused r e = let z : _≡_ {A = ℕ} 0 1 = cc (ap (λ (x : LoopRead). x .outcome) e) in absurd (omega arith)
+
+    go : (a : Bool) → ltb 1008 (length loop) ≡ a → (b : Bool) → ltb lowest 11 ≡ b → Taken loop
+    go true p b q = refused LoopTooLong (rw p)
+    go false p true q = refused (refusalOf lowest (earliestPlace (applies streams) lowest (length streams))) (rw (p, q))
+    go false p false q =
+        record {
+          short = ltb-false 1008 (length loop) p;
+          answered = rw (p, q);
+          none-applies = λ n k h l. (lowest-is (applies streams) 11 (length streams)) .lower n k (omega (arith, ltb-false lowest 11 q)) l;
+        }
+
+module _ (loop : List ℕ) (b : AreBytes loop) (own : OwnShape loop) (ok : (loopRead Edition2015 loop) .outcome ≡ Accepted) where
+  abbrev items : List Item
+  items = cut 5 esInfoLength loop
+
+  abbrev streams : List Stream
+  streams = streamsOf Edition2015 loop
+
+  known-taken : Taken loop
+  known-taken = taken loop ok
+
+  fine : (k : ℕ) (i : Item) → Nth items k i → Fine i
+  fine k i n =
+      let inside : k < length streams = rw (length-map items (streamOf Edition2015)) (nth-inside n) in
+      let at : streamAt streams k ≡ streamOf Edition2015 i = getD-map (streamOf Edition2015) noStream n in (
+        sym (ap (λ (s : Stream). s .seen .«wrong_length») at) ∙ known-taken .none-applies 4 k (omega arith) inside,
+        sym (ap (λ (s : Stream). s .seen .«second_record») at) ∙ known-taken .none-applies 5 k (omega arith) inside,
+      )
+
+  back : LoopBack (map entryOf streams) loop
+  back = loop-back b (cut-cuts 5 esInfoLength (omega arith) by-head loop) own fine
+
+  abbrev array : List Entry
+  array = padTo 201 blankEntry (map entryOf streams)
+
+  -- the entries of the answer
+  all-given : take (length streams) array ≡ map entryOf streams
+  all-given =
+      take-at (map entryOf streams) (replicate (201 - length (map entryOf streams)) blankEntry) (length streams) (length-map streams entryOf)
+
+  same-bytes : loopBytes (take (length streams) array) ≡ loop
+  same-bytes = ap loopBytes all-given ∙ back .loop-bytes
+
+  module _ (room : ℕ) (large : length loop ≤ room) where
+    few : length streams ≤ 201
+    few = omega (arith, least-size (map entryOf streams), ap length (back .loop-bytes), length-map streams entryOf, known-taken .short)
+
+    typed : Typed (take (length streams) array)
+    typed = rw all-given (back .loop-typed)
+
+    known-at : (k : ℕ) → onUnknownType (getD (take (length streams) array) k blankEntry) ≡ false
+    known-at k = rw all-given (go (decLt k (length (map entryOf streams))))
+      where
+        go : Dec (k < length (map entryOf streams)) → onUnknownType (getD (map entryOf streams) k blankEntry) ≡ false
+        go (yes h) = back .loop-known k (getD (map entryOf streams) k blankEntry) (getD-nth (map entryOf streams) k blankEntry h)
+        go (no h) = ap onUnknownType (List·getD-eq-default (map entryOf streams) blankEntry (omega arith))
+
+    -- the writer does not refuse
+    not-refused : {r : Refusal} → Refuses room (length streams) array r → answer room (length streams) array ≡ Refused r → ⊥
+    not-refused (wide p) e =
+        let z : _≡_ {A = ℕ} 0 1 = cc (p, ap (any tooWide) all-given, back .loop-fit) in omega arith
+    not-refused (too-long p q) e =
+        let long : (ltb 201 (length streams) || ltb 1008 (length (loopBytes (take (length streams) array)))) ≡ false =
+        rw (same-bytes, le-ltb 201 (length streams) few, le-ltb 1008 (length loop) (known-taken .short)) in
+        let z : _≡_ {A = ℕ} 0 1 = cc (q, long) in omega arith
+    not-refused (judged-by {n} {k} p f short low l) e =
+        let named = numbered n k l (none-below (take (length streams) array) n k (low .holds l)) in
+        let refused : loopRead Edition2015 loop ≡ refusedWith (refusalOf n k) =
+        rw same-bytes at (same-refusal room (length streams) array typed few e (omega (arith, named .0)) (λ six. known-at (placeOf (refusalOf n k)))) in
+        let z : _≡_ {A = ℕ} 0 1 = cc (ok, ap (λ (x : LoopRead). x .outcome) refused) in omega arith
+    not-refused (no-room p q) e = omega (arith, ap length same-bytes)
+
+    same-size : (w : Written) → answer room (length streams) array ≡ w → answer room (length streams) array ≡ Bytes (length loop)
+    same-size (Bytes n) e = e ∙ ap Bytes ((writes room (length streams) array e) .size ∙ ap length same-bytes)
+    same-size (Refused r) e = absurd (not-refused (refuses room (length streams) array e) e)
+
+    -- WRITING THE ANSWER GIVES THE SAME BYTES, and is accepted wherever there is room for them.
+    pub rewrite : let read : LoopRead = loopRead Edition2015 loop in
+        (answer room (read .count) (read .entries) ≡ Bytes (length loop)) × (loopBytes (take (read .count) (read .entries)) ≡ loop)
+    rewrite =
+        subst (λ (x : LoopRead). (answer room (x .count) (x .entries) ≡ Bytes (length loop)) × (loopBytes (take (x .count) (x .entries)) ≡ loop))
+        (sym (known-taken .answered)) (same-size (answer room (length streams) array) refl, same-bytes)
