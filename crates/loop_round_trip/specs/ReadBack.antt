@@ -62,19 +62,19 @@ readAs e = cond (known Edition2015 (e .«stream_type»)) (normal e) (withoutReco
 
 -- ---- each table
 
-entry-sound : Sound entryHead
+pub entry-sound : Sound entryHead
 entry-sound = record { whole = refl; fixed-fit = refl }
 
-descriptor-sound : Sound descriptorHead
+pub descriptor-sound : Sound descriptorHead
 descriptor-sound = record { whole = refl; fixed-fit = refl }
 
-hierarchy-sound : Sound (hierarchyDescriptor Edition2015)
+pub hierarchy-sound : Sound (hierarchyDescriptor Edition2015)
 hierarchy-sound = record { whole = refl; fixed-fit = refl }
 
-extension-sound : Sound extensionHead
+pub extension-sound : Sound extensionHead
 extension-sound = record { whole = refl; fixed-fit = refl }
 
-layer-sound : Sound embeddedLayer
+pub layer-sound : Sound embeddedLayer
 layer-sound = record { whole = refl; fixed-fit = refl }
 
 bit-back : (b : Bool) → eqb (bitOf b) 1 ≡ b
@@ -106,7 +106,7 @@ layers-back (index ∷ layers) e =
 
 -- ---- one descriptor
 
-by-tag : (head rest : List ℕ) → length head ≡ 2 → descriptorLength (head ++ rest) ≡ descriptorLength head
+pub by-tag : (head rest : List ℕ) → length head ≡ 2 → descriptorLength (head ++ rest) ≡ descriptorLength head
 by-tag head rest h = ap (λ (vs : List ℕ). getD vs 1 0) (read-before descriptorHead head rest (omega arith))
 
 -- a descriptor's head, and a payload as long as it says

@@ -138,6 +138,33 @@ module _ {es : List Entry} (typed : Typed es) (fit : any tooWide es ≡ false) w
       ∙ ap₂ (λ (n : ℕ) (l : List Entry). record { outcome = Accepted; count = n; entries = padTo 201 blankEntry l }) as-long
       (entries-back (map readAs es) ∙ all-normal es unknown)
 
+-- ---- the numbers that apply are those of their refusals
+
+pub numbered : (n k : ℕ) → n < 11 → 2 ≤ n → (numberOf (refusalOf n k) ≡ n) × (placeOf (refusalOf n k) ≡ k)
+numbered n k h l =
+    handled (λ m. 2 ≤ m → (numberOf (refusalOf m k) ≡ m) × (placeOf (refusalOf m k) ≡ k)) (replicate 11 true) (
+      (λ t i. absurd (omega arith)),
+      (
+        (λ t i. absurd (omega arith)),
+        (
+          (λ t i. (refl, refl)),
+          (
+            (λ t i. (refl, refl)),
+            (
+              (λ t i. (refl, refl)),
+              ((λ t i. (refl, refl)), ((λ t i. (refl, refl)), ((λ t i. (refl, refl)), ((λ t i. (refl, refl)), ((λ t i. (refl, refl)), ((λ t i. (refl, refl)), tt)))))),
+            ),
+          ),
+        ),
+      ),
+    )
+    n (getD-replicate 11 n true false h) l
+
+pub none-below : (es : List Entry) (n k : ℕ) → appliesTo es n k ≡ true → 2 ≤ n
+none-below es zero k t = let z : _≡_ {A = ℕ} 0 1 = cc in absurd (omega arith)
+none-below es (suc zero) k t = let z : _≡_ {A = ℕ} 0 1 = cc in absurd (omega arith)
+none-below es (suc (suc n)) k t = omega arith
+
 -- ---- THE ROUND TRIPS
 
 module _ (room count : ℕ) (array : List Entry) (typed : Typed (take count array)) where
@@ -171,39 +198,13 @@ module _ (room count : ℕ) (array : List Entry) (typed : Typed (take count arra
       es : List Entry
       es = take count array
 
-      -- the numbers that apply are those of their refusals
-      numbered : (n k : ℕ) → n < 11 → 2 ≤ n → (numberOf (refusalOf n k) ≡ n) × (placeOf (refusalOf n k) ≡ k)
-      numbered n k h l =
-          handled (λ m. 2 ≤ m → (numberOf (refusalOf m k) ≡ m) × (placeOf (refusalOf m k) ≡ k)) (replicate 11 true) (
-            (λ t i. absurd (omega arith)),
-            (
-              (λ t i. absurd (omega arith)),
-              (
-                (λ t i. (refl, refl)),
-                (
-                  (λ t i. (refl, refl)),
-                  (
-                    (λ t i. (refl, refl)),
-                    ((λ t i. (refl, refl)), ((λ t i. (refl, refl)), ((λ t i. (refl, refl)), ((λ t i. (refl, refl)), ((λ t i. (refl, refl)), ((λ t i. (refl, refl)), tt)))))),
-                  ),
-                ),
-              ),
-            ),
-          )
-          n (getD-replicate 11 n true false h) l
-
-      none-below : (n k : ℕ) → appliesTo es n k ≡ true → 2 ≤ n
-      none-below zero k t = let z : _≡_ {A = ℕ} 0 1 = cc in absurd (omega arith)
-      none-below (suc zero) k t = let z : _≡_ {A = ℕ} 0 1 = cc in absurd (omega arith)
-      none-below (suc (suc n)) k t = omega arith
-
       go : {r : Refusal} → Refuses room count array r → numberOf r ≤ 10 → (numberOf r ≡ 6 → onUnknownType (getD es (placeOf r) blankEntry) ≡ false)
           → loopRead Edition2015 (loopBytes es) ≡ refusedWith r
       go (wide p) h s = absurd (omega arith)
       go (too-long p q) h s =
           reading-long typed p (ltb-true 1008 (length (loopBytes es)) (rw (le-ltb 201 count few) at q))
       go (judged-by {n} {k} p f short low l) h s =
-          let named = numbered n k l (none-below n k (low .holds l)) in
+          let named = numbered n k l (none-below es n k (low .holds l)) in
           reading typed p short
           ∙ sym (judged-refused (map streamFor (map readAs es)) n k
           (seen-lowest typed p n k low (λ is-six. rw (← named .1) (s (named .0 ∙ is-six)))) l)
