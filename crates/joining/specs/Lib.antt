@@ -8,3 +8,4 @@ pub mod Writing
 pub mod Frames
 pub mod Orderly
 pub mod Joining
+pub mod Examples
