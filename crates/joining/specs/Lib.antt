@@ -9,3 +9,5 @@ pub mod Frames
 pub mod Orderly
 pub mod Joining
 pub mod Examples
+pub mod Meaning
+pub mod Chosen
