@@ -11,3 +11,4 @@ pub mod Joining
 pub mod Examples
 pub mod Meaning
 pub mod Chosen
+pub mod Shared

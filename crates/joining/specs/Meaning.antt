@@ -20,3 +20,19 @@ pub record Assembles (layers : Layers) (target : ℕ) (t : Table) (head : ℕ) (
 pub record NoAssembly (layers : Layers) (target : ℕ) (t : Table) (k : ℕ) : Type 0 where
   pub target-row : layerOf t k ≡ target
   pub none : (choice : ℕ → ℕ) → Assembles layers target t k choice → ⊥
+
+-- 16: 'a row would stand in two units', at the 'later target row'
+pub record SharesRow (layers : Layers) (target : ℕ) (t : Table) (k : ℕ) : Type 0 where
+  pub target-row : layerOf t k ≡ target
+  pub choice : ℕ → ℕ
+  pub assembles : Assembles layers target t k choice
+  pub earlier : ℕ
+  pub before : earlier < k
+  pub earlier-row : layerOf t earlier ≡ target
+  pub other : ℕ → ℕ
+  pub assembles-earlier : Assembles layers target t earlier other
+  pub layer : ℕ
+  pub in-closure : RestsOn layers target layer
+  pub other-layer : ℕ
+  pub other-in-closure : RestsOn layers target other-layer
+  pub shared : choice layer ≡ other other-layer
