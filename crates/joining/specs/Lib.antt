@@ -9,3 +9,6 @@ pub mod Frames
 pub mod Orderly
 pub mod Joining
 pub mod Examples
+pub mod Meaning
+pub mod Chosen
+pub mod Shared

@@ -1,0 +1,253 @@
+-- The assembly that is found is one, and there is no other: `found` and `only`.
+-- Assumes nothing.
+use Prim.Native.Nat.{ℕ, zero, suc, _≤_, _<_}
+use mathlib.Core.Path.{_≡_, refl, sym, _∙_, ap, ap₂, subst}
+use mathlib.Core.Bool.{Bool, true, false, not, cond, _&&_, true≢false}
+use mathlib.Core.List.{List, [], _∷_}
+use mathlib.Core.Logic.{_⊎_, inl, inr}
+use native.Mathlib.Omega.{arith}
+use native.Mathlib.Decide.{decLt, ℕ-discrete}
+use borrow.Author.Tests.{lt-ltb, le-ltb, eq-eqb, eqb-true, not-true}
+use lib.Dec.{eqb, ltb}
+use lib.ListN.{length, getD, set, length-set}
+use lib.Seq.{getD-set-same, getD-set-other}
+use Rattle.closure.specs.declared.Layers.{Layers}
+use Rattle.closure.specs.Meaning.{Names, RestsOn, itself, by}
+use Rattle.clock.specs.Clock.{distanceOf}
+use Rattle.combinators.specs.Below.{seek-here}
+use Rattle.combinators.specs.Bools.{both-left, both-right}
+use Rattle.joining.specs.declared.assembly.Assembly.{Assembly}
+use Rattle.joining.specs.Table.{Table, rowsIn, layerOf, decodingOf, matchOf, firstRow, ahead}
+use Rattle.joining.specs.Index.{Rising}
+use Rattle.joining.specs.Assemblies.{upperOf, lowerOf, rowAt, pairedRow, partner, edgesOf, assembledFrom, assembled}
+use Rattle.joining.specs.Assembled.{Met, OfLayers, all-met, all-own, heads, begin-long, begin-target, begin-other, begin-own, lower-below}
+use Rattle.joining.specs.Frames.{frameOf, Listed, edge-names, edge-listed, led-before, row-for-each, rests-below, target-below}
+use Rattle.joining.specs.Orderly.{Orderly, rises}
+use Rattle.joining.specs.Meaning.{Assembles, NoAssembly}
+use Rattle.joining.specs.Units.{unpaired}
+
+-- in a rising layer one row at the most has a decoding time
+pub row-only : (t : Table) (layer time k : ℕ) → Rising t layer → k < rowsIn t → layerOf t k ≡ layer → decodingOf t k ≡ time → rowAt t layer time ≡ k
+row-only t layer time k rising h own timed =
+    sym (seek-here (λ j. eqb (layerOf t j) layer && eqb (decodingOf t j) time) (rowsIn t) k h
+    (λ j l. none j l (eqb (layerOf t j) layer && eqb (decodingOf t j) time) refl)
+    (ap₂ (λ (a b : Bool). a && b) (eq-eqb (layerOf t k) layer own) (eq-eqb (decodingOf t k) time timed)))
+  where
+    none : (j : ℕ) → j < k → (b : Bool) → (eqb (layerOf t j) layer && eqb (decodingOf t j) time) ≡ b
+        → (eqb (layerOf t j) layer && eqb (decodingOf t j) time) ≡ false
+    none j l true e =
+        let own-j = eqb-true (layerOf t j) layer (both-left (eqb (layerOf t j) layer) (eqb (decodingOf t j) time) e) in
+        let timed-j = eqb-true (decodingOf t j) time (both-right (eqb (layerOf t j) layer) (eqb (decodingOf t j) time) e) in
+        let same : ahead t j ≡ ahead t k =
+        ap₂ (λ (own time : ℕ). distanceOf (decodingOf t (firstRow t own)) time) (own-j ∙ sym own) (timed-j ∙ sym timed) in
+        absurd (let rise = rising j k l h own-j own in omega arith)
+    none j l false e = e
+
+-- ---- along the edges, given a choice that meets them
+
+module _ (t : Table) (choice : ℕ → ℕ) where
+  -- what a choice has at an edge
+  pub record Fits (edge : ℕ) : Type 0 where
+    pub rising : Rising t (lowerOf edge)
+    pub row : choice (lowerOf edge) < rowsIn t
+    pub own : layerOf t (choice (lowerOf edge)) ≡ lowerOf edge
+    pub timed : decodingOf t (choice (lowerOf edge)) ≡ matchOf t (choice (upperOf edge))
+
+  -- rows so far that are the choice's
+  pub record Agrees (rows : List ℕ) : Type 0 where
+    pub long : length rows ≡ 64
+    pub same : (layer : ℕ) → layer < 64 → getD rows layer 0 < rowsIn t → getD rows layer 0 ≡ choice layer
+
+  partner-chosen : (rows : List ℕ) (edge : ℕ) → Agrees rows → Fits edge → upperOf edge < 64 → getD rows (upperOf edge) 0 < rowsIn t
+      → partner t rows edge ≡ choice (lowerOf edge)
+  partner-chosen rows edge agrees fits small above =
+      rw (lt-ltb (getD rows (upperOf edge) 0) (rowsIn t) above) (go (decLt (getD rows (lowerOf edge) 0) (rowsIn t)))
+    where
+      time-is : matchOf t (getD rows (upperOf edge) 0) ≡ matchOf t (choice (upperOf edge))
+      time-is = ap (matchOf t) (agrees .same (upperOf edge) small above)
+
+      go : Dec (getD rows (lowerOf edge) 0 < rowsIn t)
+          → pairedRow t (getD rows (lowerOf edge) 0) (lowerOf edge) (matchOf t (getD rows (upperOf edge) 0)) ≡ choice (lowerOf edge)
+      go (yes l) =
+          let same = agrees .same (lowerOf edge) (lower-below edge) l in
+          ap (λ (b : Bool). cond b (cond (eqb (decodingOf t (getD rows (lowerOf edge) 0)) (matchOf t (getD rows (upperOf edge) 0))) (getD rows (lowerOf edge) 0) (rowsIn t))
+          (rowAt t (lowerOf edge) (matchOf t (getD rows (upperOf edge) 0)))) (lt-ltb (getD rows (lowerOf edge) 0) (rowsIn t) l)
+          ∙ ap (λ (b : Bool). cond b (getD rows (lowerOf edge) 0) (rowsIn t))
+          (eq-eqb (decodingOf t (getD rows (lowerOf edge) 0)) (matchOf t (getD rows (upperOf edge) 0)) (ap (decodingOf t) same ∙ fits .timed ∙ sym time-is))
+          ∙ same
+      go (no l) =
+          ap (λ (b : Bool). cond b (cond (eqb (decodingOf t (getD rows (lowerOf edge) 0)) (matchOf t (getD rows (upperOf edge) 0))) (getD rows (lowerOf edge) 0) (rowsIn t))
+          (rowAt t (lowerOf edge) (matchOf t (getD rows (upperOf edge) 0)))) (le-ltb (getD rows (lowerOf edge) 0) (rowsIn t) (omega arith))
+          ∙ row-only t (lowerOf edge) (matchOf t (getD rows (upperOf edge) 0)) (choice (lowerOf edge)) (fits .rising) (fits .row) (fits .own) (fits .timed ∙ sym time-is)
+
+  upper-below : (edge : ℕ) → upperOf edge < 64
+  upper-below edge = omega arith
+
+  -- the rows after an edge
+  agrees-more : (rows : List ℕ) (edge : ℕ) → Agrees rows → Agrees (set rows (lowerOf edge) (choice (lowerOf edge)))
+  agrees-more rows edge known =
+      record {
+        long = length-set rows (lowerOf edge) (choice (lowerOf edge)) ∙ known .long;
+        same = λ layer h l. go layer h l (ℕ-discrete layer (lowerOf edge));
+      }
+    where
+      go : (layer : ℕ) → layer < 64 → getD (set rows (lowerOf edge) (choice (lowerOf edge))) layer 0 < rowsIn t → Dec (layer ≡ lowerOf edge)
+          → getD (set rows (lowerOf edge) (choice (lowerOf edge))) layer 0 ≡ choice layer
+      go layer h l (yes e) =
+          getD-set-at e
+        where
+          getD-set-at : layer ≡ lowerOf edge → getD (set rows (lowerOf edge) (choice (lowerOf edge))) layer 0 ≡ choice layer
+          getD-set-at e = rw e (getD-set-same rows (lowerOf edge) (choice (lowerOf edge)) 0 (omega (arith, known .long, lower-below edge)))
+      go layer h l (no e) =
+          let other = getD-set-other rows (lowerOf edge) layer (choice (lowerOf edge)) 0 e in
+          other ∙ known .same layer h (subst (λ (x : ℕ). x < rowsIn t) other l)
+
+  -- an edge's upper layer has its row, or an earlier edge leads to it
+  abbrev Led : List ℕ → List ℕ → Type 0
+  Led edges rows = (i : ℕ) → i < length edges
+      → (getD rows (upperOf (getD edges i 0)) 0 < rowsIn t) ⊎ ((j : ℕ) × (j < i) × (lowerOf (getD edges j 0) ≡ upperOf (getD edges i 0)))
+
+  pub followed : (edges rows : List ℕ) → Agrees rows → ((i : ℕ) → i < length edges → Fits (getD edges i 0)) → Led edges rows
+      → (assembledFrom t edges rows .complete ≡ true) × Agrees (assembledFrom t edges rows .rows)
+  followed [] rows agrees fits led = (refl, agrees)
+  followed (edge ∷ edges) rows agrees fits led =
+      go (led 0 (omega arith))
+      (followed edges (set rows (lowerOf edge) (choice (lowerOf edge))) (agrees-more rows edge agrees) (λ i h. fits (suc i) (omega arith)) led-next)
+    where
+      set-here : getD (set rows (lowerOf edge) (choice (lowerOf edge))) (lowerOf edge) 0 ≡ choice (lowerOf edge)
+      set-here = getD-set-same rows (lowerOf edge) (choice (lowerOf edge)) 0 (omega (arith, agrees .long, lower-below edge))
+
+      still : (layer : ℕ) → getD rows layer 0 < rowsIn t → getD (set rows (lowerOf edge) (choice (lowerOf edge))) layer 0 < rowsIn t
+      still layer h = at (ℕ-discrete layer (lowerOf edge))
+        where
+          at : Dec (layer ≡ lowerOf edge) → getD (set rows (lowerOf edge) (choice (lowerOf edge))) layer 0 < rowsIn t
+          at (yes e) =
+              subst (λ (l : ℕ). getD (set rows (lowerOf edge) (choice (lowerOf edge))) l 0 < rowsIn t) (sym e)
+              (subst (λ (x : ℕ). x < rowsIn t) (sym set-here) (fits 0 (omega arith) .row))
+          at (no e) = subst (λ (x : ℕ). x < rowsIn t) (sym (getD-set-other rows (lowerOf edge) layer (choice (lowerOf edge)) 0 e)) h
+
+      led-next : Led edges (set rows (lowerOf edge) (choice (lowerOf edge)))
+      led-next i h = from (led (suc i) (omega arith))
+        where
+          from : (getD rows (upperOf (getD edges i 0)) 0 < rowsIn t) ⊎ ((j : ℕ) × (j < suc i) × (lowerOf (getD (edge ∷ edges) j 0) ≡ upperOf (getD edges i 0)))
+              → (getD (set rows (lowerOf edge) (choice (lowerOf edge))) (upperOf (getD edges i 0)) 0 < rowsIn t)
+              ⊎ ((j : ℕ) × (j < i) × (lowerOf (getD edges j 0) ≡ upperOf (getD edges i 0)))
+          from (inl l) = inl (still (upperOf (getD edges i 0)) l)
+          from (inr (zero, l, e)) =
+              inl (subst (λ (u : ℕ). getD (set rows (lowerOf edge) (choice (lowerOf edge))) u 0 < rowsIn t) e
+              (subst (λ (x : ℕ). x < rowsIn t) (sym set-here) (fits 0 (omega arith) .row)))
+          from (inr (suc j, l, e)) = inr (j, omega arith, e)
+
+      go : (getD rows (upperOf edge) 0 < rowsIn t) ⊎ ((j : ℕ) × (j < 0) × (lowerOf (getD (edge ∷ edges) j 0) ≡ upperOf edge))
+          → (assembledFrom t edges (set rows (lowerOf edge) (choice (lowerOf edge))) .complete ≡ true)
+          × Agrees (assembledFrom t edges (set rows (lowerOf edge) (choice (lowerOf edge))) .rows)
+          → (assembledFrom t (edge ∷ edges) rows .complete ≡ true) × Agrees (assembledFrom t (edge ∷ edges) rows .rows)
+      go (inr w) later = absurd (omega (arith, w .1))
+      go (inl above) later =
+          let is = partner-chosen rows edge agrees (fits 0 (omega arith)) (upper-below edge) above in
+          let inside : partner t rows edge < rowsIn t = subst (λ (x : ℕ). x < rowsIn t) (sym is) (fits 0 (omega arith) .row) in
+          let step : assembledFrom t (edge ∷ edges) rows ≡ assembledFrom t edges (set rows (lowerOf edge) (choice (lowerOf edge))) =
+          ap (λ (b : Bool). cond b (assembledFrom t edges (set rows (lowerOf edge) (partner t rows edge))) (record { complete = false; rows = rows }))
+          (lt-ltb (partner t rows edge) (rowsIn t) inside)
+          ∙ ap (λ (p : ℕ). assembledFrom t edges (set rows (lowerOf edge) p)) is in
+          (ap (λ (a : Assembly). a .complete) step ∙ later .0, subst (λ (a : Assembly). Agrees (a .rows)) (sym step) (later .1))
+
+-- ---- THE ASSEMBLY of a target row
+
+module _ (layers : Layers) (target closure : ℕ) (t : Table) (orderly : Orderly layers target closure t) (head : ℕ) (inside : head < rowsIn t)
+    (own : layerOf t head ≡ target) where
+  abbrev es : List ℕ
+  es = edgesOf layers closure
+
+  -- what is found is an assembly,
+  pub found : assembled t es target head .complete ≡ true → Assembles layers target t head (λ layer. getD (assembled t es target head .rows) layer 0)
+  found e =
+      let here = orderly .closed-over .here in
+      let whole = orderly .closed-over .whole in
+      let small = target-below layers target closure here whole in
+      record {
+        of-target = heads t target head small es inside e;
+        row = row-for-each layers target closure here whole t head inside e;
+        of-layer = λ layer r.
+            all-own t es _ (begin-own t target head small own) e .own layer (rests-below layers target closure here whole layer r)
+            (row-for-each layers target closure here whole t head inside e layer r);
+        paired = λ upper lower r n.
+            (let w = edge-listed layers target closure here whole upper lower r n in
+            let m = all-met t es _ (begin-long t target head small) e (w .0) (w .1 .inside) in
+            ap (λ (l : ℕ). decodingOf t (getD (assembled t es target head .rows) l 0)) (sym (w .1 .lower-is))
+            ∙ m .paired
+            ∙ ap (λ (u : ℕ). matchOf t (getD (assembled t es target head .rows) u 0)) (w .1 .upper-is));
+      }
+
+  -- and where there is an assembly, it is found, and there is no other.
+  pub only : (choice : ℕ → ℕ) → Assembles layers target t head choice
+      → (assembled t es target head .complete ≡ true)
+      × ((layer : ℕ) → RestsOn layers target layer → getD (assembled t es target head .rows) layer 0 ≡ choice layer)
+  only choice a =
+      let here = orderly .closed-over .here in
+      let whole = orderly .closed-over .whole in
+      let small = target-below layers target closure here whole in
+      let w = followed t choice es _ agrees fits led in (
+        w .0,
+        λ layer r. w .1 .same layer (rests-below layers target closure here whole layer r)
+            (row-for-each layers target closure here whole t head inside (w .0) layer r),
+      )
+    where
+      small : target < 64
+      small = target-below layers target closure (orderly .closed-over .here) (orderly .closed-over .whole)
+
+      agrees : Agrees t choice (set (lib.ListN.replicate 64 (rowsIn t)) target head)
+      agrees = record { long = begin-long t target head small; same = λ layer h l. at layer h l (ℕ-discrete layer target) }
+        where
+          at : (layer : ℕ) → layer < 64 → getD (set (lib.ListN.replicate 64 (rowsIn t)) target head) layer 0 < rowsIn t → Dec (layer ≡ target)
+              → getD (set (lib.ListN.replicate 64 (rowsIn t)) target head) layer 0 ≡ choice layer
+          at layer h l (yes e) = rw e (begin-target t target head small ∙ sym (a .of-target))
+          at layer h l (no e) = absurd (let other = begin-other t target head small layer h e in omega arith)
+
+      fits : (i : ℕ) → i < length es → Fits t choice (getD es i 0)
+      fits i h =
+          let w = edge-names layers target closure (orderly .closed-over .here) (orderly .closed-over .whole) i h in
+          let lower = by (w .0) (w .1) in
+          record {
+            rising = rises layers target closure t orderly (lowerOf (getD es i 0))
+                (orderly .closed-over .whole .members (lowerOf (getD es i 0)) .1 lower);
+            row = a .row (lowerOf (getD es i 0)) lower;
+            own = a .of-layer (lowerOf (getD es i 0)) lower;
+            timed = a .paired (upperOf (getD es i 0)) (lowerOf (getD es i 0)) (w .0) (w .1);
+          }
+
+      led : (i : ℕ) → i < length es
+          → (getD (set (lib.ListN.replicate 64 (rowsIn t)) target head) (upperOf (getD es i 0)) 0 < rowsIn t)
+          ⊎ ((j : ℕ) × (j < i) × (lowerOf (getD es j 0) ≡ upperOf (getD es i 0)))
+      led i h =
+          go (led-before layers target closure (orderly .closed-over .here) (orderly .closed-over .whole) i (upperOf (getD es i 0)) (lowerOf (getD es i 0))
+          (record { inside = h; upper-is = refl; lower-is = refl }))
+        where
+          go : (upperOf (getD es i 0) ≡ target) ⊎ ((j : ℕ) × (j < i) × (lowerOf (getD es j 0) ≡ upperOf (getD es i 0)))
+              → (getD (set (lib.ListN.replicate 64 (rowsIn t)) target head) (upperOf (getD es i 0)) 0 < rowsIn t)
+              ⊎ ((j : ℕ) × (j < i) × (lowerOf (getD es j 0) ≡ upperOf (getD es i 0)))
+          go (inl e) =
+              inl (subst (λ (u : ℕ). getD (set (lib.ListN.replicate 64 (rowsIn t)) target head) u 0 < rowsIn t) (sym e)
+              (subst (λ (x : ℕ). x < rowsIn t) (sym (begin-target t target head small)) inside))
+          go (inr w) = inr w
+
+-- 15 exactly at the target rows with no assembly
+module _ (layers : Layers) (target closure : ℕ) (t : Table) (orderly : Orderly layers target closure t) (k : ℕ) (inside : k < rowsIn t) where
+  pub unpaired-means : unpaired t (frameOf layers closure target) k ≡ true → NoAssembly layers target t k
+  unpaired-means e =
+      let own = eqb-true (layerOf t k) target (both-left (eqb (layerOf t k) target) (not (assembled t (edgesOf layers closure) target k .complete)) e) in
+      record {
+        target-row = own;
+        none = λ choice a.
+            (let z = only layers target closure t orderly k inside own choice a .0 in
+            let f = not-true (assembled t (edgesOf layers closure) target k .complete)
+            (both-right (eqb (layerOf t k) target) (not (assembled t (edgesOf layers closure) target k .complete)) e) in
+            true≢false (sym z ∙ f));
+      }
+
+  pub means-unpaired : NoAssembly layers target t k → unpaired t (frameOf layers closure target) k ≡ true
+  means-unpaired n = go (assembled t (edgesOf layers closure) target k .complete) refl
+    where
+      go : (b : Bool) → assembled t (edgesOf layers closure) target k .complete ≡ b → unpaired t (frameOf layers closure target) k ≡ true
+      go true e = absurd (n .none _ (found layers target closure t orderly k inside (n .target-row) e))
+      go false e = ap₂ (λ (a b : Bool). a && not b) (eq-eqb (layerOf t k) target (n .target-row)) e
