@@ -1,6 +1,6 @@
 -- THE WRITER'S OWN SHAPE of a loop: reserved bits 1 and no other descriptor. What stands in a loop of that shape, piece by piece.
 -- Assumes nothing.
-use Prim.Native.Nat.{ℕ, zero, suc, _+_, _≤_, _<_}
+use Prim.Native.Nat.{ℕ, _≤_}
 use mathlib.Core.Path.{_≡_}
 use mathlib.Core.Bool.{true}
 use mathlib.Core.List.{List, [], _∷_}

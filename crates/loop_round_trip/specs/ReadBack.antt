@@ -1,23 +1,21 @@
 -- WHAT READING SEES OF WHAT WAS WRITTEN, under the 2015 reading, entry by entry.
 -- Assumes nothing.
-use Prim.Native.Nat.{ℕ, _+_, _≤_, _<_}
+use Prim.Native.Nat.{ℕ, _+_}
 use mathlib.Core.Path.{_≡_, refl, sym, _∙_, ap, ap₂, subst}
-use mathlib.Core.Bool.{Bool, true, false, cond, _&&_}
+use mathlib.Core.Bool.{Bool, true, false, cond}
 use mathlib.Core.List.{List, [], _∷_, _++_, map, append-nil, append-assoc}
 use native.Mathlib.Omega.{arith}
 use borrow.Author.Tests.{lt-ltb, eq-eqb}
-use lib.Dec.{eqb, ltb}
-use lib.ListN.{length, getD, take, drop, length-append}
+use lib.Dec.{eqb}
+use lib.ListN.{length, getD, take}
 use lib.Seq.{length-take-le}
 use Rattle.combinators.specs.Bools.{neither-left, neither-right}
 use Rattle.combinators.specs.Lists.{Nth, here, there, any, gather}
 use Rattle.combinators.specs.Padding.{padTo}
 use Rattle.framing.specs.Pieces.{Item, whole, cut, Cuts, nothing-left, piece, cuts-unique}
-use Rattle.syntax.specs.Table.{Table, readTable, writeTable, Fit, Sound}
+use Rattle.syntax.specs.Table.{readTable, writeTable, Fit, Sound}
 use Rattle.syntax.specs.Laws.{read-before, read-write, length-written}
-use Rattle.syntax.specs.Equations.{bounds}
 use Rattle.vocabulary.specs.declared.LayerIndex.{LayerIndex}
-use Rattle.vocabulary.specs.declared.stream_types.Reading.{Reading}
 use Rattle.vocabulary.specs.declared.stream_types.Reading.the-variants.{Edition2015}
 use Rattle.vocabulary.specs.StreamTypes.{known}
 use Rattle.descriptors.specs.declared.records.HierarchyRecord.{HierarchyRecord}
@@ -26,15 +24,15 @@ use Rattle.descriptors.specs.declared.records.Record.{Record}
 use Rattle.descriptors.specs.declared.records.Record.the-variants.{NoRecord, Hierarchy, Extension}
 use Rattle.descriptors.specs.declared.looking.Seen.{Seen}
 use Rattle.descriptors.specs.Tables.{descriptorHead, hierarchyDescriptor, extensionHead, embeddedLayer}
-use Rattle.descriptors.specs.Records.{noLayer, hierarchyFrom, hierarchyOf, extensionFrom, extensionOf, layersOf, embeddedOf}
-use Rattle.descriptors.specs.Looking.{Kind, hierarchy, extension, payloadKind, extensionKind, descriptorTag, descriptorLength, kindOf, kindsOf, seenOfKinds, seenOf, nothingSeen}
+use Rattle.descriptors.specs.Records.{noLayer, hierarchyFrom, hierarchyOf, extensionFrom, extensionOf, layersOf}
+use Rattle.descriptors.specs.Looking.{Kind, hierarchy, extension, payloadKind, extensionKind, descriptorLength, kindOf, kindsOf, seenOfKinds, seenOf}
 use Rattle.es_loop.specs.declared.entries.Entry.{Entry}
 use Rattle.es_loop.specs.declared.entries.Stream.{Stream}
 use Rattle.es_loop.specs.Entries.{entryHead, esInfoLength, seenIn, streamOf, streamsOf}
 use Rattle.es_loop.specs.Meant.{by-head}
-use Rattle.loop_writer.specs.Layout.{Filled, filled, bytesIn, tooWideIn, bitOf, hierarchyFields, extensionFields, layerTable, recordTables, infoBytes, entryBytes, loopBytes, tooWide}
+use Rattle.loop_writer.specs.Layout.{filled, bytesIn, tooWideIn, bitOf, hierarchyFields, extensionFields, layerTable, recordTables, infoBytes, loopBytes, tooWide}
 use Rattle.loop_writer.specs.Writing.{streamFor}
-use Rattle.loop_writer.specs.Sizes.{fit-in, fit-first, fit-others, hierarchy-fit, extension-fit, layers-fit, count-small, listed, head-fit, record-fit, length-layers, info-short}
+use Rattle.loop_writer.specs.Sizes.{fit-first, fit-others, hierarchy-fit, extension-fit, layers-fit, count-small, head-fit, record-fit, length-layers}
 use Rattle.loop_writer.specs.Bytes.{extension-bytes}
 
 -- THE ENTRIES READ. The layers that a record lists, and blanks after them: what stands beyond the count in the array is not written.

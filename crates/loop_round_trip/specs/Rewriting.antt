@@ -2,39 +2,37 @@
 -- Assumes nothing.
 use Prim.Native.Nat.{ℕ, zero, suc, _+_, _-_, _*_, _/_, _%_, _^_, _≤_, _<_}
 use mathlib.Core.Path.{_≡_, refl, sym, _∙_, ap, ap₂, subst}
-use mathlib.Core.Bool.{Bool, true, false, cond, not, _&&_, _||_, and-false, and-true}
+use mathlib.Core.Bool.{Bool, true, false, cond, not, _&&_, _||_, and-false}
 use mathlib.Core.List.{List, [], _∷_, _++_, map, append-nil, append-assoc}
 use native.Mathlib.Omega.{arith}
 use native.Mathlib.Nat.{not-suc-le-zero}
-use native.Mathlib.Decide.{decLt, ℕ-discrete}
-use borrow.Author.Tests.{lt-ltb, le-ltb, eq-eqb, ne-eqb, eqb-true, ltb-false, ltb-true}
+use native.Mathlib.Decide.{decLt}
+use borrow.Author.Tests.{lt-ltb, le-ltb, eq-eqb, eqb-true, ltb-false}
 use lib.Dec.{eqb, ltb}
 use lib.ListN.{length, getD, take, drop, replicate, length-append, length-map, length-drop, take-append-drop, List·getD-eq-default}
-use lib.Seq.{take-at, take-all, take-append-seam, length-take-le}
-use Rattle.combinators.specs.Bools.{both-left, both-right, either-left, either-right, neither-left, neither-right}
+use lib.Seq.{take-at, take-all}
+use Rattle.combinators.specs.Bools.{both-left, neither-left, neither-right}
 use Rattle.combinators.specs.Lists.{Nth, here, there, nth-inside, getD-nth, getD-map, any, gather}
 use Rattle.combinators.specs.Lowest.{lowestNumber, earliestPlace, lowest-is}
 use Rattle.combinators.specs.Padding.{padTo, length-padTo}
 use Rattle.framing.specs.Pieces.{Item, whole, broken, cut, Cuts, nothing-left, does-not-fit, piece, cut-cuts}
-use Rattle.syntax.specs.Table.{Table, AreBytes, number, bytes, readTable, writeTable, fixedHold, reservedOnes, Fit, Sound}
-use Rattle.syntax.specs.Laws.{write-read, read-fits, fit-fits, length-written}
+use Rattle.syntax.specs.Table.{Table, AreBytes, number, bytes, readTable, writeTable, fixedHold, Sound}
+use Rattle.syntax.specs.Laws.{write-read, read-fits, fit-fits}
 use Rattle.syntax.specs.Number.{drop-bytes}
 use Rattle.syntax.specs.Equations.{bounds}
 use Rattle.vocabulary.specs.declared.LayerIndex.{LayerIndex}
 use Rattle.vocabulary.specs.declared.stream_types.Reading.the-variants.{Edition2015}
 use Rattle.vocabulary.specs.StreamTypes.{known}
-use Rattle.descriptors.specs.declared.records.HierarchyRecord.{HierarchyRecord}
-use Rattle.descriptors.specs.declared.records.ExtensionRecord.{ExtensionRecord}
 use Rattle.descriptors.specs.declared.records.Record.{Record}
-use Rattle.descriptors.specs.declared.records.Record.the-variants.{NoRecord, Hierarchy, Extension}
+use Rattle.descriptors.specs.declared.records.Record.the-variants.{Hierarchy, Extension}
 use Rattle.descriptors.specs.Tables.{descriptorHead, hierarchyDescriptor, extensionHead, embeddedLayer}
 use Rattle.descriptors.specs.Records.{noLayer, hierarchyFrom, hierarchyOf, extensionFrom, extensionOf, layerIndexOf, layersOf, embeddedOf}
-use Rattle.descriptors.specs.Looking.{Kind, does-not-fit as unfit, skipped, wrong-length, hierarchy, extension, extensionKind, payloadKind, descriptorTag, descriptorLength, kindOf, Held, heldIn, isWrongLength, firstRecord, firstLayers, seenOf, nothingSeen}
+use Rattle.descriptors.specs.Looking.{Kind, skipped, wrong-length, hierarchy, extension, payloadKind, descriptorTag, descriptorLength, kindOf, Held, heldIn, isWrongLength, firstRecord, firstLayers, seenOf, nothingSeen}
 use Rattle.judging.specs.Judging.{isLayer}
 use Rattle.descriptors.specs.declared.looking.Seen.{Seen}
 use Rattle.vocabulary.specs.declared.refusal.Refusal.{Refusal}
 use Rattle.vocabulary.specs.declared.refusal.Refusal.the-variants.{LoopTooLong}
-use Rattle.vocabulary.specs.Refusals.{numberOf, placeOf}
+use Rattle.vocabulary.specs.Refusals.{placeOf}
 use Rattle.es_loop.specs.declared.entries.Entry.{Entry}
 use Rattle.es_loop.specs.declared.entries.Stream.{Stream}
 use Rattle.es_loop.specs.declared.reader.Outcome.the-variants.{Accepted}
@@ -43,7 +41,7 @@ use Rattle.es_loop.specs.Conditions.{streamAt, applies, refusalOf}
 use Rattle.es_loop.specs.Reading.{refusedWith, accepted, loopRead}
 use Rattle.es_loop.specs.Entries.{entryHead, streamType, elementaryPid, esInfoLength, seenIn, streamOf, streamsOf, noStream, entryOf, blankEntry}
 use Rattle.es_loop.specs.Meant.{by-head}
-use Rattle.loop_writer.specs.Layout.{Filled, filled, bytesIn, tooWideIn, bitOf, hierarchyFields, extensionFields, layerTable, recordTables, infoBytes, entryBytes, loopBytes, tooWide}
+use Rattle.loop_writer.specs.Layout.{filled, bytesIn, tooWideIn, bitOf, hierarchyFields, extensionFields, layerTable, recordTables, infoBytes, entryBytes, loopBytes, tooWide}
 use Rattle.loop_writer.specs.declared.Written.{Written}
 use Rattle.loop_writer.specs.declared.Written.the-variants.{Bytes, Refused}
 use Rattle.loop_writer.specs.Writing.{onUnknownType, answer}

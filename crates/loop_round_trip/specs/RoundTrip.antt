@@ -24,7 +24,6 @@ use Rattle.vocabulary.specs.Refusals.{numberOf, placeOf}
 use Rattle.es_loop.specs.declared.entries.Entry.{Entry}
 use Rattle.es_loop.specs.declared.entries.Stream.{Stream}
 use Rattle.es_loop.specs.declared.reader.Outcome.the-variants.{Accepted}
-use Rattle.es_loop.specs.declared.reader.LoopRead.{LoopRead}
 use Rattle.es_loop.specs.Entries.{blankEntry, entryOf, streamsOf}
 use Rattle.es_loop.specs.Conditions.{applies, refusalOf}
 use Rattle.es_loop.specs.Reading.{refusedWith, accepted, judged, loopRead}
@@ -32,7 +31,7 @@ use Rattle.es_loop.specs.Judged.{judged-refused, judged-accepted}
 use Rattle.loop_writer.specs.declared.Written.{Written}
 use Rattle.loop_writer.specs.declared.Written.the-variants.{Bytes, Refused}
 use Rattle.loop_writer.specs.Layout.{loopBytes, tooWide}
-use Rattle.loop_writer.specs.Writing.{streamFor, onUnknownType, appliesTo, inRoom, judgedIn, answer, contentAfter, content}
+use Rattle.loop_writer.specs.Writing.{streamFor, onUnknownType, appliesTo, answer, contentAfter, content}
 use Rattle.loop_round_trip.specs.ReadBack.{normal, readAs, Typed, read-written}
 use Rattle.loop_round_trip.specs.Verdicts.{NotBySix, read-normal, same-lowest, none-unknown}
 

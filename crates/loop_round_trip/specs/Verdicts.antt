@@ -3,17 +3,16 @@
 -- the 2015 reading does not know.
 -- Assumes nothing.
 use Prim.Native.Nat.{ℕ, _-_, _≤_, _<_}
-use mathlib.Core.Path.{_≡_, refl, sym, _∙_, ap, ap₂, subst}
-use mathlib.Core.Bool.{Bool, true, false, cond, not, _&&_, _||_, and-true, or-false}
-use mathlib.Core.List.{List, [], _∷_, map}
+use mathlib.Core.Path.{_≡_, refl, sym, _∙_, ap, ap₂}
+use mathlib.Core.Bool.{Bool, true, false, _&&_, and-true, or-false}
+use mathlib.Core.List.{List, map}
 use native.Mathlib.Omega.{arith}
-use native.Mathlib.Decide.{decLt}
 use borrow.Author.Tests.{eqb-true}
 use lib.Dec.{eqb}
-use lib.ListN.{length, getD, take, replicate, length-map}
+use lib.ListN.{length, getD, take, replicate}
 use lib.Seq.{length-take-le, take-at}
-use Rattle.combinators.specs.Below.{some, some-at, some-which, some-same}
-use Rattle.combinators.specs.Bools.{both-left, both-right, neither-left, neither-right, either-left}
+use Rattle.combinators.specs.Below.{some-at, some-which, some-same}
+use Rattle.combinators.specs.Bools.{both-left, both-right, neither-left, neither-right}
 use Rattle.combinators.specs.Lists.{Nth, getD-nth, nth-map, getD-map, any, any-false, handled}
 use Rattle.combinators.specs.Lowest.{Lowest}
 use Rattle.combinators.specs.Padding.{padTo}
@@ -23,7 +22,7 @@ use Rattle.vocabulary.specs.StreamTypes.{known}
 use Rattle.descriptors.specs.declared.records.Record.{Record}
 use Rattle.descriptors.specs.declared.records.Record.the-variants.{NoRecord, Hierarchy, Extension}
 use Rattle.descriptors.specs.Records.{noLayer}
-use Rattle.judging.specs.Judging.{isLayer, indexOf, sameIndex, plain, listed, named, typeNotAllowed, wrongFlags, wrongList, wrongEmbedded, tooManyEmbedded}
+use Rattle.judging.specs.Judging.{isLayer, indexOf, sameIndex, plain, typeNotAllowed, wrongFlags, wrongList, wrongEmbedded, tooManyEmbedded}
 use Rattle.es_loop.specs.declared.entries.Entry.{Entry}
 use Rattle.es_loop.specs.declared.entries.Stream.{Stream}
 use Rattle.es_loop.specs.Entries.{noStream, blankEntry}

@@ -1,8 +1,8 @@
 -- The answer of writing a loop and the buffer's content, from what the tests on the way say.
 -- Assumes nothing.
 use Prim.Native.Nat.{ℕ, _+_, _≤_, _<_, min}
-use mathlib.Core.Path.{_≡_, refl, sym, _∙_, ap}
-use mathlib.Core.Bool.{Bool, true, false, cond, _||_}
+use mathlib.Core.Path.{_≡_, sym, _∙_, ap}
+use mathlib.Core.Bool.{true, false, cond, _||_}
 use mathlib.Core.List.{List, _++_}
 use native.Mathlib.Omega.{arith}
 use native.Mathlib.Nat.{zero-add}
@@ -23,7 +23,7 @@ use Rattle.es_loop.specs.Conditions.{refusalOf}
 use Rattle.loop_writer.specs.declared.Written.{Written}
 use Rattle.loop_writer.specs.declared.Written.the-variants.{Bytes, Refused}
 use Rattle.loop_writer.specs.Layout.{loopBytes, tooWide}
-use Rattle.loop_writer.specs.Writing.{appliesTo, inRoom, judgedIn, answer, contentAfter, content}
+use Rattle.loop_writer.specs.Writing.{appliesTo, inRoom, answer, contentAfter, content}
 
 -- a count beyond the array takes all of it
 pub within-array : (array : List Entry) (count given : ℕ) → length array ≡ 201 → given ≡ min count 201 → take given array ≡ take count array

@@ -1,8 +1,8 @@
 -- Pieces laid into a buffer one after another, each made of an element of a list.
 -- Assumes nothing.
-use Prim.Native.Nat.{ℕ, _+_, _≤_, _<_}
-use mathlib.Core.Path.{_≡_, refl, sym, _∙_, ap}
-use mathlib.Core.List.{List, [], _∷_, _++_}
+use Prim.Native.Nat.{ℕ, _+_, _<_}
+use mathlib.Core.Path.{_≡_, sym, ap}
+use mathlib.Core.List.{List, []}
 use lib.ListN.{length, getD, take}
 use Rattle.combinators.specs.Lists.{gather, gather-next}
 use Rattle.text.specs.Text.{Laid}

@@ -1,7 +1,7 @@
 -- One turn of the walk over the entries to be written: what is known after some of them, and what another adds.
 -- Assumes nothing.
-use Prim.Native.Nat.{ℕ, _+_, _≤_, _<_}
-use mathlib.Core.Path.{_≡_, refl, sym, _∙_, ap, subst}
+use Prim.Native.Nat.{ℕ, _+_, _<_}
+use mathlib.Core.Path.{_≡_, sym, _∙_, ap, subst}
 use mathlib.Core.Bool.{Bool, true, false, _&&_}
 use mathlib.Core.List.{List, [], map}
 use native.Mathlib.Omega.{arith}
@@ -18,7 +18,7 @@ use Rattle.es_loop.specs.declared.entries.Entry.{Entry}
 use Rattle.es_loop.specs.declared.entries.Stream.{Stream}
 use Rattle.es_loop.specs.declared.faults.Fault.{Fault}
 use Rattle.es_loop.specs.Entries.{noStream, blankEntry}
-use Rattle.es_loop.specs.Conditions.{streamAt, pidAt, recordAt, repeatedPid, repeatedIndex, conditions, applies, slotOf, lowerOf}
+use Rattle.es_loop.specs.Conditions.{streamAt, pidAt, recordAt, conditions, applies, slotOf, lowerOf}
 use Rattle.es_loop.specs.Marked.{marked-tests}
 use Rattle.loop_writer.specs.Writing.{streamFor, onUnknownType, appliesTo}
 use Rattle.loop_writer.specs.Judged.{alsoSix, withSix, also-six}

@@ -1,8 +1,8 @@
 -- When a record and an entry are too wide, from the tests that the code makes.
 -- Assumes nothing.
-use Prim.Native.Nat.{ℕ, _+_, _≤_, _<_}
-use mathlib.Core.Path.{_≡_, refl, sym, _∙_, ap}
-use mathlib.Core.Bool.{Bool, true, false, not, _&&_, _||_, and-true, and-false, or-true, or-false}
+use Prim.Native.Nat.{_+_, _≤_, _<_}
+use mathlib.Core.Path.{_≡_, refl, sym}
+use mathlib.Core.Bool.{Bool, true, false, not, and-false, or-true, or-false}
 use mathlib.Core.List.{List, [], _∷_, map}
 use native.Mathlib.Omega.{arith}
 use borrow.Author.Tests.{lt-ltb, le-ltb}
@@ -16,9 +16,8 @@ use Rattle.vocabulary.specs.declared.LayerIndex.{LayerIndex}
 use Rattle.vocabulary.specs.declared.stream_types.Reading.the-variants.{Edition2015}
 use Rattle.descriptors.specs.declared.records.HierarchyRecord.{HierarchyRecord}
 use Rattle.descriptors.specs.declared.records.ExtensionRecord.{ExtensionRecord}
-use Rattle.descriptors.specs.declared.records.Record.{Record}
-use Rattle.descriptors.specs.declared.records.Record.the-variants.{NoRecord, Hierarchy, Extension}
-use Rattle.descriptors.specs.Tables.{descriptorHead, hierarchyDescriptor, extensionHead, embeddedLayer}
+use Rattle.descriptors.specs.declared.records.Record.the-variants.{Hierarchy, Extension}
+use Rattle.descriptors.specs.Tables.{descriptorHead, hierarchyDescriptor, extensionHead}
 use Rattle.es_loop.specs.declared.entries.Entry.{Entry}
 use Rattle.es_loop.specs.Entries.{entryHead}
 use Rattle.loop_writer.specs.Layout.{Filled, filled, tooWideIn, bitOf, hierarchyFields, extensionFields, layerTable, recordTables, infoBytes, tooWide}

@@ -1,8 +1,8 @@
 -- The bytes of each table, given values that fit it: by quotients and remainders, with the reserved bits 1.
 -- Assumes nothing.
 use Prim.Native.Nat.{ℕ, _+_, _*_, _/_, _%_, _<_}
-use mathlib.Core.Path.{_≡_, sym}
-use mathlib.Core.List.{List, [], _∷_}
+use mathlib.Core.Path.{_≡_}
+use mathlib.Core.List.{[], _∷_}
 use native.Mathlib.Omega.{arith}
 use Rattle.syntax.specs.Table.{writeTable, Fit}
 use Rattle.syntax.specs.Equations.{each, bounds}

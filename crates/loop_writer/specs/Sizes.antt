@@ -1,17 +1,17 @@
 -- How many bytes an entry takes.
 -- Assumes nothing.
 use Prim.Native.Nat.{ℕ, _+_, _≤_, _<_}
-use mathlib.Core.Path.{_≡_, refl, sym, _∙_, ap}
-use mathlib.Core.Bool.{Bool, false}
-use mathlib.Core.List.{List, [], _∷_, _++_, map}
+use mathlib.Core.Path.{_≡_, refl, _∙_}
+use mathlib.Core.Bool.{false}
+use mathlib.Core.List.{List, [], _∷_, map}
 use native.Mathlib.Omega.{arith}
 use borrow.Author.Tests.{not-false}
 use lib.ListN.{length, take, length-append, length-take}
 use lib.Seq.{length-take-le}
 use Rattle.combinators.specs.Bools.{neither-left, neither-right}
 use Rattle.combinators.specs.Lists.{any, gather}
-use Rattle.syntax.specs.Table.{Table, Fit, fits, writeTable}
-use Rattle.syntax.specs.Laws.{fits-fit, length-written}
+use Rattle.syntax.specs.Table.{Fit, fits}
+use Rattle.syntax.specs.Laws.{fits-fit}
 use Rattle.syntax.specs.Equations.{bounds}
 use Rattle.vocabulary.specs.declared.LayerIndex.{LayerIndex}
 use Rattle.vocabulary.specs.declared.stream_types.Reading.the-variants.{Edition2015}
@@ -19,10 +19,10 @@ use Rattle.descriptors.specs.declared.records.HierarchyRecord.{HierarchyRecord}
 use Rattle.descriptors.specs.declared.records.ExtensionRecord.{ExtensionRecord}
 use Rattle.descriptors.specs.declared.records.Record.{Record}
 use Rattle.descriptors.specs.declared.records.Record.the-variants.{NoRecord, Hierarchy, Extension}
-use Rattle.descriptors.specs.Tables.{descriptorHead, hierarchyDescriptor, extensionHead, embeddedLayer}
+use Rattle.descriptors.specs.Tables.{descriptorHead, hierarchyDescriptor, extensionHead}
 use Rattle.es_loop.specs.declared.entries.Entry.{Entry}
 use Rattle.es_loop.specs.Entries.{entryHead}
-use Rattle.loop_writer.specs.Layout.{Filled, filled, bytesIn, tooWideIn, hierarchyFields, extensionFields, layerTable, recordTables, infoBytes, entryTables, entryBytes, tooWide}
+use Rattle.loop_writer.specs.Layout.{Filled, filled, bytesIn, tooWideIn, hierarchyFields, extensionFields, layerTable, recordTables, infoBytes, tooWide}
 
 -- A TABLE WHOSE VALUES ARE NOT TOO WIDE holds them; the first of several, and the others.
 pub fit-in : (f : Filled) → tooWideIn f ≡ false → Fit (f .table) (f .values)

@@ -1,13 +1,12 @@
 // Refusal 25: a value that is too wide for its field.
 ghost use mathlib.Core.Path.{_≡_};
-ghost use mathlib.Core.Bool.{not};
 ghost use mathlib.Core.List.{map};
 ghost use Prim.Native.Nat.{_≤_};
 ghost use lib.ListN.{take};
 ghost use Rattle.combinators.specs.Lists.{any};
 ghost use Rattle.syntax.specs.Table.{fits};
 ghost use Rattle.vocabulary.specs.declared.stream_types.Reading.the-variants.{Edition2015};
-ghost use Rattle.descriptors.specs.Tables.{hierarchyDescriptor, extensionHead, embeddedLayer};
+ghost use Rattle.descriptors.specs.Tables.{hierarchyDescriptor, extensionHead};
 ghost use Rattle.loop_writer.specs.Layout.{tooWideIn, hierarchyFields, extensionFields, layerTable, recordTables, tooWide};
 use descriptors::ExtensionRecord;
 use descriptors::HierarchyRecord;

@@ -1,7 +1,7 @@
 -- `loop_writer::write_loop` meets its contract: each return follows from the tests on the way to it (Answers).
 -- Assumes nothing.
 use mathlib.Core.Path.{_≡_, sym, _∙_, ap, subst}
-use mathlib.Core.Bool.{true, false}
+use mathlib.Core.Bool.{false}
 use mathlib.Core.List.{List}
 use Prim.Native.Nat.{ℕ}
 use Rattle.vocabulary.specs.declared.refusal.Refusal.{Refusal}

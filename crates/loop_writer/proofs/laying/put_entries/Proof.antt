@@ -1,9 +1,8 @@
 -- `laying::put_entries` meets its contract. The invariant: the entries passed are laid in, after the empty text at the start.
 -- Assumes nothing.
 use Rattle.text.specs.Text.{Laid}
-use Rattle.text.specs.Laws.{laid-as, laid-length}
+use Rattle.text.specs.Laws.{laid-length}
 use Prim.Native.Nat.{_-_, _≤_}
-use mathlib.Core.Path.{_≡_, sym, _∙_, ap}
 use native.Mathlib.Omega.{arith}
 use lib.ListN.{take}
 use Rattle.loop_writer.proofs.Pieces.{pieces-start, pieces-next, pieces-end}

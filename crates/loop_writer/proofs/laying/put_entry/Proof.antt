@@ -1,8 +1,8 @@
 -- `laying::put_entry` meets its contract: the head, with the size of the descriptor in it, and the descriptor.
 -- Assumes nothing.
-use Rattle.text.specs.Laws.{laid-then, laid-as, laid-length}
+use Rattle.text.specs.Laws.{laid-then, laid-as}
 use Prim.Native.Nat.{ℕ}
-use mathlib.Core.Path.{_≡_, sym, _∙_, ap}
+use mathlib.Core.Path.{_∙_, ap}
 use mathlib.Core.List.{[], _∷_}
 use native.Mathlib.Omega.{arith}
 use Rattle.syntax.specs.Table.{writeTable}

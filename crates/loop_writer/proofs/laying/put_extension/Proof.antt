@@ -1,6 +1,6 @@
 -- `laying::put_extension` meets its contract: the head, the table and the list, one after the other.
 -- Assumes nothing.
-use Rattle.text.specs.Laws.{laid-then, laid-as, laid-length}
+use Rattle.text.specs.Laws.{laid-then, laid-as}
 use native.Mathlib.Omega.{arith}
 use Rattle.loop_writer.specs.Sizes.{extension-fit, layers-fit, count-small}
 use borrow.Author.Needs.{needs}

@@ -1,6 +1,6 @@
 -- `laying::put_hierarchy` meets its contract: the head and the table, one after the other.
 -- Assumes nothing.
-use Rattle.text.specs.Laws.{laid-then, laid-as, laid-length}
+use Rattle.text.specs.Laws.{laid-then, laid-as}
 use mathlib.Core.List.{[]}
 use Rattle.loop_writer.specs.Sizes.{hierarchy-fit}
 use borrow.Author.Needs.{needs}

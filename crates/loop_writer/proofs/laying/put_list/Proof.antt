@@ -3,11 +3,10 @@
 use Rattle.text.specs.Text.{Laid}
 use Rattle.text.specs.Laws.{laid-as, laid-length}
 use Prim.Native.Nat.{_-_, _≤_}
-use mathlib.Core.Path.{_≡_, sym, _∙_, ap}
+use mathlib.Core.Path.{sym, _∙_}
 use native.Mathlib.Omega.{arith}
 use lib.ListN.{take}
 use Rattle.loop_writer.proofs.Pieces.{pieces-start, pieces-next, pieces-end}
-use mathlib.Core.List.{map}
 use Rattle.combinators.specs.Lists.{gather, gather-map, any-map, any-none}
 use Rattle.loop_writer.specs.Layout.{bytesIn, tooWideIn, layerTable}
 use Rattle.loop_writer.specs.Sizes.{fit-in}

@@ -1,9 +1,7 @@
 -- `laying::put_record` meets its contract: which arm was taken says which record it is.
 -- Assumes nothing.
-use Rattle.text.specs.Laws.{laid-then, laid-as, laid-length}
-use mathlib.Core.Path.{_≡_, sym, _∙_, ap}
-use mathlib.Core.Bool.{false}
-use mathlib.Core.List.{[]}
+use Rattle.text.specs.Laws.{laid-as}
+use mathlib.Core.Path.{sym, _∙_, ap}
 use Rattle.combinators.specs.Lists.{any, gather}
 use Rattle.descriptors.specs.declared.records.Record.{Record}
 use Rattle.loop_writer.specs.Layout.{bytesIn, tooWideIn, recordTables}

@@ -1,7 +1,5 @@
 -- `sizes::entry_size` meets its contract: the size of a record, and five bytes before it.
 -- Assumes nothing.
-use mathlib.Core.Path.{_≡_}
-use native.Mathlib.Omega.{arith}
 use Rattle.loop_writer.specs.Sizes.{record-fit}
 use borrow.Author.Needs.{needs}
 use Rattle.loop_writer.proofs.sizes.entry_size.Statement.{statement}

@@ -2,7 +2,6 @@
 -- Assumes nothing.
 use native.Mathlib.Omega.{arith}
 use Rattle.loop_writer.specs.Bytes.{descriptor-head-bytes}
-use borrow.Author.Needs.{needs}
 use Rattle.loop_writer.proofs.tables.descriptor_head.Statement.{statement}
 use Rattle.loop_writer.proofs.tables.descriptor_head.Tie as tie
 

@@ -3,7 +3,6 @@
 use native.Mathlib.Omega.{arith}
 use Rattle.syntax.specs.Equations.{bounds}
 use Rattle.loop_writer.specs.Bytes.{layer-byte}
-use borrow.Author.Needs.{needs}
 use Rattle.loop_writer.proofs.tables.embedded_layer.Statement.{statement}
 use Rattle.loop_writer.proofs.tables.embedded_layer.Tie as tie
 

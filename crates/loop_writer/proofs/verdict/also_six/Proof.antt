@@ -1,6 +1,5 @@
 -- `verdict::also_six` meets its contract: the branch is the definition's own test.
 -- Assumes nothing.
-use borrow.Author.Needs.{needs}
 use Rattle.loop_writer.proofs.verdict.also_six.Statement.{statement}
 use Rattle.loop_writer.proofs.verdict.also_six.Tie as tie
 

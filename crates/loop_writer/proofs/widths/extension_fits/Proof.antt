@@ -1,12 +1,10 @@
 -- `widths::extension_fits` meets its contract: the flag and the 16 bits always fit, and each other value is tested.
 -- Assumes nothing.
-use mathlib.Core.Path.{_≡_, refl, sym, _∙_, ap, subst}
 use Prim.Native.Nat.{_<_}
 use mathlib.Core.Bool.{and-true, and-assoc}
 use native.Mathlib.Omega.{arith}
 use borrow.Author.Tests.{lt-ltb}
 use Rattle.loop_writer.proofs.Wide.{bit-fits}
-use borrow.Author.Needs.{needs}
 use Rattle.loop_writer.proofs.widths.extension_fits.Statement.{statement}
 use Rattle.loop_writer.proofs.widths.extension_fits.Tie as tie
 

@@ -1,9 +1,7 @@
 -- `widths::hierarchy_fits` meets its contract: a flag always fits, and each other value is tested.
 -- Assumes nothing.
-use mathlib.Core.Path.{_≡_, refl, sym, _∙_, ap, subst}
 use mathlib.Core.Bool.{and-true, and-assoc}
 use Rattle.loop_writer.proofs.Wide.{bit-fits}
-use borrow.Author.Needs.{needs}
 use Rattle.loop_writer.proofs.widths.hierarchy_fits.Statement.{statement}
 use Rattle.loop_writer.proofs.widths.hierarchy_fits.Tie as tie
 

@@ -1,8 +1,6 @@
 -- `widths::layer_too_wide` meets its contract: the one value of its table is below 64 or not.
 -- Assumes nothing.
-use mathlib.Core.Path.{_≡_, refl, sym, _∙_, ap, subst}
 use mathlib.Core.Bool.{and-true}
-use borrow.Author.Needs.{needs}
 use Rattle.loop_writer.proofs.widths.layer_too_wide.Statement.{statement}
 use Rattle.loop_writer.proofs.widths.layer_too_wide.Tie as tie
 

@@ -4,7 +4,7 @@ use Prim.Native.Nat.{_-_, _≤_}
 use mathlib.Core.Bool.{false, _||_}
 use mathlib.Core.Path.{_≡_, refl, sym, _∙_, ap₂}
 use native.Mathlib.Omega.{arith}
-use lib.ListN.{length, take}
+use lib.ListN.{take}
 use Rattle.combinators.specs.Lists.{any, any-next, any-found}
 use Rattle.loop_writer.specs.Layout.{tooWide}
 use borrow.Author.Needs.{needs}
