@@ -1,0 +1,143 @@
+-- The calls that write bytes into a buffer, and their promises.
+-- Assumes nothing.
+use Prim.Native.Nat.{ℕ}
+use mathlib.Core.Bool.{true}
+use mathlib.Core.List.{List, [], _∷_}
+use mathlib.Core.Option.{Option, none, some}
+use mathlib.Core.Path.{_≡_, refl, sym, _∙_, ap}
+use lib.ListN.{length, take}
+use Rattle.vocabulary.specs.declared.refusal.Refusal.{Refusal}
+use Rattle.es_loop.specs.declared.entries.Entry.{Entry}
+use Rattle.loop_writer.specs.declared.Written.{Written}
+use Rattle.loop_writer.specs.declared.Written.the-variants as Written
+use Rattle.loop_writer.specs.Layout.{loopBytes}
+use Rattle.loop_writer.specs.Writing.{answer, contentAfter, content}
+use Rattle.loop_writer.specs.Meaning as Loop
+use Rattle.loop_writer.specs.Meant as loop
+use Rattle.pes.specs.declared.writer.Written.{Written as TimesWritten}
+use Rattle.pes.specs.declared.writer.Written.the-variants as TimesWritten
+use Rattle.pes.specs.Writing.{headerOf, writeOf, bufferOf}
+use Rattle.pes.specs.OwnShape as Times
+use Rattle.pes.specs.OwnShapeLaws as times
+use Rattle.demands.specs.Calls.{Call, isListed, Promised, not-refused}
+
+-- ---- `loop_writer::write_loop`: 'The loop writer .. uses 1, 3, 6 to 10 .., 17, 25'
+
+pub record EntriesGiven : Type 0 where
+  pub count : ℕ
+  pub array : List Entry
+  pub out : List ℕ
+
+abbrev pub writtenRefusal : Written → Option Refusal
+writtenRefusal (Written.Bytes n) = none
+writtenRefusal (Written.Refused refusal) = some refusal
+
+-- the answer, and with it the bytes at the front of the buffer and beyond them what it held; or all that it held
+pub record WritesLoop (given : EntriesGiven) (written : Written) (after : List ℕ) : Type 0 where
+  pub answers : Loop.Answers (length (given .out)) (given .count) (given .array) written
+  pub holds : after ≡ contentAfter written (loopBytes (take (given .count) (given .array))) (given .out)
+
+abbrev pub writeLoop : Call
+writeLoop =
+    record {
+      Given = EntriesGiven;
+      Answer = Written;
+      Buffers = List ℕ;
+      answer = λ given. answer (length (given .out)) (given .count) (given .array);
+      before = λ given. given .out;
+      after = λ given. content (given .count) (given .array) (given .out);
+      refusalIn = writtenRefusal;
+      numbers = 1 ∷ 3 ∷ 6 ∷ 7 ∷ 8 ∷ 9 ∷ 10 ∷ 17 ∷ 25 ∷ [];
+      Means = WritesLoop;
+    }
+
+written-listed : {room count : ℕ} {array : List Entry} {written : Written} → Loop.Answers room count array written
+    → isListed (writeLoop .numbers) (writtenRefusal written) ≡ true
+written-listed (Loop.too-wide s) = refl
+written-listed (Loop.too-many a b) = refl
+written-listed (Loop.too-long a b) = refl
+written-listed (Loop.refuses a b c (Loop.pid-seen d e f g) lower earlier) = refl
+written-listed (Loop.refuses a b c (Loop.type-wrong d e) lower earlier) = refl
+written-listed (Loop.refuses a b c (Loop.type-unknown d e f) lower earlier) = refl
+written-listed (Loop.refuses a b c (Loop.flags-wrong d e) lower earlier) = refl
+written-listed (Loop.refuses a b c (Loop.index-held d e f g h i) lower earlier) = refl
+written-listed (Loop.refuses a b c (Loop.embedded-wrong d e) lower earlier) = refl
+written-listed (Loop.refuses a b c (Loop.embedded-many d e) lower earlier) = refl
+written-listed (Loop.no-room a b c d e) = refl
+written-listed (Loop.accepts a b c d e) = refl
+
+written-untouched : (written : Written) (bytes out : List ℕ) (refusal : Refusal) → writtenRefusal written ≡ some refusal
+    → contentAfter written bytes out ≡ out
+written-untouched (Written.Bytes n) bytes out refusal e = not-refused e
+written-untouched (Written.Refused r) bytes out refusal e = refl
+
+pub loop-written : Promised writeLoop
+loop-written =
+    record {
+      right = λ given. record { answers = loop.answer-meant (length (given .out)) (given .count) (given .array); holds = refl };
+      nothing-else = λ given means. only given means;
+      listed = λ given. written-listed (loop.answer-meant (length (given .out)) (given .count) (given .array));
+      untouched = λ given refusal e. written-untouched (answer (length (given .out)) (given .count) (given .array))
+          (loopBytes (take (given .count) (given .array))) (given .out) refusal e;
+    }
+  where
+    only : (given : EntriesGiven) {written : Written} {after : List ℕ} → WritesLoop given written after
+        → (written ≡ answer (length (given .out)) (given .count) (given .array)) × (after ≡ content (given .count) (given .array) (given .out))
+    only given means =
+        let same = loop.answer-only (length (given .out)) (given .count) (given .array) (means .answers) in
+        (same, means .holds ∙ ap (λ (w : Written). contentAfter w (loopBytes (take (given .count) (given .array))) (given .out)) same)
+
+-- ---- `pes::write`: 'its writer 24, 25, 17'
+
+pub record TimesGiven : Type 0 where
+  pub pts : ℕ
+  pub decoding : ℕ
+  pub matching : ℕ
+  pub out : List ℕ
+
+abbrev pub timesWrittenRefusal : TimesWritten → Option Refusal
+timesWrittenRefusal (TimesWritten.Bytes n) = none
+timesWrittenRefusal (TimesWritten.Refused refusal) = some refusal
+
+abbrev pub writeTimes : Call
+writeTimes =
+    record {
+      Given = TimesGiven;
+      Answer = TimesWritten;
+      Buffers = List ℕ;
+      answer = λ given. writeOf (given .pts) (given .decoding) (given .matching) (length (given .out));
+      before = λ given. given .out;
+      after = λ given. bufferOf (writeOf (given .pts) (given .decoding) (given .matching) (length (given .out)))
+          (headerOf (given .pts) (given .decoding) (given .matching)) (given .out);
+      refusalIn = timesWrittenRefusal;
+      numbers = 17 ∷ 24 ∷ 25 ∷ [];
+      Means = λ given answer after. Times.Writes (given .pts) (given .decoding) (given .matching) (given .out) answer after;
+    }
+
+times-written-listed : {pts decoding matching : ℕ} {out after : List ℕ} {answer : TimesWritten} → Times.Writes pts decoding matching out answer after
+    → isListed (writeTimes .numbers) (timesWrittenRefusal answer) ≡ true
+times-written-listed (Times.too-wide a) = refl
+times-written-listed (Times.no-room a b c) = refl
+times-written-listed (Times.pts-before-dts a b c d) = refl
+times-written-listed (Times.written a b c d) = refl
+
+times-untouched : (written : TimesWritten) (bytes out : List ℕ) (refusal : Refusal) → timesWrittenRefusal written ≡ some refusal
+    → bufferOf written bytes out ≡ out
+times-untouched (TimesWritten.Bytes n) bytes out refusal e = not-refused e
+times-untouched (TimesWritten.Refused r) bytes out refusal e = refl
+
+pub times-written : Promised writeTimes
+times-written =
+    record {
+      right = λ given. times.writes-is (given .pts) (given .decoding) (given .matching) (given .out);
+      nothing-else = λ given means. only given means;
+      listed = λ given. times-written-listed (times.writes-is (given .pts) (given .decoding) (given .matching) (given .out));
+      untouched = λ given refusal e. times-untouched (writeOf (given .pts) (given .decoding) (given .matching) (length (given .out)))
+          (headerOf (given .pts) (given .decoding) (given .matching)) (given .out) refusal e;
+    }
+  where
+    only : (given : TimesGiven) {written : TimesWritten} {after : List ℕ} → Times.Writes (given .pts) (given .decoding) (given .matching) (given .out) written after
+        → (written ≡ writeTimes .answer given) × (after ≡ writeTimes .after given)
+    only given means =
+        let both = times.writes-only (given .pts) (given .decoding) (given .matching) (given .out) means in
+        (both .0, both .1 ∙ ap (λ (w : TimesWritten). bufferOf w (headerOf (given .pts) (given .decoding) (given .matching)) (given .out)) (both .0))
