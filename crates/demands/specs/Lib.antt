@@ -1,3 +1,4 @@
 pub mod Calls
 pub mod Readers
 pub mod Writers
+pub mod Starred
