@@ -103,4 +103,4 @@ starred =
 -- THE STATEMENT: every starred case holds.
 pub starred-hold : AllHold starred
 unfolding edgesOf membersOf
-starred-hold = (refl, (refl, (refl, (refl, (refl, (refl, (refl, (refl, (refl, (refl, (refl, ((refl, refl), (refl, (refl, (refl, (refl, (refl, (refl, (refl, (refl, ((refl, (refl, refl)), tt)))))))))))))))))))))
+starred-hold = (refl, (refl, (refl, (refl, (refl, (refl, (refl, (refl, (refl, (refl, (refl, ((refl, refl), (refl, (refl, (refl, (refl, (refl, (refl, (refl, (refl, ((refl, refl, refl), tt)))))))))))))))))))))
