@@ -284,3 +284,22 @@ module _ (bytes : List ℕ) (is-accepted : (loopRead Edition2015 bytes) .outcome
       ∙ entries-alike (both .items) (both .none)
       ∙ ap (map entryIn2009) (sym (entries-read (map (streamOf Edition2015) (both .items))))
       ∙ ap (λ (r : LoopRead). map entryIn2009 (entriesRead r)) (sym (both .in-2015))
+
+  -- On a 2009 stream type there is no extension: 6 would refuse it.
+  pub no-extension : {k : ℕ} {e : Entry} → Nth (entriesRead (loopRead Edition2015 bytes)) k e → known Edition2009 (e .«stream_type») ≡ true
+      → isExtension (e .«record») ≡ false
+  no-extension {k} {e} n p =
+      let are : entriesRead (loopRead Edition2015 bytes) ≡ map entryOf (map (streamOf Edition2015) (both .items)) =
+      ap entriesRead (both .in-2015) ∙ entries-read (map (streamOf Edition2015) (both .items)) in
+      let s = nth-of-map entryOf (map (streamOf Edition2015) (both .items)) (subst (λ (l : List Entry). Nth l k e) are n) in
+      let x = nth-of-map (streamOf Edition2015) (both .items) (s .1) in
+      let is-entry : entryOf (streamOf Edition2015 (x .0)) ≡ e = ap entryOf (x .2) ∙ s .2 in
+      ap (λ (y : Entry). isExtension (y .«record»)) (sym is-entry)
+      ∙ of-item (x .0) (x .1) (ap (λ (y : Entry). known Edition2009 (y .«stream_type»)) is-entry ∙ p)
+    where
+      of-item : (x : Item) → Nth (both .items) k x → known Edition2009 ((entryOf (streamOf Edition2015 x)) .«stream_type») ≡ true
+          → isExtension ((entryOf (streamOf Edition2015 x)) .«record») ≡ false
+      of-item broken m q = refl
+      of-item (whole head info) m q =
+          ap (λ (b : Bool). isExtension ((cond b (seenOf Edition2015 info) nothingSeen) .«record»)) (known-later (streamType head) q)
+          ∙ plain-at (both .items) (both .none) (record { head = head; entry = m; type = refl; is-known = q }) .no-extension

@@ -1,3 +1,5 @@
 pub mod Records
 pub mod Looking
 pub mod Entries
+pub mod Layers
+pub mod Closures
