@@ -3,3 +3,4 @@ pub mod Looking
 pub mod Entries
 pub mod Layers
 pub mod Closures
+pub mod Joined
