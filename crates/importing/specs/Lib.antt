@@ -1,1 +1,2 @@
 pub mod Importing
+pub mod Examples
