@@ -14,6 +14,7 @@ use Rattle.closure.specs.declared.Closure.{Closure}
 use Rattle.closure.specs.declared.Closure.the-variants.{Complete, Refused}
 use Rattle.closure.specs.Closures.{isLayer, closureOf}
 use Rattle.closure.specs.Meaning.{Names, RestsOn, itself, by, Missing, WholeClosure, Answers, no-such-layer, absent, complete}
+use Rattle.agreement.specs.Meaning.{NoSet, no-such-layer as eleven, embedded-layer-absent as twelve}
 use Rattle.closure.specs.Laws.{meets, nothing-else, given-complete}
 
 pub record PartOf (few all : Layers) : Type 0 where
@@ -89,19 +90,14 @@ module _ (few all : Layers) (part : PartOf few all) (target : ℕ) where
 
 -- ---- an answer is a complete closure, or 11 or 12
 
--- 'no such layer' or 'embedded layer absent'
-pub data NoCompleteSet : Refusal → Type 0 where
-  target-absent : NoCompleteSet NoSuchLayer
-  embedded-absent : {index : LayerIndex} → NoCompleteSet (EmbeddedLayerAbsent index)
-
 pub data Found (layers : Layers) (target : ℕ) : Type 0 where
   found : (set : ℕ) → closureOf layers target ≡ Complete set → Found layers target
-  not-found : (refusal : Refusal) → NoCompleteSet refusal → closureOf layers target ≡ Refused refusal → Found layers target
+  not-found : (refusal : Refusal) → NoSet refusal → closureOf layers target ≡ Refused refusal → Found layers target
 
 pub find : (layers : Layers) (target : ℕ) → Found layers target
 find layers target = go (meets layers target) refl
   where
     go : {answer : Closure} → Answers layers target answer → closureOf layers target ≡ answer → Found layers target
-    go (no-such-layer h) e = not-found NoSuchLayer target-absent e
-    go (absent {index} here m) e = not-found (EmbeddedLayerAbsent index) embedded-absent e
+    go (no-such-layer h) e = not-found NoSuchLayer eleven e
+    go (absent {index} here m) e = not-found (EmbeddedLayerAbsent index) (twelve index) e
     go (complete {set} here w) e = found set e

@@ -1,17 +1,18 @@
 -- THE LAYERS IN THE 2009 READING of a loop that the 2015 reading accepts: exactly those of its layers whose stream has a 2009 stream type,
 -- each with the same embedded layers.
 -- Assumes nothing.
-use Prim.Native.Nat.{ℕ}
+use Prim.Native.Nat.{ℕ, _<_}
 use mathlib.Core.Path.{_≡_, refl, sym, _∙_, ap, ap₂, subst}
-use mathlib.Core.Bool.{Bool, true, false, cond, _&&_}
+use mathlib.Core.Bool.{Bool, true, false, cond, _&&_, _||_}
 use mathlib.Core.List.{List, []}
 use mathlib.Core.Logic.{_↔_}
+use native.Mathlib.Decide.{decLt}
 use native.Mathlib.Omega.{arith}
-use borrow.Author.Tests.{lt-ltb}
-use lib.Dec.{ltb}
+use borrow.Author.Tests.{lt-ltb, eqb-true}
+use lib.Dec.{eqb, ltb}
 use lib.ListN.{getD}
 use Rattle.combinators.specs.Bools.{both-right}
-use Rattle.combinators.specs.Lists.{Nth, nth-of-map, nth-map}
+use Rattle.combinators.specs.Lists.{Nth, nth-one, nth-of-map, nth-map}
 use Rattle.combinators.specs.Padding.{padTo}
 use Rattle.sets.specs.Sets.{has}
 use Rattle.vocabulary.specs.declared.LayerIndex.{LayerIndex}
@@ -32,21 +33,43 @@ use Rattle.loop_layers.specs.Meaning.{LayerAt, LayerOf, HasLayer}
 use Rattle.loop_layers.specs.Columns.{column-meant}
 use Rattle.loop_layers.specs.Meant.{layers-meant}
 use Rattle.loop_layers.specs.Accepted.{every-layer}
+use Rattle.agreement.specs.Meaning.{Accepts, entriesIn, StreamType2009, avc, svc, mvc}
 use Rattle.agreement.specs.Records.{recordIn2009, withRecord, entryIn2009}
 use Rattle.agreement.specs.Looking.{isExtension}
 use Rattle.agreement.specs.Entries.{accepted-in-2009, entries-in-2009, no-extension}
+
+apart : {A : Type 0} → false ≡ true → A
+apart e = let z : _≡_ {A = ℕ} 0 1 = cc in absurd (omega arith)
 
 -- The entries have a layer of index i, and its stream has a 2009 stream type.
 pub record HasType2009 (entries : List Entry) (i : ℕ) : Type 0 where
   pub place : ℕ
   pub entry : Entry
   pub layer : LayerAt entries place i entry
-  pub type : known Edition2009 (entry .«stream_type») ≡ true
+  pub type : StreamType2009 (entry .«stream_type»)
+
+-- A 2009 stream type is one that the 2009 reading knows.
+pub types-2009 : (t : ℕ) → (known Edition2009 t ≡ true) ↔ StreamType2009 t
+types-2009 t = (to, from)
+  where
+    one : (a b c : Bool) → a || (b || (c || false)) ≡ true → (a ≡ true → StreamType2009 t) → (b ≡ true → StreamType2009 t)
+        → (c ≡ true → StreamType2009 t) → StreamType2009 t
+    one true b c e f g h = f refl
+    one false true c e f g h = g refl
+    one false false true e f g h = h refl
+    one false false false e f g h = apart e
+
+    to : known Edition2009 t ≡ true → StreamType2009 t
+    to e =
+        one (eqb t 0x1B) (eqb t 0x1F) (eqb t 0x20) e (λ p. subst StreamType2009 (sym (eqb-true t 0x1B p)) avc)
+        (λ p. subst StreamType2009 (sym (eqb-true t 0x1F p)) svc) (λ p. subst StreamType2009 (sym (eqb-true t 0x20 p)) mvc)
+
+    from : {n : ℕ} → StreamType2009 n → known Edition2009 n ≡ true
+    from avc = refl
+    from svc = refl
+    from mvc = refl
 
 -- ---- one entry
-
-apart : {A : Type 0} → false ≡ true → A
-apart e = let z : _≡_ {A = ℕ} 0 1 = cc in absurd (omega arith)
 
 -- an entry that is a layer, and the same layer in the 2009 reading
 record Alike (e early : Entry) : Type 0 where
@@ -91,12 +114,23 @@ module _ (e : Entry) where
 
 -- ---- the layers of a loop in both readings
 
-module _ (bytes : List ℕ) (is-accepted : (loopRead Edition2015 bytes) .outcome ≡ Accepted) where
-  abbrev pub entries2015 : List Entry
-  entries2015 = entriesRead (loopRead Edition2015 bytes)
+-- one entry is the layer of an index
+one-layer : {entries : List Entry} {i : ℕ} {a b : Entry} → LayerOf entries i a → LayerOf entries i b → a ≡ b
+one-layer {entries} {i} {a} {b} l m = go (decLt (l .place) (m .place)) (decLt (m .place) (l .place))
+  where
+    go : Dec (l .place < m .place) → Dec (m .place < l .place) → a ≡ b
+    go (yes p) d = absurd (l .last (m .place) b p (m .at-place))
+    go (no p) (yes q) = absurd (m .last (l .place) a q (l .at-place))
+    go (no p) (no q) =
+        let equal : l .place ≡ m .place = omega arith in
+        nth-one (subst (λ (n : ℕ). Nth entries n a) equal (l .at-place .entry)) (m .at-place .entry)
 
-  abbrev pub entries2009 : List Entry
-  entries2009 = entriesRead (loopRead Edition2009 bytes)
+module _ (bytes : List ℕ) (is-accepted : Accepts Edition2015 bytes) where
+  abbrev entries2015 : List Entry
+  entries2015 = entriesIn Edition2015 bytes
+
+  abbrev entries2009 : List Entry
+  entries2009 = entriesIn Edition2009 bytes
 
   -- the entry of the 2015 reading that a layer of the 2009 reading is
   record Was (k i : ℕ) (early : Entry) : Type 0 where
@@ -139,7 +173,7 @@ module _ (bytes : List ℕ) (is-accepted : (loopRead Edition2015 bytes) .outcome
   present {entries} {i} {e} l =
       ap₂ _&&_ (lt-ltb i 64 (l .six-bits)) (layers-meant entries .present i .1 (record { entry = e; layer = l }))
 
-  has-layer : {entries : List Entry} {i : ℕ} → isLayer (layersOf entries) i ≡ true → HasLayer entries i
+  pub has-layer : {entries : List Entry} {i : ℕ} → isLayer (layersOf entries) i ≡ true → HasLayer entries i
   has-layer {entries} {i} h = layers-meant entries .present i .0 (both-right (ltb i 64) (has ((layersOf entries) .present) i) h)
 
   -- A layer of the 2009 reading is a layer of the 2015 reading whose stream has a 2009 stream type, and the other way round;
@@ -150,10 +184,10 @@ module _ (bytes : List ℕ) (is-accepted : (loopRead Edition2015 bytes) .outcome
       to h =
           let l = has-layer h in
           let w = was (l .layer .at-place) in
-          record { place = l .layer .place; entry = w .entry; layer = w .layer; type = w .type }
+          record { place = l .layer .place; entry = w .entry; layer = w .layer; type = types-2009 (w .entry .«stream_type») .0 (w .type) }
 
       from : HasType2009 entries2015 i → isLayer (layersOf entries2009) i ≡ true
-      from h = present (layer-2009 (remains (h .layer) (h .type)))
+      from h = present (layer-2009 (remains (h .layer) (types-2009 (h .entry .«stream_type») .1 (h .type))))
 
   pub layers-in-2015 : (i : ℕ) → HasType2009 entries2015 i → isLayer (layersOf entries2015) i ≡ true
   layers-in-2015 i h = present (layer-2015 (h .layer))
@@ -167,3 +201,7 @@ module _ (bytes : List ℕ) (is-accepted : (loopRead Edition2015 bytes) .outcome
       column-meant 0 embeddedIn entries2009 .layer i (l .entry) (l .layer)
       ∙ w .names
       ∙ sym (column-meant 0 embeddedIn entries2015 .layer i (w .entry) (layer-2015 (w .layer)))
+
+  -- An index has one layer, so that its stream has one type.
+  pub one-type : {k i : ℕ} {e : Entry} → HasType2009 entries2015 i → LayerAt entries2015 k i e → StreamType2009 (e .«stream_type»)
+  one-type {i = i} {e = e} h l = subst (λ (x : Entry). StreamType2009 (x .«stream_type»)) (one-layer (layer-2015 (h .layer)) (layer-2015 l)) (h .type)
