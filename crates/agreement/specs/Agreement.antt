@@ -113,7 +113,7 @@ module _ (bytes : List ℕ) (is-accepted : Accepts Edition2015 bytes) (target : 
       }
 
   -- where it finds one, every stream that the target rests on has a 2009 stream type, and the 2015 reading finds the same
-  every-2009 : (set : ℕ) → closureOf few target ≡ Complete set → Every2009 bytes target
+  pub every-2009 : (set : ℕ) → closureOf few target ≡ Complete set → Every2009 bytes target
   every-2009 set e =
       record { has-type = λ k j x r l. one-type bytes is-accepted (layers-in-2009 bytes is-accepted j .0 (every-kept few all part target set e j r)) l }
 

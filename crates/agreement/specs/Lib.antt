@@ -6,3 +6,4 @@ pub mod Layers
 pub mod Closures
 pub mod Joined
 pub mod Agreement
+pub mod Examples
