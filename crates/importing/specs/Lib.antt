@@ -1,2 +1,4 @@
 pub mod Importing
+pub mod Meaning
+pub mod Meant
 pub mod Examples
