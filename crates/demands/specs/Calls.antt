@@ -53,6 +53,14 @@ pub listed-first : (first second : List ℕ) (refusal : Option Refusal) → isLi
 listed-first first second none e = refl
 listed-first first second (some refusal) e = member-first (numberOf refusal) first second e
 
+member-second : (number : ℕ) (first second : List ℕ) → member number second ≡ true → member number (first ++ second) ≡ true
+member-second number [] second e = e
+member-second number (x ∷ xs) second e = either-right (eqb number x) (member number (xs ++ second)) (member-second number xs second e)
+
+pub listed-second : (first second : List ℕ) (refusal : Option Refusal) → isListed second refusal ≡ true → isListed (first ++ second) refusal ≡ true
+listed-second first second none e = refl
+listed-second first second (some refusal) e = member-second (numberOf refusal) first second e
+
 -- an answer that is no refusal
 pub not-refused : {refusal : Refusal} {A : Type 0} → _≡_ {A = Option Refusal} none (some refusal) → A
 not-refused {refusal} e = absurd (Option·some-ne-none refusal (sym e))
