@@ -1,0 +1,42 @@
+-- DEMAND 1. 'Every loop, packet header, row table and output buffer gets an answer that ends, whether the bytes are sound or damaged. The refusal
+-- is one of the listed numbers, given exactly under its listed condition, and the output buffers then hold what they held before.'
+--
+-- One statement for all calls that refuse: each keeps the promise of Calls for whatever it is handed. Not among them are the calls that
+-- refuse nothing, whose contracts are single equalities: `vocabulary`'s words, the tests of `judging`, the `clock`, `loop_layers::layers_of`
+-- and `table_of`, and the text of `listing`.
+-- Assumes nothing.
+use Rattle.demands.specs.Calls.{Promised}
+use Rattle.demands.specs.Readers.{readLoop, loop-read, closureOfTarget, closure-found, closureOfLoop, loop-closure-found, readTimes, times-read}
+use Rattle.demands.specs.Writers.{writeLoop, loop-written, writeTimes, times-written}
+use Rattle.demands.specs.Joiners.{joinRows, rows-joined, importLoop, loop-imported}
+
+pub record Demand-1 : Type 0 where
+  -- 1 to 10
+  pub reading-a-loop : Promised readLoop
+  -- 1, 3, 6 to 10, 17, 25
+  pub writing-a-loop : Promised writeLoop
+  -- 11 and 12
+  pub closure-of-a-target : Promised closureOfTarget
+  -- 1 to 12
+  pub closure-from-a-loop : Promised closureOfLoop
+  -- 20 to 24
+  pub reading-times : Promised readTimes
+  -- 17, 24, 25
+  pub writing-times : Promised writeTimes
+  -- 11 to 17
+  pub joining-rows : Promised joinRows
+  -- 1 to 17
+  pub importing : Promised importLoop
+
+pub demand-1 : Demand-1
+demand-1 =
+    record {
+      reading-a-loop = loop-read;
+      writing-a-loop = loop-written;
+      closure-of-a-target = closure-found;
+      closure-from-a-loop = loop-closure-found;
+      reading-times = times-read;
+      writing-times = times-written;
+      joining-rows = rows-joined;
+      importing = loop-imported;
+    }

@@ -1,0 +1,137 @@
+-- DEMAND 2. 'Descriptors and packet times are read and written as H.222.0 and its layered-video amendments lay them out, under the reading rules
+-- of document 01. Each component of the chosen layer yields one unit: one component from every layer it rests on, paired by TREF or else by
+-- decoding time, in rising layer index. Where no refusal listed before it applies, the whole is refused as unpaired exactly when some unit
+-- has no such choice, and otherwise as used twice exactly when two units would share a component.'
+--
+-- What is laid out is said by the syntax tables, each once for reading and writing: `entryHead` of es_loop, `descriptors/specs/Tables.antt` and
+-- those of the PES header. A row's match time is its TREF, or its decoding time without one: `matchOf` of PES reading.
+-- Assumes nothing.
+use Prim.Native.Nat.{ℕ, _≤_}
+use mathlib.Core.List.{List, [], map}
+use mathlib.Core.Logic.{_↔_}
+use mathlib.Core.Path.{_≡_}
+use lib.IntN.{ℤ}
+use lib.ListN.{length, take}
+use Rattle.combinators.specs.Padding.{padTo}
+use Rattle.syntax.specs.Table.{AreBytes}
+use Rattle.vocabulary.specs.declared.refusal.Refusal.the-variants.{Unpaired, UsedTwice}
+use Rattle.vocabulary.specs.declared.stream_types.Reading.the-variants.{Edition2015}
+use Rattle.es_loop.specs.declared.entries.Entry.{Entry}
+use Rattle.es_loop.specs.declared.reader.Outcome.the-variants.{Accepted as LoopAccepted}
+use Rattle.es_loop.specs.Entries.{blankEntry}
+use Rattle.es_loop.specs.Reading.{loopRead}
+use Rattle.loop_writer.specs.declared.Written.the-variants as Loop
+use Rattle.loop_writer.specs.Layout.{loopBytes}
+use Rattle.loop_writer.specs.Writing.{answer}
+use Rattle.loop_round_trip.specs.ReadBack.{normal, Typed}
+use Rattle.loop_round_trip.specs.RoundTrip as loops
+use Rattle.loop_round_trip.specs.OwnShape.{OwnShape}
+use Rattle.loop_round_trip.specs.Rewriting as loops-again
+use Rattle.pes.specs.declared.Answer.the-variants as Times
+use Rattle.pes.specs.declared.writer.Written.the-variants as Header
+use Rattle.pes.specs.Reading.{readOf}
+use Rattle.pes.specs.Writing.{headerOf, writeOf, bufferOf}
+use Rattle.pes.specs.OwnShape.{OwnShape as OwnHeader}
+use Rattle.pes.specs.RoundTrips as times
+use Rattle.closure.specs.declared.Layers.{Layers}
+use Rattle.closure.specs.Meaning.{RestsOn}
+use Rattle.joining.specs.declared.answer.Joined.the-variants.{Units, Refused}
+use Rattle.joining.specs.Table.{Table}
+use Rattle.joining.specs.Joining.{joinedOf}
+use Rattle.joining.specs.Meaning.{FirstRow, NoRow, InOrder, Assembles, NoAssembly, SharesRow, TargetRow, Accepted}
+use Rattle.joining.specs.Laws as joining
+use Rattle.demands.specs.Calls.{Promised}
+use Rattle.demands.specs.Readers.{readLoop, loop-read, readTimes, times-read}
+use Rattle.demands.specs.Writers.{writeLoop, loop-written, writeTimes, times-written}
+
+-- 'read and written as H.222.0 and its layered-video amendments lay them out': each call's answer has its meaning, and nothing else has; and
+-- the round trips of document 01, 'reading what a writer wrote gives back what was given, and rewriting gives the same bytes for headers
+-- and loops in the writer's own shape'.
+pub record ReadAndWritten : Type 0 where
+  pub loops-read : Promised readLoop
+  pub loops-written : Promised writeLoop
+  pub times-are-read : Promised readTimes
+  pub times-are-written : Promised writeTimes
+  pub loop-read-back : (room count : ℕ) (array : List Entry) → Typed (take count array) → {n : ℕ} → answer room count array ≡ Loop.Bytes n
+      → loopRead Edition2015 (loopBytes (take count array))
+      ≡ record { outcome = LoopAccepted; count = length (take count array); entries = padTo 201 blankEntry (map normal (take count array)) }
+  pub loop-rewritten : (loop : List ℕ) → AreBytes loop → OwnShape loop → (loopRead Edition2015 loop) .outcome ≡ LoopAccepted
+      → (room : ℕ) → length loop ≤ room
+      → (answer room ((loopRead Edition2015 loop) .count) ((loopRead Edition2015 loop) .entries) ≡ Loop.Bytes (length loop))
+      × (loopBytes (take ((loopRead Edition2015 loop) .count) ((loopRead Edition2015 loop) .entries)) ≡ loop)
+  pub times-read-back : (pts decoding matching : ℕ) (out : List ℕ) {size : ℕ} → writeOf pts decoding matching (length out) ≡ Header.Bytes size
+      → readOf (bufferOf (Header.Bytes size) (headerOf pts decoding matching) out) ≡ Times.Times pts decoding matching
+  pub times-rewritten : {bytes : List ℕ} {a b c : ℕ} → OwnHeader bytes a b c → (pts decoding matching : ℕ)
+      → readOf bytes ≡ Times.Times pts decoding matching → headerOf pts decoding matching ≡ bytes
+
+-- THE UNITS of an accepted table: over a closure, a table in range and in order, and no row in two units
+pub record OneUnitEach (layers : Layers) (target : ℕ) (rows : Table) (numbers : List ℕ) (lags : List ℤ) (closure units left : ℕ) : Type 0 where
+  pub numbersAfter : List ℕ
+  pub lagsAfter : List ℤ
+  pub in-order : InOrder layers target closure rows
+  pub in-one-unit : NoRow rows (SharesRow layers target rows)
+  pub accepted : Accepted layers target rows numbers lags units left numbersAfter lagsAfter
+
+-- 'unpaired exactly when some unit has no such choice': at the first target row that has none
+pub record FirstUnpaired (layers : Layers) (target : ℕ) (rows : Table) (row : ℕ) : Type 0 where
+  pub closure : ℕ
+  pub in-order : InOrder layers target closure rows
+  pub first : FirstRow rows (NoAssembly layers target rows) row
+
+-- 'otherwise as used twice exactly when two units would share a component': at the first target row whose unit shares one with an earlier
+pub record FirstSharing (layers : Layers) (target : ℕ) (rows : Table) (row : ℕ) : Type 0 where
+  pub closure : ℕ
+  pub in-order : InOrder layers target closure rows
+  pub all-paired : NoRow rows (NoAssembly layers target rows)
+  pub first : FirstRow rows (SharesRow layers target rows) row
+
+pub record Joins : Type 0 where
+  pub units : (layers : Layers) (target : ℕ) (rows : Table) (numbers : List ℕ) (lags : List ℤ) (closure units left : ℕ)
+      → (joinedOf layers target rows (length numbers) (length lags) ≡ Units closure units left)
+      ↔ OneUnitEach layers target rows numbers lags closure units left
+  pub unpaired : (layers : Layers) (target : ℕ) (rows : Table) (numbers : List ℕ) (lags : List ℤ) (row : ℕ)
+      → (joinedOf layers target rows (length numbers) (length lags) ≡ Refused (Unpaired row)) ↔ FirstUnpaired layers target rows row
+  pub used-twice : (layers : Layers) (target : ℕ) (rows : Table) (numbers : List ℕ) (lags : List ℤ) (row : ℕ)
+      → (joinedOf layers target rows (length numbers) (length lags) ≡ Refused (UsedTwice row)) ↔ FirstSharing layers target rows row
+  -- a target row has no two assemblies
+  pub one-choice : (layers : Layers) (target closure : ℕ) (rows : Table) → InOrder layers target closure rows → (head : ℕ) → TargetRow target rows head
+      → (choice other : ℕ → ℕ) → Assembles layers target rows head choice → Assembles layers target rows head other
+      → (layer : ℕ) → RestsOn layers target layer → choice layer ≡ other layer
+
+pub record Demand-2 : Type 0 where
+  pub read-and-written : ReadAndWritten
+  pub joins : Joins
+
+pub demand-2 : Demand-2
+demand-2 =
+    record {
+      read-and-written = record {
+        loops-read = loop-read;
+        loops-written = loop-written;
+        times-are-read = times-read;
+        times-are-written = times-written;
+        loop-read-back = λ room count array typed e. loops.read-back room count array typed e;
+        loop-rewritten = λ loop bytes own accepted room large. loops-again.rewrite loop bytes own accepted room large;
+        times-read-back = times.reading-what-was-written;
+        times-rewritten = λ own pts decoding matching read. times.rewriting-what-was-read own pts decoding matching read;
+      };
+      joins = record {
+        units = λ layers target rows numbers lags closure units left. (
+          λ e. (let w = joining.given-units layers target rows numbers lags closure units left .0 e in
+              record { numbersAfter = w .0; lagsAfter = w .1; in-order = w .2; in-one-unit = w .3; accepted = w .4 }),
+          λ u. joining.given-units layers target rows numbers lags closure units left .1
+              (u .numbersAfter, u .lagsAfter, u .in-order, u .in-one-unit, u .accepted),
+        );
+        unpaired = λ layers target rows numbers lags row. (
+          λ e. (let w = joining.given-15 layers target rows numbers lags row .0 e in record { closure = w .0; in-order = w .1; first = w .2 }),
+          λ u. joining.given-15 layers target rows numbers lags row .1 (u .closure, u .in-order, u .first),
+        );
+        used-twice = λ layers target rows numbers lags row. (
+          λ e. (let w = joining.given-16 layers target rows numbers lags row .0 e in
+              record { closure = w .0; in-order = w .1; all-paired = w .2; first = w .3 }),
+          λ u. joining.given-16 layers target rows numbers lags row .1 (u .closure, u .in-order, u .all-paired, u .first),
+        );
+        one-choice = λ layers target closure rows ordered head is-target choice other a b layer rests.
+            joining.at-most-one-assembly layers target rows [] [] closure ordered head is-target choice other a b layer rests;
+      };
+    }
