@@ -1,0 +1,124 @@
+// What is printed: for an accepted table the closure, the number of units and the left-out count, for a refusal its number and place,
+// and after either both lists to their ends.
+use joining::Joined;
+use vocabulary::Refusal;
+
+// What the lists hold before the call. No row has this number, and no lag is so large.
+const NO_NUMBER: u64 = 1000000;
+
+const NO_LAG: i64 = 1000000000000;
+
+pub fn no_numbers() -> [u64; 600] {
+    [NO_NUMBER; 600]
+}
+
+pub fn no_lags() -> [i64; 600] {
+    [NO_LAG; 600]
+}
+
+fn say(text: &[u8]) {
+    io::write_all(1, text);
+}
+
+fn say_number(name: &[u8], value: u64) {
+    say(name);
+    io::print_decimal(1, value);
+}
+
+// A comment, as it stands.
+pub fn copy(line: &[u8]) {
+    say(line);
+    say(b"\n");
+}
+
+pub fn unreadable() {
+    say(b"unreadable\n");
+}
+
+pub fn too_long() {
+    say(b"too long\n");
+}
+
+// The members of a set of layer indices.
+fn print_set(set: u64) {
+    let mut index = 0;
+    while index < 64 {
+        if sets::member(set, index) {
+            say_number(b" ", index as u64);
+        }
+        index += 1;
+    }
+}
+
+fn print_units(closure: u64, units: usize, left_out: usize) {
+    say(b"accepted closure");
+    print_set(closure);
+    say_number(b" units ", units as u64);
+    say_number(b" left out ", left_out as u64);
+}
+
+fn print_refusal(refusal: Refusal) {
+    say_number(b"refused ", vocabulary::number(refusal) as u64);
+    say_number(b" place ", vocabulary::place(refusal) as u64);
+}
+
+pub fn print(joined: Joined) {
+    match joined {
+        Joined::Units {
+            closure,
+            units,
+            left_out,
+        } => print_units(closure, units, left_out),
+        Joined::Refused(refusal) => print_refusal(refusal),
+    }
+}
+
+fn print_number(number: u64) {
+    if number == NO_NUMBER {
+        say(b" .");
+    } else {
+        say_number(b" ", number);
+    }
+}
+
+// How far an integer lies from 0.
+fn magnitude(integer: i64) -> u64 {
+    if 0 <= integer {
+        return integer as u64;
+    }
+    let beyond = -1 - integer;
+    beyond as u64 + 1
+}
+
+fn print_lag(lag: i64) {
+    if lag == NO_LAG {
+        say(b" .");
+        return;
+    }
+    if lag < 0 {
+        say_number(b" -", magnitude(lag));
+    } else {
+        say_number(b" ", magnitude(lag));
+    }
+}
+
+// The row numbers, to the end of their list.
+pub fn print_numbers(numbers: &[u64]) {
+    say(b" numbers");
+    let mut i = 0;
+    while i < numbers.len() {
+        print_number(numbers[i]);
+        i += 1;
+    }
+}
+
+// The lags beside them, to the end of theirs, and of the line.
+pub fn print_lags(lags: &[i64]) {
+    say(b" lags");
+    let mut i = 0;
+    while i < lags.len() {
+        print_lag(lags[i]);
+        i += 1;
+    }
+    say(b"\n");
+}
