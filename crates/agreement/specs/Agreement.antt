@@ -1,154 +1,142 @@
--- THE STATEMENT OF DEMAND 3, `agreement`: of every loop that the 2015 reading accepts and every target, what Meaning says. And every loop and
--- target is of one of the two kinds that the demand tells apart, `one-or-other`.
+-- THE STATEMENT OF DEMAND 3, `agreement`: of every loop that the 2015 reading accepts and every target, what Meaning says. With it stand: the
+-- 2009 reading accepts every such loop, `accepted-too`; every loop and target is of one of the two kinds that the demand tells apart,
+-- `one-or-other`; and a reading gives one answer, `answer-given` and `one-answer`.
 -- Assumes nothing.
 use Prim.Native.Nat.{ℕ}
 use mathlib.Core.Path.{_≡_, refl, sym, _∙_, ap, ap₂, subst}
-use mathlib.Core.Bool.{Bool, true}
-use mathlib.Core.List.{List}
+use mathlib.Core.List.{List, map}
 use mathlib.Core.Logic.{_⊎_, inl, inr}
 use native.Mathlib.Omega.{arith}
 use lib.IntN.{ℤ}
-use lib.ListN.{length, getD}
-use Rattle.sets.specs.Sets.{has}
+use lib.ListN.{length}
 use Rattle.vocabulary.specs.declared.stream_types.Reading.{Reading}
 use Rattle.vocabulary.specs.declared.stream_types.Reading.the-variants.{Edition2009, Edition2015}
 use Rattle.vocabulary.specs.declared.refusal.Refusal.{Refusal}
 use Rattle.vocabulary.specs.Refusals.{numberOf}
-use Rattle.es_loop.specs.declared.reader.Outcome.{Outcome}
+use Rattle.es_loop.specs.declared.entries.Entry.{Entry}
+use Rattle.es_loop.specs.declared.entries.Stream.{Stream}
 use Rattle.es_loop.specs.declared.reader.Outcome.the-variants.{Accepted}
+use Rattle.es_loop.specs.declared.reader.LoopRead.{LoopRead}
+use Rattle.es_loop.specs.Entries.{streamOf, entryOf}
+use Rattle.es_loop.specs.Reading.{accepted, loopRead}
+use Rattle.es_loop.specs.Meaning.{too-long, refuses}
+use Rattle.es_loop.specs.Meaning as Loop
+use Rattle.es_loop.specs.Meant.{answer-meant, answer-only}
 use Rattle.closure.specs.declared.Layers.{Layers}
 use Rattle.closure.specs.declared.Closure.{Closure}
-use Rattle.closure.specs.declared.Closure.the-variants.{Complete, Refused as NoClosure}
-use Rattle.closure.specs.Closures.{isLayer, closureOf}
-use Rattle.closure.specs.Meaning.{RestsOn}
-use Rattle.closure.specs.Meaning as Target
-use Rattle.closure.specs.Laws.{meets, nothing-else, given-complete}
-use Rattle.loop_layers.specs.Closures.{closureFor, loopClosure}
 use Rattle.joining.specs.declared.answer.Joined.{Joined}
-use Rattle.joining.specs.declared.answer.Joined.the-variants.{Refused}
 use Rattle.joining.specs.Table.{Table}
-use Rattle.joining.specs.Joining.{joinedIn, joinedOf, numbersAfter, lagsAfter}
-use Rattle.importing.specs.Importing.{importFor}
-use Rattle.agreement.specs.Meaning.{Accepts, entriesIn, layersIn, Every2009, Otherwise, another-type, no-complete-set, Answer, answerOf, answerIn, NoSet, no-such-layer, embedded-layer-absent, Refuses2009, Agrees}
-use Rattle.agreement.specs.Entries.{accepted-in-2009}
-use Rattle.agreement.specs.Layers.{HasType2009, layers-in-2009, layers-in-2015, same-embedded, has-layer, one-type}
-use Rattle.agreement.specs.Closures.{PartOf, same-closure, every-kept, Found, found, not-found, find}
-use Rattle.agreement.specs.Joined.{joined-alike, numbers-alike, lags-alike}
-
--- the answer in the layers of an accepted loop
-abbrev inLayers : Layers → ℕ → Table → List ℕ → List ℤ → Answer
-inLayers layers target t numbers lags =
-    let joined : Joined = joinedOf layers target t (length numbers) (length lags) in
-    answerOf (closureOf layers target) joined (numbersAfter layers target t joined numbers) (lagsAfter layers target t joined lags)
-
-in-layers : (reading : Reading) (bytes : List ℕ) → Accepts reading bytes → (target : ℕ) (t : Table) (numbers : List ℕ) (lags : List ℤ)
-    → answerIn reading bytes target t numbers lags ≡ inLayers (layersIn reading bytes) target t numbers lags
-in-layers reading bytes e target t numbers lags =
-    ap
-    (λ (o : Outcome).
-    let layers : Layers = layersIn reading bytes in
-    let joined : Joined = importFor o layers target t (length numbers) (length lags) in
-    answerOf (closureFor o (entriesIn reading bytes) target) joined (numbersAfter layers target t joined numbers) (lagsAfter layers target t joined lags))
-    e
-
-same-answer : {c d : Closure} {j k : Joined} {m n : List ℕ} {a b : List ℤ} → c ≡ d → j ≡ k → m ≡ n → a ≡ b → answerOf c j m a ≡ answerOf d k n b
-same-answer {c} {d} {j} {k} {m} {n} {a} {b} p q r s =
-    ap₂ (λ (x : Closure) (y : Joined). answerOf x y m a) p q ∙ ap₂ (λ (x : List ℕ) (y : List ℤ). answerOf d k x y) r s
+use Rattle.loop_layers.specs.Closures.{entriesRead}
+use Rattle.loop_layers.specs.Layers.{layersOf}
+use Rattle.loop_layers.specs.Meant.{layers-meant, layers-only, entries-read, loop-answer-meant, loop-answer-only}
+use Rattle.importing.specs.Importing.{importedNumbers, importedLags}
+use Rattle.importing.specs.Meant.{import-meant, import-only}
+use Rattle.agreement.specs.Meaning.{Accepts, Every2009, Otherwise, Answer, answerOf, Gives, NoSet, no-such-layer, embedded-layer-absent, Refuses2009, Agrees}
+use Rattle.agreement.specs.Records.{entryIn2009}
+use Rattle.agreement.specs.Entries.{IsAccepted, entriesIn, accepted-in-2009, entries-in-2009}
+use Rattle.agreement.specs.Computed.{layersIn, answerIn, same-answer, identical-answer, AlwaysRefused, always-refused, either-way}
 
 -- 11 and 12
 pub numbers-11-and-12 : {refusal : Refusal} → NoSet refusal → (numberOf refusal ≡ 11) ⊎ (numberOf refusal ≡ 12)
 numbers-11-and-12 no-such-layer = inl refl
 numbers-11-and-12 (embedded-layer-absent index) = inr refl
 
-module _ (bytes : List ℕ) (is-accepted : Accepts Edition2015 bytes) (target : ℕ) where
-  abbrev few : Layers
-  few = layersIn Edition2009 bytes
+-- ---- a reading gives the answer that is computed, and no other
 
-  abbrev all : Layers
-  all = layersIn Edition2015 bytes
-
-  part : PartOf few all
-  part =
+module _ (reading : Reading) (bytes : List ℕ) (target : ℕ) (t : Table) (numbers : List ℕ) (lags : List ℤ) where
+  pub answer-given : Gives reading bytes target t numbers lags (answerIn reading bytes target t numbers lags)
+  answer-given =
       record {
-        in-all = λ i h. layers-in-2015 bytes is-accepted i (layers-in-2009 bytes is-accepted i .0 h);
-        same-embedded = same-embedded bytes is-accepted;
+        right-closure = loop-answer-meant reading bytes target;
+        right-import = import-meant reading bytes target t numbers lags (record { is-answer = refl; is-numbers = refl; is-lags = refl });
       }
 
-  -- no layer that the target rests on is left out
-  kept : Every2009 bytes target → (j : ℕ) → RestsOn all target j → isLayer all j ≡ true → isLayer few j ≡ true
-  kept every j r h =
-      let l = has-layer bytes is-accepted h in
-      let at-place = l .layer .at-place in
-      layers-in-2009 bytes is-accepted j .1
-      (record { place = l .layer .place; entry = l .entry; layer = at-place; type = every .has-type (l .layer .place) j (l .entry) r at-place })
+  given-only : {a : Answer} → Gives reading bytes target t numbers lags a → a ≡ answerIn reading bytes target t numbers lags
+  given-only g =
+      let p = import-only reading bytes target t numbers lags (g .right-import) in
+      same-answer (loop-answer-only reading bytes target (g .right-closure)) (p .is-answer)
+      (p .is-numbers ∙ ap (λ (j : Joined). importedNumbers reading bytes target t j numbers) (p .is-answer))
+      (p .is-lags ∙ ap (λ (j : Joined). importedLags reading bytes target t j lags) (p .is-answer))
 
-  alike : Every2009 bytes target → (t : Table) (numbers : List ℕ) (lags : List ℤ) → inLayers few target t numbers lags ≡ inLayers all target t numbers lags
-  alike every t numbers lags =
-      same-answer closures (joined-alike few all target closures same t (length numbers) (length lags))
-      (numbers-alike few all target closures same t (length numbers) (length lags) numbers)
-      (lags-alike few all target closures same t (length numbers) (length lags) lags)
-    where
-      closures : closureOf few target ≡ closureOf all target
-      closures = same-closure few all part target (kept every)
+  pub one-answer : {a b : Answer} → Gives reading bytes target t numbers lags a → Gives reading bytes target t numbers lags b → a ≡ b
+  one-answer g h = given-only g ∙ sym (given-only h)
 
-      same : (closure : ℕ) → closureOf all target ≡ Complete closure
-          → (i : ℕ) → has closure i ≡ true → getD (few .embedded) i 0 ≡ getD (all .embedded) i 0
-      same closure e i h =
-          let w = given-complete all target closure .0 e .1 in
-          let r = w .members i .0 h in
-          same-embedded bytes is-accepted i (kept every i r (w .in-loop i r))
+-- ---- what is accepted, as it is computed
 
-  -- where the 2009 reading finds no closure, it refuses, whatever the row table and the lists hold
-  refused : (refusal : Refusal) → NoSet refusal → closureOf few target ≡ NoClosure refusal → Refuses2009 bytes target
-  refused refusal is e =
-      record {
-        refusal = refusal;
-        is-11-or-12 = is;
-        always = λ t numbers lags. in-layers Edition2009 bytes (accepted-in-2009 bytes is-accepted) target t numbers lags
-            ∙ ap
-            (λ (c : Closure).
-            let joined : Joined = joinedIn few target t (length numbers) (length lags) c in
-            answerOf c joined (numbersAfter few target t joined numbers) (lagsAfter few target t joined lags))
-            e;
-      }
+pub accepts : (reading : Reading) (bytes : List ℕ) → IsAccepted reading bytes → Accepts reading bytes (entriesIn reading bytes) (layersIn reading bytes)
+accepts reading bytes = go (answer-meant reading bytes) refl
+  where
+    go : {read : LoopRead} → Loop.Answers reading bytes read → read ≡ loopRead reading bytes → read .outcome ≡ Accepted
+        → Accepts reading bytes (entriesIn reading bytes) (layersIn reading bytes)
+    go (too-long h) p e = let z : _≡_ {A = ℕ} 0 1 = cc in absurd (omega arith)
+    go (refuses short c at-k lower earlier) p e = let z : _≡_ {A = ℕ} 0 1 = cc in absurd (omega arith)
+    go (Loop.accepts {entries} short c none) p e =
+        let streams : List Stream = map (streamOf reading) entries in
+        record {
+          streams = streams;
+          answer = Loop.accepts short c none;
+          entries-are = sym (entries-read streams) ∙ ap entriesRead p;
+          layers-are = layers-meant (entriesIn reading bytes);
+        }
 
-  -- where it finds one, every stream that the target rests on has a 2009 stream type, and the 2015 reading finds the same
-  pub every-2009 : (set : ℕ) → closureOf few target ≡ Complete set → Every2009 bytes target
-  every-2009 set e =
-      record { has-type = λ k j x r l. one-type bytes is-accepted (layers-in-2009 bytes is-accepted j .0 (every-kept few all part target set e j r)) l }
+module _ {reading : Reading} {bytes : List ℕ} {entries : List Entry} {layers : Layers} (a : Accepts reading bytes entries layers) where
+  is-read : accepted (a .streams) ≡ loopRead reading bytes
+  is-read = answer-only reading bytes (a .answer)
 
-  complete-too : (set : ℕ) → closureOf few target ≡ Complete set → Target.Answers all target (Complete set)
-  complete-too set e =
-      subst (Target.Answers all target) (sym (same-closure few all part target (kept (every-2009 set e))) ∙ e) (meets all target)
+  outcome-is : IsAccepted reading bytes
+  outcome-is = sym (ap (λ (r : LoopRead). r .outcome) is-read)
 
-  not-otherwise : (set : ℕ) → closureOf few target ≡ Complete set → Otherwise bytes target → ⊥
-  not-otherwise set e (another-type other) = other (every-2009 set e)
-  not-otherwise set e (no-complete-set none) = none set (complete-too set e)
+  same-entries : entries ≡ entriesIn reading bytes
+  same-entries = sym (a .entries-are) ∙ sym (entries-read (a .streams)) ∙ ap entriesRead is-read
 
-  -- DEMAND 3.
-  pub agreement : Agrees bytes target
-  agreement =
-      record {
-        accepted = accepted-in-2009 bytes is-accepted;
-        identical = λ every t numbers lags. in-layers Edition2009 bytes (accepted-in-2009 bytes is-accepted) target t numbers lags
-            ∙ alike every t numbers lags
-            ∙ sym (in-layers Edition2015 bytes is-accepted target t numbers lags);
-        otherwise = by-closure (find few target);
-      }
-    where
-      by-closure : Found few target → Otherwise bytes target → Refuses2009 bytes target
-      by-closure (found set e) other = absurd (not-otherwise set e other)
-      by-closure (not-found refusal is e) other = refused refusal is e
+  same-layers : layers ≡ layersIn reading bytes
+  same-layers = layers-only entries (a .layers-are) ∙ ap (λ (l : List Entry). layersOf l) same-entries
 
-  -- One or the other is so.
-  pub one-or-other : Every2009 bytes target ⊎ Otherwise bytes target
-  one-or-other = go (find few target) (find all target)
-    where
-      unlike : {refusal : Refusal} {set : ℕ} → NoClosure refusal ≡ Complete set → ⊥
-      unlike e = let z : _≡_ {A = ℕ} 0 1 = cc in omega arith
+-- ---- THE STATEMENT
 
-      go : Found few target → Found all target → Every2009 bytes target ⊎ Otherwise bytes target
-      go (found set e) f = inl (every-2009 set e)
-      go (not-found refusal is e) (found set f) =
-          inr (another-type (λ every. unlike (sym e ∙ same-closure few all part target (kept every) ∙ f)))
-      go (not-found refusal is e) (not-found later was f) = inr (no-complete-set (λ set a. unlike (sym f ∙ sym (nothing-else all target a))))
+module _ {bytes : List ℕ} {entries : List Entry} {layers : Layers} (a : Accepts Edition2015 bytes entries layers) where
+  -- WHAT THE 2015 READING ACCEPTS, THE 2009 READING ACCEPTS, with the same entries but for what Records says.
+  pub accepted-too : Accepts Edition2009 bytes (map entryIn2009 entries) (layersOf (map entryIn2009 entries))
+  accepted-too =
+      subst (λ (es : List Entry). Accepts Edition2009 bytes es (layersOf es))
+      (entries-in-2009 bytes (outcome-is a) ∙ ap (map entryIn2009) (sym (same-entries a)))
+      (accepts Edition2009 bytes (accepted-in-2009 bytes (outcome-is a)))
+
+  module _ (target : ℕ) where
+    -- what is said of the entries and the layers, as they are computed
+    over-computed : (P : List Entry → Layers → Type 0) → P (entriesIn Edition2015 bytes) (layersIn Edition2015 bytes) → P entries layers
+    over-computed P p =
+        subst (λ (l : Layers). P entries l) (sym (same-layers a)) (subst (λ (es : List Entry). P es (layersIn Edition2015 bytes)) (sym (same-entries a)) p)
+
+    -- DEMAND 3.
+    pub agreement : Agrees bytes entries layers target
+    agreement =
+        over-computed (λ es ls. Agrees bytes es ls target)
+        (record {
+          identical = λ every t numbers lags b. (
+            λ g. as-computed Edition2015 t numbers lags (given-only Edition2009 bytes target t numbers lags g ∙ same every t numbers lags),
+            λ g. as-computed Edition2009 t numbers lags (given-only Edition2015 bytes target t numbers lags g ∙ sym (same every t numbers lags)),
+          );
+          otherwise = λ other. refused (always-refused bytes (outcome-is a) target other);
+        })
+      where
+        as-computed : (reading : Reading) (t : Table) (numbers : List ℕ) (lags : List ℤ) {b : Answer} → b ≡ answerIn reading bytes target t numbers lags
+            → Gives reading bytes target t numbers lags b
+        as-computed reading t numbers lags e =
+            subst (Gives reading bytes target t numbers lags) (sym e) (answer-given reading bytes target t numbers lags)
+
+        same : Every2009 (entriesIn Edition2015 bytes) (layersIn Edition2015 bytes) target → (t : Table) (numbers : List ℕ) (lags : List ℤ)
+            → answerIn Edition2009 bytes target t numbers lags ≡ answerIn Edition2015 bytes target t numbers lags
+        same = identical-answer bytes (outcome-is a) target
+
+        refused : AlwaysRefused bytes target → Refuses2009 bytes target
+        refused r =
+            record {
+              refusal = r .refusal;
+              is-11-or-12 = r .is-11-or-12;
+              always = λ t numbers lags. as-computed Edition2009 t numbers lags (sym (r .always t numbers lags));
+            }
+
+    -- One or the other is so.
+    pub one-or-other : Every2009 entries layers target ⊎ Otherwise entries layers target
+    one-or-other = over-computed (λ es ls. Every2009 es ls target ⊎ Otherwise es ls target) (either-way bytes (outcome-is a) target)

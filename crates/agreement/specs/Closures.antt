@@ -3,7 +3,7 @@
 -- Assumes nothing.
 use Prim.Native.Nat.{ℕ}
 use mathlib.Core.Path.{_≡_, refl, sym, _∙_, ap}
-use mathlib.Core.Bool.{Bool, true, false, true≢false}
+use mathlib.Core.Bool.{Bool, true, false, true≢false, not-eq-not}
 use lib.ListN.{getD}
 use Rattle.sets.specs.Sets.{has}
 use Rattle.vocabulary.specs.declared.LayerIndex.{LayerIndex}
@@ -20,10 +20,6 @@ use Rattle.closure.specs.Laws.{meets, nothing-else, given-complete}
 pub record PartOf (few all : Layers) : Type 0 where
   pub in-all : (i : ℕ) → isLayer few i ≡ true → isLayer all i ≡ true
   pub same-embedded : (i : ℕ) → isLayer few i ≡ true → getD (few .embedded) i 0 ≡ getD (all .embedded) i 0
-
-false-unless : (b : Bool) → (b ≡ true → ⊥) → b ≡ false
-false-unless true f = absurd (f refl)
-false-unless false f = refl
 
 module _ (few all : Layers) (part : PartOf few all) (target : ℕ) where
   names-all : {i j : ℕ} → Names few i j → Names all i j
@@ -44,7 +40,7 @@ module _ (few all : Layers) (part : PartOf few all) (target : ℕ) where
 
   -- what is in no loop of all is in none of few
   not-in-few : (j : ℕ) → isLayer all j ≡ false → isLayer few j ≡ false
-  not-in-few j h = false-unless (isLayer few j) (λ p. true≢false (sym (part .in-all j p) ∙ h))
+  not-in-few j h = not-eq-not {a = isLayer few j} {b = false} .0 (λ p. true≢false (sym (part .in-all j p) ∙ h))
 
   -- WHERE NONE THAT THE TARGET RESTS ON IS LEFT OUT, the answer is the same.
   module _ (kept : (j : ℕ) → RestsOn all target j → isLayer all j ≡ true → isLayer few j ≡ true) where
@@ -56,7 +52,7 @@ module _ (few all : Layers) (part : PartOf few all) (target : ℕ) where
     missing-all {j} m =
         record {
           rested-on = rests-all (m .rested-on);
-          not-in-loop = false-unless (isLayer all j) (λ p. true≢false (sym (kept j (rests-all (m .rested-on)) p) ∙ m .not-in-loop));
+          not-in-loop = not-eq-not {a = isLayer all j} {b = false} .0 (λ p. true≢false (sym (kept j (rests-all (m .rested-on)) p) ∙ m .not-in-loop));
         }
 
     missing-few : {j : ℕ} → Missing all target j → Missing few target j

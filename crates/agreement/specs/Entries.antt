@@ -3,7 +3,7 @@
 -- Assumes nothing.
 use Prim.Native.Nat.{ℕ, suc, _<_}
 use mathlib.Core.Path.{_≡_, refl, sym, _∙_, ap, ap₂, subst}
-use mathlib.Core.Bool.{Bool, true, false, cond}
+use mathlib.Core.Bool.{Bool, true, false, cond, true≢false, false≢true, not-eq-not}
 use mathlib.Core.List.{List, [], _∷_, map, nil≢cons, head-eq-of-cons-eq}
 use native.Mathlib.Omega.{arith}
 use native.Mathlib.Decide.{decLt}
@@ -13,6 +13,7 @@ use Rattle.combinators.specs.Lists.{Nth, here, there, nth-of-map, any, any-whic
 use Rattle.combinators.specs.Padding.{padTo}
 use Rattle.framing.specs.Pieces.{Item, whole, broken}
 use Rattle.vocabulary.specs.declared.LayerIndex.{LayerIndex}
+use Rattle.vocabulary.specs.declared.stream_types.Reading.{Reading}
 use Rattle.vocabulary.specs.declared.stream_types.Reading.the-variants.{Edition2009, Edition2015}
 use Rattle.vocabulary.specs.StreamTypes.{known}
 use Rattle.descriptors.specs.declared.records.HierarchyRecord.{HierarchyRecord}
@@ -35,13 +36,6 @@ use Rattle.loop_layers.specs.Meant.{entries-read}
 use Rattle.agreement.specs.Records.{viewUnread, recordIn2009, withRecord, entryIn2009, known-later}
 use Rattle.agreement.specs.Looking.{kindIn2009, heldIn2009, isExtension, Plain, kinds-alike, held-alike}
 
-false-unless : (b : Bool) → (b ≡ true → ⊥) → b ≡ false
-false-unless true f = absurd (f refl)
-false-unless false f = refl
-
-apart : {A : Type 0} → false ≡ true → A
-apart e = let z : _≡_ {A = ℕ} 0 1 = cc in absurd (omega arith)
-
 -- ---- a kind of the 2009 reading that is refused is that of the 2015 reading too
 
 was-unfit : (x : Kind) → kindIn2009 x ≡ does-not-fit → x ≡ does-not-fit
@@ -52,11 +46,11 @@ was-unfit (hierarchy h) e = let z : _≡_ {A = ℕ} 0 1 = cc in absurd (omega ar
 was-unfit (extension x layers) e = let z : _≡_ {A = ℕ} 0 1 = cc in absurd (omega arith)
 
 is-wrong : (x : Kind) → isWrongLength x ≡ true → x ≡ wrong-length
-is-wrong does-not-fit e = apart e
-is-wrong skipped e = apart e
+is-wrong does-not-fit e = absurd (false≢true e)
+is-wrong skipped e = absurd (false≢true e)
 is-wrong wrong-length e = refl
-is-wrong (hierarchy h) e = apart e
-is-wrong (extension x layers) e = apart e
+is-wrong (hierarchy h) e = absurd (false≢true e)
+is-wrong (extension x layers) e = absurd (false≢true e)
 
 was-wrong : (x : Kind) → kindIn2009 x ≡ wrong-length → isWrongLength x ≡ true
 was-wrong does-not-fit e = let z : _≡_ {A = ℕ} 0 1 = cc in absurd (omega arith)
@@ -72,7 +66,7 @@ type-refused t (Hierarchy h) (hierarchy-type p) = hierarchy-type p
 
 -- a flag that the 2009 reading answers as 0 is 0
 flag-read : (h : HierarchyRecord) (f : Flag) → flag (viewUnread h) f ≡ false → flag h f ≡ false
-flag-read h view p = apart (sym p)
+flag-read h view p = absurd (true≢false p)
 flag-read h temporal p = p
 flag-read h spatial p = p
 flag-read h quality p = p
@@ -93,13 +87,13 @@ many-refused NoRecord w = w
 many-refused (Hierarchy h) w = absurd (none w)
   where
     none : {h : HierarchyRecord} → TooManyEmbedded (Hierarchy h) → ⊥
-    none w = apart ((refusal-10 _) .1 w)
-many-refused (Extension x) w = apart ((refusal-10 NoRecord) .1 w)
+    none w = false≢true ((refusal-10 _) .1 w)
+many-refused (Extension x) w = absurd (false≢true ((refusal-10 NoRecord) .1 w))
 
 same-index : (r : Record) → isExtension r ≡ false → indexOf (recordIn2009 r) ≡ indexOf r
 same-index NoRecord e = refl
 same-index (Hierarchy h) e = refl
-same-index (Extension x) e = apart (sym e)
+same-index (Extension x) e = absurd (true≢false e)
 
 -- ---- the conditions of an accepted loop: none holds in the 2015 reading
 
@@ -111,7 +105,7 @@ module _ (items : List Item) (none : (n k : ℕ) → Condition Edition2015 items
   plain-at : {k t : ℕ} {info : List ℕ} → KnownAt Edition2009 items k t info → Plain info
   plain-at {k} {t} {info} s =
       record {
-        right-length = false-unless (any isWrongLength kinds)
+        right-length = not-eq-not {a = any isWrongLength kinds} {b = false} .0
             (λ e.
             let w = any-which isWrongLength kinds e in
             none 4 k (length-wrong (known-too s) (subst (λ (x : Kind). Nth kinds (w .0) x) (is-wrong (w .1) (w .3)) (w .2))));
@@ -251,7 +245,14 @@ module _ (items : List Item) (none : (n k : ℕ) → Condition Edition2015 items
 
 -- ---- the two readings of the bytes
 
-module _ (bytes : List ℕ) (is-accepted : (loopRead Edition2015 bytes) .outcome ≡ Accepted) where
+-- a reading accepts the loop of these bytes; and its entries
+abbrev pub IsAccepted : Reading → List ℕ → Type 0
+IsAccepted reading bytes = (loopRead reading bytes) .outcome ≡ Accepted
+
+abbrev pub entriesIn : Reading → List ℕ → List Entry
+entriesIn reading bytes = entriesRead (loopRead reading bytes)
+
+module _ (bytes : List ℕ) (is-accepted : IsAccepted Edition2015 bytes) where
   record Both : Type 0 where
     items : List Item
     in-2015 : loopRead Edition2015 bytes ≡ accepted (map (streamOf Edition2015) items)
@@ -273,11 +274,11 @@ module _ (bytes : List ℕ) (is-accepted : (loopRead Edition2015 bytes) .outcome
           }
 
   -- WHAT THE 2015 READING ACCEPTS, THE 2009 READING ACCEPTS,
-  pub accepted-in-2009 : (loopRead Edition2009 bytes) .outcome ≡ Accepted
+  pub accepted-in-2009 : IsAccepted Edition2009 bytes
   accepted-in-2009 = ap (λ (r : LoopRead). r .outcome) (both .in-2009)
 
   -- with the same entries, in the same order, but for what Records says.
-  pub entries-in-2009 : entriesRead (loopRead Edition2009 bytes) ≡ map entryIn2009 (entriesRead (loopRead Edition2015 bytes))
+  pub entries-in-2009 : entriesIn Edition2009 bytes ≡ map entryIn2009 (entriesIn Edition2015 bytes)
   entries-in-2009 =
       ap entriesRead (both .in-2009)
       ∙ entries-read (map (streamOf Edition2009) (both .items))
@@ -286,10 +287,10 @@ module _ (bytes : List ℕ) (is-accepted : (loopRead Edition2015 bytes) .outcome
       ∙ ap (λ (r : LoopRead). map entryIn2009 (entriesRead r)) (sym (both .in-2015))
 
   -- On a 2009 stream type there is no extension: 6 would refuse it.
-  pub no-extension : {k : ℕ} {e : Entry} → Nth (entriesRead (loopRead Edition2015 bytes)) k e → known Edition2009 (e .«stream_type») ≡ true
+  pub no-extension : {k : ℕ} {e : Entry} → Nth (entriesIn Edition2015 bytes) k e → known Edition2009 (e .«stream_type») ≡ true
       → isExtension (e .«record») ≡ false
   no-extension {k} {e} n p =
-      let are : entriesRead (loopRead Edition2015 bytes) ≡ map entryOf (map (streamOf Edition2015) (both .items)) =
+      let are : entriesIn Edition2015 bytes ≡ map entryOf (map (streamOf Edition2015) (both .items)) =
       ap entriesRead (both .in-2015) ∙ entries-read (map (streamOf Edition2015) (both .items)) in
       let s = nth-of-map entryOf (map (streamOf Edition2015) (both .items)) (subst (λ (l : List Entry). Nth l k e) are n) in
       let x = nth-of-map (streamOf Edition2015) (both .items) (s .1) in

@@ -3,7 +3,7 @@
 -- Assumes nothing.
 use Prim.Native.Nat.{ℕ, _<_}
 use mathlib.Core.Path.{_≡_, refl, sym, _∙_, ap, ap₂, subst}
-use mathlib.Core.Bool.{Bool, true, false, cond, _&&_, _||_}
+use mathlib.Core.Bool.{Bool, true, false, cond, _&&_, _||_, true≢false, false≢true}
 use mathlib.Core.List.{List, []}
 use mathlib.Core.Logic.{_↔_}
 use native.Mathlib.Decide.{decLt}
@@ -33,13 +33,10 @@ use Rattle.loop_layers.specs.Meaning.{LayerAt, LayerOf, HasLayer}
 use Rattle.loop_layers.specs.Columns.{column-meant}
 use Rattle.loop_layers.specs.Meant.{layers-meant}
 use Rattle.loop_layers.specs.Accepted.{every-layer}
-use Rattle.agreement.specs.Meaning.{Accepts, entriesIn, StreamType2009, avc, svc, mvc}
+use Rattle.agreement.specs.Meaning.{StreamType2009, avc, svc, mvc}
 use Rattle.agreement.specs.Records.{recordIn2009, withRecord, entryIn2009}
 use Rattle.agreement.specs.Looking.{isExtension}
-use Rattle.agreement.specs.Entries.{accepted-in-2009, entries-in-2009, no-extension}
-
-apart : {A : Type 0} → false ≡ true → A
-apart e = let z : _≡_ {A = ℕ} 0 1 = cc in absurd (omega arith)
+use Rattle.agreement.specs.Entries.{IsAccepted, entriesIn, accepted-in-2009, entries-in-2009, no-extension}
 
 -- The entries have a layer of index i, and its stream has a 2009 stream type.
 pub record HasType2009 (entries : List Entry) (i : ℕ) : Type 0 where
@@ -57,7 +54,7 @@ types-2009 t = (to, from)
     one true b c e f g h = f refl
     one false true c e f g h = g refl
     one false false true e f g h = h refl
-    one false false false e f g h = apart e
+    one false false false e f g h = absurd (false≢true e)
 
     to : known Edition2009 t ≡ true → StreamType2009 t
     to e =
@@ -82,14 +79,14 @@ module _ (e : Entry) where
   -- of a 2009 stream type
   by-record : (r : Record) (layers : List LayerIndex) → Judging.isLayer r ≡ true → isExtension r ≡ false
       → Alike (withRecord e r layers) (withRecord e (recordIn2009 r) layers)
-  by-record NoRecord layers l x = apart l
+  by-record NoRecord layers l x = absurd (false≢true l)
   by-record (Hierarchy h) layers l x = record { layer = refl; still = refl; index = refl; names = refl }
-  by-record (Extension y) layers l x = apart (sym x)
+  by-record (Extension y) layers l x = absurd (true≢false x)
 
   was-layer : (r : Record) → Judging.isLayer (recordIn2009 r) ≡ true → (Judging.isLayer r ≡ true) × (isExtension r ≡ false)
-  was-layer NoRecord l = apart l
+  was-layer NoRecord l = absurd (false≢true l)
   was-layer (Hierarchy h) l = (refl, refl)
-  was-layer (Extension x) l = apart l
+  was-layer (Extension x) l = absurd (false≢true l)
 
   in-2009 : known Edition2009 (e .«stream_type») ≡ true → entryIn2009 e ≡ withRecord e (recordIn2009 (e .«record»)) (e .embedded)
   in-2009 p =
@@ -110,7 +107,9 @@ module _ (e : Entry) where
           let w = was-layer (e .«record») (sym (ap (λ (x : Entry). Judging.isLayer (x .«record»)) (in-2009 p)) ∙ l) in
           record { type = p; alike = stays p (w .0) (w .1) }
       go false p =
-          apart (sym (ap (λ (b : Bool). Judging.isLayer ((cond b (withRecord e (recordIn2009 (e .«record»)) (e .embedded)) (withRecord e NoRecord (padTo 63 noLayer []))) .«record»)) p) ∙ l)
+          absurd
+          (false≢true
+          (sym (ap (λ (b : Bool). Judging.isLayer ((cond b (withRecord e (recordIn2009 (e .«record»)) (e .embedded)) (withRecord e NoRecord (padTo 63 noLayer []))) .«record»)) p) ∙ l))
 
 -- ---- the layers of a loop in both readings
 
@@ -125,7 +124,7 @@ one-layer {entries} {i} {a} {b} l m = go (decLt (l .place) (m .place)) (decLt (m
         let equal : l .place ≡ m .place = omega arith in
         nth-one (subst (λ (n : ℕ). Nth entries n a) equal (l .at-place .entry)) (m .at-place .entry)
 
-module _ (bytes : List ℕ) (is-accepted : Accepts Edition2015 bytes) where
+module _ (bytes : List ℕ) (is-accepted : IsAccepted Edition2015 bytes) where
   abbrev entries2015 : List Entry
   entries2015 = entriesIn Edition2015 bytes
 

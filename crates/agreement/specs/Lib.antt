@@ -5,5 +5,6 @@ pub mod Entries
 pub mod Layers
 pub mod Closures
 pub mod Joined
+pub mod Computed
 pub mod Agreement
 pub mod Examples

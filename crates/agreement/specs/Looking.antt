@@ -3,7 +3,7 @@
 -- Assumes nothing.
 use Prim.Native.Nat.{ℕ, _+_, _<_}
 use mathlib.Core.Path.{_≡_, refl, _∙_, ap, ap₂}
-use mathlib.Core.Bool.{Bool, true, false, cond, _&&_}
+use mathlib.Core.Bool.{Bool, true, false, cond, _&&_, true≢false}
 use mathlib.Core.List.{List, [], _∷_, map}
 use native.Mathlib.Omega.{arith}
 use lib.Dec.{eqb, ltb}
@@ -17,10 +17,6 @@ use Rattle.descriptors.specs.declared.records.Record.the-variants.{NoRecord, Hi
 use Rattle.descriptors.specs.Records.{hierarchyOf, extensionOf, embeddedOf}
 use Rattle.descriptors.specs.Looking.{Kind, does-not-fit, skipped, wrong-length, hierarchy, extension, tag4Kind, extensionKind, descriptorTag, descriptorLength, kindOf, kindsOf, Held, heldIn, isWrongLength, firstRecord}
 use Rattle.agreement.specs.Records.{viewUnread, recordIn2009, same-hierarchy}
-
--- a test that is true is not false
-apart : {A : Type 0} → true ≡ false → A
-apart e = let z : _≡_ {A = ℕ} 0 1 = cc in absurd (omega arith)
 
 -- ---- one descriptor
 
@@ -45,7 +41,7 @@ kind-in-2009 (whole head payload) e = by-4 (eqb (descriptorTag head) 4) e
     extensions : (b c : Bool) → isWrongLength (cond b (cond c (extension (extensionOf payload) (embeddedOf payload)) wrong-length) skipped) ≡ false
         → skipped ≡ kindIn2009 (cond b (cond c (extension (extensionOf payload) (embeddedOf payload)) wrong-length) skipped)
     extensions true true p = refl
-    extensions true false p = apart p
+    extensions true false p = absurd (true≢false p)
     extensions false c p = refl
 
     by-63 : (b : Bool) → isWrongLength (cond b (extensionKind payload) skipped) ≡ false
@@ -96,7 +92,7 @@ one-held (skipped ∷ ks) h e = one-held ks h e
 one-held (wrong-length ∷ ks) h e = one-held ks h e
 one-held (hierarchy x ∷ ks) h e =
     ap (λ (hs : List Held). record { held = Hierarchy (viewUnread x); layers = [] } ∷ hs) (none-held ks (omega arith))
-one-held (extension x layers ∷ ks) h e = apart e
+one-held (extension x layers ∷ ks) h e = absurd (true≢false e)
 
 -- What 4, 5 and 6 leave of the descriptors of a 2009 stream, where they are not given.
 pub record Plain (info : List ℕ) : Type 0 where

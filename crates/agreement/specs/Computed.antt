@@ -1,0 +1,168 @@
+-- DEMAND 3 OF WHAT IS COMPUTED, as the call `import` promises it: where every stream that the target rests on has a 2009 stream type the
+-- two readings' answers are equal, `identical-answer`; otherwise the 2009 reading's is a refusal with 11 or 12, `always-refused`.
+-- Assumes nothing.
+use Prim.Native.Nat.{ℕ}
+use mathlib.Core.Path.{_≡_, refl, sym, _∙_, ap, ap₂, subst}
+use mathlib.Core.Bool.{Bool, true}
+use mathlib.Core.List.{List}
+use mathlib.Core.Logic.{_⊎_, inl, inr}
+use native.Mathlib.Omega.{arith}
+use lib.IntN.{ℤ}
+use lib.ListN.{length, getD}
+use Rattle.sets.specs.Sets.{has}
+use Rattle.vocabulary.specs.declared.stream_types.Reading.{Reading}
+use Rattle.vocabulary.specs.declared.stream_types.Reading.the-variants.{Edition2009, Edition2015}
+use Rattle.vocabulary.specs.declared.refusal.Refusal.{Refusal}
+use Rattle.vocabulary.specs.Refusals.{numberOf}
+use Rattle.es_loop.specs.declared.reader.Outcome.{Outcome}
+use Rattle.es_loop.specs.declared.reader.Outcome.the-variants.{Accepted}
+use Rattle.closure.specs.declared.Layers.{Layers}
+use Rattle.closure.specs.declared.Closure.{Closure}
+use Rattle.closure.specs.declared.Closure.the-variants.{Complete, Refused as NoClosure}
+use Rattle.closure.specs.Closures.{isLayer, closureOf}
+use Rattle.closure.specs.Meaning.{RestsOn}
+use Rattle.closure.specs.Meaning as Target
+use Rattle.closure.specs.Laws.{meets, nothing-else, given-complete}
+use Rattle.loop_layers.specs.Closures.{closureFor, loopClosure}
+use Rattle.loop_layers.specs.Layers.{layersOf}
+use Rattle.joining.specs.declared.answer.Joined.{Joined}
+use Rattle.joining.specs.declared.answer.Joined.the-variants.{Refused}
+use Rattle.joining.specs.Table.{Table}
+use Rattle.joining.specs.Joining.{joinedIn, joinedOf, numbersAfter, lagsAfter}
+use Rattle.importing.specs.Importing.{importFor, importOf, importedNumbers, importedLags}
+use Rattle.agreement.specs.Meaning.{Every2009, Otherwise, another-type, no-complete-set, Answer, answerOf, NoSet}
+use Rattle.agreement.specs.Entries.{IsAccepted, entriesIn, accepted-in-2009}
+use Rattle.agreement.specs.Layers.{HasType2009, layers-in-2009, layers-in-2015, same-embedded, has-layer, one-type}
+use Rattle.agreement.specs.Closures.{PartOf, same-closure, every-kept, Found, found, not-found, find}
+use Rattle.agreement.specs.Joined.{joined-alike, numbers-alike, lags-alike}
+
+-- the layers of a loop's entries
+abbrev pub layersIn : Reading → List ℕ → Layers
+layersIn reading bytes = layersOf (entriesIn reading bytes)
+
+-- the answer of the import for the bytes of a loop
+abbrev pub answerIn : Reading → List ℕ → ℕ → Table → List ℕ → List ℤ → Answer
+answerIn reading bytes target t numbers lags =
+    let joined : Joined = importOf reading bytes target t (length numbers) (length lags) in
+    answerOf (loopClosure reading bytes target) joined (importedNumbers reading bytes target t joined numbers) (importedLags reading bytes target t joined lags)
+
+-- the same in the layers of an accepted loop
+abbrev inLayers : Layers → ℕ → Table → List ℕ → List ℤ → Answer
+inLayers layers target t numbers lags =
+    let joined : Joined = joinedOf layers target t (length numbers) (length lags) in
+    answerOf (closureOf layers target) joined (numbersAfter layers target t joined numbers) (lagsAfter layers target t joined lags)
+
+in-layers : (reading : Reading) (bytes : List ℕ) → IsAccepted reading bytes → (target : ℕ) (t : Table) (numbers : List ℕ) (lags : List ℤ)
+    → answerIn reading bytes target t numbers lags ≡ inLayers (layersIn reading bytes) target t numbers lags
+in-layers reading bytes e target t numbers lags =
+    ap
+    (λ (o : Outcome).
+    let layers : Layers = layersIn reading bytes in
+    let joined : Joined = importFor o layers target t (length numbers) (length lags) in
+    answerOf (closureFor o (entriesIn reading bytes) target) joined (numbersAfter layers target t joined numbers) (lagsAfter layers target t joined lags))
+    e
+
+pub same-answer : {c d : Closure} {j k : Joined} {m n : List ℕ} {a b : List ℤ} → c ≡ d → j ≡ k → m ≡ n → a ≡ b → answerOf c j m a ≡ answerOf d k n b
+same-answer {c} {d} {j} {k} {m} {n} {a} {b} p q r s =
+    ap₂ (λ (x : Closure) (y : Joined). answerOf x y m a) p q ∙ ap₂ (λ (x : List ℕ) (y : List ℤ). answerOf d k x y) r s
+
+-- the 2009 reading refuses, with one refusal for every row table and both lists
+pub record AlwaysRefused (bytes : List ℕ) (target : ℕ) : Type 0 where
+  pub refusal : Refusal
+  pub is-11-or-12 : NoSet refusal
+  pub always : (t : Table) (numbers : List ℕ) (lags : List ℤ)
+      → answerIn Edition2009 bytes target t numbers lags ≡ answerOf (NoClosure refusal) (Refused refusal) numbers lags
+
+module _ (bytes : List ℕ) (is-accepted : IsAccepted Edition2015 bytes) (target : ℕ) where
+  abbrev few : Layers
+  few = layersIn Edition2009 bytes
+
+  abbrev all : Layers
+  all = layersIn Edition2015 bytes
+
+  part : PartOf few all
+  part =
+      record {
+        in-all = λ i h. layers-in-2015 bytes is-accepted i (layers-in-2009 bytes is-accepted i .0 h);
+        same-embedded = same-embedded bytes is-accepted;
+      }
+
+  -- no layer that the target rests on is left out
+  kept : Every2009 (entriesIn Edition2015 bytes) all target → (j : ℕ) → RestsOn all target j → isLayer all j ≡ true → isLayer few j ≡ true
+  kept every j r h =
+      let l = has-layer bytes is-accepted h in
+      let at-place = l .layer .at-place in
+      layers-in-2009 bytes is-accepted j .1
+      (record { place = l .layer .place; entry = l .entry; layer = at-place; type = every .has-type (l .layer .place) j (l .entry) r at-place })
+
+  alike : Every2009 (entriesIn Edition2015 bytes) all target → (t : Table) (numbers : List ℕ) (lags : List ℤ) → inLayers few target t numbers lags ≡ inLayers all target t numbers lags
+  alike every t numbers lags =
+      same-answer closures (joined-alike few all target closures same t (length numbers) (length lags))
+      (numbers-alike few all target closures same t (length numbers) (length lags) numbers)
+      (lags-alike few all target closures same t (length numbers) (length lags) lags)
+    where
+      closures : closureOf few target ≡ closureOf all target
+      closures = same-closure few all part target (kept every)
+
+      same : (closure : ℕ) → closureOf all target ≡ Complete closure
+          → (i : ℕ) → has closure i ≡ true → getD (few .embedded) i 0 ≡ getD (all .embedded) i 0
+      same closure e i h =
+          let w = given-complete all target closure .0 e .1 in
+          let r = w .members i .0 h in
+          same-embedded bytes is-accepted i (kept every i r (w .in-loop i r))
+
+  -- where the 2009 reading finds no closure, it refuses, whatever the row table and the lists hold
+  refused : (refusal : Refusal) → NoSet refusal → closureOf few target ≡ NoClosure refusal → AlwaysRefused bytes target
+  refused refusal is e =
+      record {
+        refusal = refusal;
+        is-11-or-12 = is;
+        always = λ t numbers lags. in-layers Edition2009 bytes (accepted-in-2009 bytes is-accepted) target t numbers lags
+            ∙ ap
+            (λ (c : Closure).
+            let joined : Joined = joinedIn few target t (length numbers) (length lags) c in
+            answerOf c joined (numbersAfter few target t joined numbers) (lagsAfter few target t joined lags))
+            e;
+      }
+
+  -- where it finds one, every stream that the target rests on has a 2009 stream type, and the 2015 reading finds the same
+  pub every-2009 : (set : ℕ) → closureOf few target ≡ Complete set → Every2009 (entriesIn Edition2015 bytes) all target
+  every-2009 set e =
+      record { has-type = λ k j x r l. one-type bytes is-accepted (layers-in-2009 bytes is-accepted j .0 (every-kept few all part target set e j r)) l }
+
+  complete-too : (set : ℕ) → closureOf few target ≡ Complete set → Target.Answers all target (Complete set)
+  complete-too set e =
+      subst (Target.Answers all target) (sym (same-closure few all part target (kept (every-2009 set e))) ∙ e) (meets all target)
+
+  not-otherwise : (set : ℕ) → closureOf few target ≡ Complete set → Otherwise (entriesIn Edition2015 bytes) all target → ⊥
+  not-otherwise set e (another-type other) = other (every-2009 set e)
+  not-otherwise set e (no-complete-set none) = none set (complete-too set e)
+
+  -- THE IDENTICAL ANSWER,
+  pub identical-answer : Every2009 (entriesIn Edition2015 bytes) all target → (t : Table) (numbers : List ℕ) (lags : List ℤ)
+      → answerIn Edition2009 bytes target t numbers lags ≡ answerIn Edition2015 bytes target t numbers lags
+  identical-answer every t numbers lags =
+      in-layers Edition2009 bytes (accepted-in-2009 bytes is-accepted) target t numbers lags
+      ∙ alike every t numbers lags
+      ∙ sym (in-layers Edition2015 bytes is-accepted target t numbers lags)
+
+  -- or 11 or 12.
+  pub always-refused : Otherwise (entriesIn Edition2015 bytes) all target → AlwaysRefused bytes target
+  always-refused = go (find few target)
+    where
+      go : Found few target → Otherwise (entriesIn Edition2015 bytes) all target → AlwaysRefused bytes target
+      go (found set e) other = absurd (not-otherwise set e other)
+      go (not-found refusal is e) other = refused refusal is e
+
+  -- One or the other is so.
+  pub either-way : Every2009 (entriesIn Edition2015 bytes) all target ⊎ Otherwise (entriesIn Edition2015 bytes) all target
+  either-way = go (find few target) (find all target)
+    where
+      unlike : {refusal : Refusal} {set : ℕ} → NoClosure refusal ≡ Complete set → ⊥
+      unlike e = let z : _≡_ {A = ℕ} 0 1 = cc in omega arith
+
+      go : Found few target → Found all target → Every2009 (entriesIn Edition2015 bytes) all target ⊎ Otherwise (entriesIn Edition2015 bytes) all target
+      go (found set e) f = inl (every-2009 set e)
+      go (not-found refusal is e) (found set f) =
+          inr (another-type (λ every. unlike (sym e ∙ same-closure few all part target (kept every) ∙ f)))
+      go (not-found refusal is e) (not-found later was f) = inr (no-complete-set (λ set a. unlike (sym f ∙ sym (nothing-else all target a))))
