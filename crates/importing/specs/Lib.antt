@@ -1,5 +1,4 @@
 pub mod Importing
 pub mod Meaning
 pub mod Meant
-pub mod Numbers
 pub mod Examples
