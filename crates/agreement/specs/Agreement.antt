@@ -3,12 +3,11 @@
 -- `one-or-other`; and a reading gives one answer, `answer-given` and `one-answer`.
 -- Assumes nothing.
 use Prim.Native.Nat.{ℕ}
-use mathlib.Core.Path.{_≡_, refl, sym, _∙_, ap, ap₂, subst}
+use mathlib.Core.Path.{_≡_, refl, sym, _∙_, ap, subst}
 use mathlib.Core.List.{List, map}
 use mathlib.Core.Logic.{_⊎_, inl, inr}
 use native.Mathlib.Omega.{arith}
 use lib.IntN.{ℤ}
-use lib.ListN.{length}
 use Rattle.vocabulary.specs.declared.stream_types.Reading.{Reading}
 use Rattle.vocabulary.specs.declared.stream_types.Reading.the-variants.{Edition2009, Edition2015}
 use Rattle.vocabulary.specs.declared.refusal.Refusal.{Refusal}
@@ -17,13 +16,12 @@ use Rattle.es_loop.specs.declared.entries.Entry.{Entry}
 use Rattle.es_loop.specs.declared.entries.Stream.{Stream}
 use Rattle.es_loop.specs.declared.reader.Outcome.the-variants.{Accepted}
 use Rattle.es_loop.specs.declared.reader.LoopRead.{LoopRead}
-use Rattle.es_loop.specs.Entries.{streamOf, entryOf}
+use Rattle.es_loop.specs.Entries.{streamOf}
 use Rattle.es_loop.specs.Reading.{accepted, loopRead}
 use Rattle.es_loop.specs.Meaning.{too-long, refuses}
 use Rattle.es_loop.specs.Meaning as Loop
 use Rattle.es_loop.specs.Meant.{answer-meant, answer-only}
 use Rattle.closure.specs.declared.Layers.{Layers}
-use Rattle.closure.specs.declared.Closure.{Closure}
 use Rattle.joining.specs.declared.answer.Joined.{Joined}
 use Rattle.joining.specs.Table.{Table}
 use Rattle.loop_layers.specs.Closures.{entriesRead}
@@ -31,7 +29,7 @@ use Rattle.loop_layers.specs.Layers.{layersOf}
 use Rattle.loop_layers.specs.Meant.{layers-meant, layers-only, entries-read, loop-answer-meant, loop-answer-only}
 use Rattle.importing.specs.Importing.{importedNumbers, importedLags}
 use Rattle.importing.specs.Meant.{import-meant, import-only}
-use Rattle.agreement.specs.Meaning.{Accepts, Every2009, Otherwise, Answer, answerOf, Gives, NoSet, no-such-layer, embedded-layer-absent, Refuses2009, Agrees}
+use Rattle.agreement.specs.Meaning.{Accepts, Every2009, Otherwise, Answer, Gives, NoSet, no-such-layer, embedded-layer-absent, Refuses2009, Agrees}
 use Rattle.agreement.specs.Records.{entryIn2009}
 use Rattle.agreement.specs.Entries.{IsAccepted, entriesIn, accepted-in-2009, entries-in-2009}
 use Rattle.agreement.specs.Computed.{layersIn, answerIn, same-answer, identical-answer, AlwaysRefused, always-refused, either-way}

@@ -3,10 +3,9 @@
 -- Assumes nothing.
 use Prim.Native.Nat.{ℕ}
 use mathlib.Core.Path.{_≡_, refl, sym, _∙_, ap}
-use mathlib.Core.Bool.{Bool, true, false, true≢false, not-eq-not}
+use mathlib.Core.Bool.{true, false, true≢false, not-eq-not}
 use lib.ListN.{getD}
 use Rattle.sets.specs.Sets.{has}
-use Rattle.vocabulary.specs.declared.LayerIndex.{LayerIndex}
 use Rattle.vocabulary.specs.declared.refusal.Refusal.{Refusal}
 use Rattle.vocabulary.specs.declared.refusal.Refusal.the-variants.{NoSuchLayer, EmbeddedLayerAbsent}
 use Rattle.closure.specs.declared.Layers.{Layers}

@@ -2,8 +2,8 @@
 -- two readings' answers are equal, `identical-answer`; otherwise the 2009 reading's is a refusal with 11 or 12, `always-refused`.
 -- Assumes nothing.
 use Prim.Native.Nat.{ℕ}
-use mathlib.Core.Path.{_≡_, refl, sym, _∙_, ap, ap₂, subst}
-use mathlib.Core.Bool.{Bool, true}
+use mathlib.Core.Path.{_≡_, sym, _∙_, ap, ap₂, subst}
+use mathlib.Core.Bool.{true}
 use mathlib.Core.List.{List}
 use mathlib.Core.Logic.{_⊎_, inl, inr}
 use native.Mathlib.Omega.{arith}
@@ -13,9 +13,7 @@ use Rattle.sets.specs.Sets.{has}
 use Rattle.vocabulary.specs.declared.stream_types.Reading.{Reading}
 use Rattle.vocabulary.specs.declared.stream_types.Reading.the-variants.{Edition2009, Edition2015}
 use Rattle.vocabulary.specs.declared.refusal.Refusal.{Refusal}
-use Rattle.vocabulary.specs.Refusals.{numberOf}
 use Rattle.es_loop.specs.declared.reader.Outcome.{Outcome}
-use Rattle.es_loop.specs.declared.reader.Outcome.the-variants.{Accepted}
 use Rattle.closure.specs.declared.Layers.{Layers}
 use Rattle.closure.specs.declared.Closure.{Closure}
 use Rattle.closure.specs.declared.Closure.the-variants.{Complete, Refused as NoClosure}
@@ -32,7 +30,7 @@ use Rattle.joining.specs.Joining.{joinedIn, joinedOf, numbersAfter, lagsAfter}
 use Rattle.importing.specs.Importing.{importFor, importOf, importedNumbers, importedLags}
 use Rattle.agreement.specs.Meaning.{Every2009, Otherwise, another-type, no-complete-set, Answer, answerOf, NoSet}
 use Rattle.agreement.specs.Entries.{IsAccepted, entriesIn, accepted-in-2009}
-use Rattle.agreement.specs.Layers.{HasType2009, layers-in-2009, layers-in-2015, same-embedded, has-layer, one-type}
+use Rattle.agreement.specs.Layers.{layers-in-2009, layers-in-2015, same-embedded, has-layer, one-type}
 use Rattle.agreement.specs.Closures.{PartOf, same-closure, every-kept, Found, found, not-found, find}
 use Rattle.agreement.specs.Joined.{joined-alike, numbers-alike, lags-alike}
 

@@ -8,7 +8,6 @@ use mathlib.Core.Bool.{true≢false}
 use native.Mathlib.Omega.{arith}
 use lib.ListN.{getD}
 use Rattle.combinators.specs.Lists.{getD-nth}
-use Rattle.vocabulary.specs.declared.LayerIndex.{LayerIndex}
 use Rattle.vocabulary.specs.declared.stream_types.Reading.the-variants.{Edition2009, Edition2015}
 use Rattle.vocabulary.specs.declared.refusal.Refusal.the-variants.{NoSuchLayer, EmbeddedLayerAbsent}
 use Rattle.es_loop.specs.declared.entries.Entry.{Entry}

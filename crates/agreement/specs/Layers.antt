@@ -24,11 +24,8 @@ use Rattle.descriptors.specs.Records.{noLayer}
 use Rattle.judging.specs.Judging.{indexOf}
 use Rattle.judging.specs.Judging as Judging
 use Rattle.es_loop.specs.declared.entries.Entry.{Entry}
-use Rattle.es_loop.specs.declared.reader.Outcome.the-variants.{Accepted}
-use Rattle.es_loop.specs.Reading.{loopRead}
 use Rattle.closure.specs.Closures.{isLayer}
 use Rattle.loop_layers.specs.Layers.{embeddedIn, layersOf}
-use Rattle.loop_layers.specs.Closures.{entriesRead}
 use Rattle.loop_layers.specs.Meaning.{LayerAt, LayerOf, HasLayer}
 use Rattle.loop_layers.specs.Columns.{column-meant}
 use Rattle.loop_layers.specs.Meant.{layers-meant}
