@@ -17,26 +17,26 @@ use Rattle.syntax.specs.Named.{named}
 use Rattle.clock.specs.Clock.{ticks, isBefore}
 use Rattle.vocabulary.specs.declared.refusal.Refusal.the-variants.{NoRoom, PtsBeforeDts, TooWide}
 use Rattle.stamps.specs.Tables as Times
-use Rattle.pes_fields.specs.Tables as Tables
 use Rattle.stamps.specs.Tables.{ptsAlone, ptsBeforeDts, tref}
 use Rattle.stamps.specs.Stamps.{dtsFlag, timeOf, stampOf, withDts, withoutDts, stampsOf, partsOf}
 use Rattle.stamps.specs.StampLaws.{stamp, stamp-before}
+use Rattle.stamps.specs.declared.Stamp.{Stamp}
+use Rattle.stamps.specs.declared.Stamps.{Stamps}
+use Rattle.pes_fields.specs.Tables as Tables
 use Rattle.pes_fields.specs.Tables.{extensionFlags, secondExtension, trefExtension}
 use Rattle.pes_fields.specs.HeaderData.{withMarker}
 use Rattle.pes_fields.specs.Meaning.{inOrder, Optional, with-tref, SecondExtension, PackHeader, PesExtension}
+use Rattle.pes_fields.specs.declared.Extension.{Extension}
+use Rattle.pes_fields.specs.declared.Extension.the-variants.{WithoutTref, WithTref}
 use Rattle.pes_reader.specs.Reading.{dataOf, judged, marksOf, matchOf, readOf}
 use Rattle.pes_reader.specs.Meaning.{VideoHeader, LaidOut}
 use Rattle.pes_reader.specs.MeaningLaws.{laid-answer}
+use Rattle.pes_reader.specs.declared.Answer.the-variants as Answer
 use Rattle.pes_writer.specs.Writing.{headValues, headerOf, tooWide, writeOf, bufferOf}
 use Rattle.pes_writer.specs.WritingLaws.{narrow}
 use Rattle.pes_writer.specs.OwnShape as own
 use Rattle.pes_writer.specs.OwnShape.{OwnTimes, alone, both, OwnExtension, OwnShape, Narrow}
 use Rattle.pes_writer.specs.OwnShapeLaws.{own-is, own-only, by-tests, writes-only}
-use Rattle.stamps.specs.declared.Stamp.{Stamp}
-use Rattle.stamps.specs.declared.Stamps.{Stamps}
-use Rattle.pes_fields.specs.declared.Extension.{Extension}
-use Rattle.pes_fields.specs.declared.Extension.the-variants.{WithoutTref, WithTref}
-use Rattle.pes_reader.specs.declared.Answer.the-variants as Answer
 use Rattle.pes_writer.specs.declared.Written.the-variants.{Bytes, Refused}
 
 -- ---- a time in its field

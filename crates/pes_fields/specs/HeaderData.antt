@@ -9,8 +9,8 @@ use Rattle.syntax.specs.Table.{Table, fixedHold}
 use Rattle.syntax.specs.Named.{named}
 use Rattle.stamps.specs.Tables.{tref}
 use Rattle.stamps.specs.Stamps.{dtsFlag, stampOf}
-use Rattle.pes_fields.specs.Tables.{extensionFlags, secondExtension, trefExtension}
 use Rattle.stamps.specs.declared.Stamp.{Stamp}
+use Rattle.pes_fields.specs.Tables.{extensionFlags, secondExtension, trefExtension}
 use Rattle.pes_fields.specs.declared.Extension.{Extension}
 use Rattle.pes_fields.specs.declared.Extension.the-variants.{DoesNotFit, WithoutTref, WithTref}
 

@@ -12,12 +12,12 @@ use Rattle.syntax.specs.Named.{named}
 use Rattle.clock.specs.Clock.{isBefore}
 use Rattle.vocabulary.specs.declared.refusal.Refusal.the-variants.{NotVideoHeader, NoPts, FieldsDoNotFit, WrongMarker, PtsBeforeDts}
 use Rattle.stamps.specs.Stamps.{stampsOf}
+use Rattle.stamps.specs.declared.Stamps.{Stamps}
 use Rattle.pes_fields.specs.Tables.{head}
 use Rattle.pes_fields.specs.HeaderData.{flagsOf}
 use Rattle.pes_fields.specs.Meaning.{HeaderData}
-use Rattle.pes_reader.specs.Reading.{dataOf, marksOf, matchOf}
-use Rattle.stamps.specs.declared.Stamps.{Stamps}
 use Rattle.pes_fields.specs.declared.Extension.{Extension}
+use Rattle.pes_reader.specs.Reading.{dataOf, marksOf, matchOf}
 use Rattle.pes_reader.specs.declared.Answer.{Answer}
 use Rattle.pes_reader.specs.declared.Answer.the-variants.{Times, Refused}
 

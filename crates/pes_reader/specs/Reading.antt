@@ -10,9 +10,9 @@ use Rattle.syntax.specs.Named.{named}
 use Rattle.clock.specs.Clock.{isBefore}
 use Rattle.vocabulary.specs.declared.refusal.Refusal.the-variants.{NotVideoHeader, NoPts, FieldsDoNotFit, WrongMarker, PtsBeforeDts}
 use Rattle.stamps.specs.Stamps.{stampsOf}
+use Rattle.stamps.specs.declared.Stamps.{Stamps}
 use Rattle.pes_fields.specs.Tables.{head}
 use Rattle.pes_fields.specs.HeaderData.{Flags, flagsOf, headerDataOf}
-use Rattle.stamps.specs.declared.Stamps.{Stamps}
 use Rattle.pes_fields.specs.declared.Extension.{Extension}
 use Rattle.pes_fields.specs.declared.Extension.the-variants.{DoesNotFit, WithoutTref, WithTref}
 use Rattle.pes_reader.specs.declared.Answer.{Answer}

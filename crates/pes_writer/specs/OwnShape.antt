@@ -11,9 +11,9 @@ use Rattle.syntax.specs.Table.{Written}
 use Rattle.clock.specs.Clock.{ticks, isBefore}
 use Rattle.vocabulary.specs.declared.refusal.Refusal.the-variants.{NoRoom, PtsBeforeDts, TooWide}
 use Rattle.stamps.specs.Tables as Times
-use Rattle.pes_fields.specs.Tables as Tables
 use Rattle.stamps.specs.Tables.{ptsAlone, ptsBeforeDts, tref}
 use Rattle.stamps.specs.Stamps.{partsOf}
+use Rattle.pes_fields.specs.Tables as Tables
 use Rattle.pes_fields.specs.Tables.{extensionFlags, secondExtension, trefExtension}
 use Rattle.pes_fields.specs.Meaning.{inOrder}
 use Rattle.pes_writer.specs.Writing.{headValues}

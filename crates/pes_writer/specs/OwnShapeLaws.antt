@@ -14,9 +14,9 @@ use Rattle.syntax.specs.Laws.{written, written-unique}
 use Rattle.clock.specs.Clock.{ticks, isBefore}
 use Rattle.vocabulary.specs.declared.refusal.Refusal.the-variants.{NoRoom, PtsBeforeDts, TooWide}
 use Rattle.stamps.specs.Tables as Times
-use Rattle.pes_fields.specs.Tables as Tables
 use Rattle.stamps.specs.Tables.{timeBits, ptsAlone, ptsBeforeDts, tref}
 use Rattle.stamps.specs.Stamps.{partsOf, timeField}
+use Rattle.pes_fields.specs.Tables as Tables
 use Rattle.pes_writer.specs.Writing.{timeFields, trefHead, trefFields, dataFields, headValues, ptsDtsFlagsOf, extensionFlagOf, headOf, headerOf, tooWide, writeOf, bufferOf}
 use Rattle.pes_writer.specs.WritingLaws.{times-at-most, tref-at-most, data-length, flags-below, extension-below, narrow, narrow-only}
 use Rattle.pes_writer.specs.OwnShape.{OwnTimes, alone, both, OwnExtension, with-tref, OwnShape, Narrow, Writes, too-wide, no-room, pts-before-dts}

@@ -9,9 +9,9 @@ use lib.ListN.{length, drop, length-drop}
 use Rattle.combinators.specs.Lists.{part-to-end}
 use Rattle.stamps.specs.Tables.{tref}
 use Rattle.stamps.specs.Stamps.{stampOf}
+use Rattle.stamps.specs.declared.Stamp.{Stamp}
 use Rattle.pes_fields.specs.HeaderData.{withMarker}
 use Rattle.pes_fields.specs.HeaderDataLaws.{tref-flagged, no-stream-id-extension, no-tref}
-use Rattle.stamps.specs.declared.Stamp.{Stamp}
 use Rattle.pes_fields.specs.declared.Extension.the-variants.{WithTref}
 use Rattle.pes_fields.proofs.extension_field.Statement.{statement}
 use Rattle.pes_fields.proofs.extension_field.Tie as tie

@@ -7,13 +7,13 @@ use mathlib.Core.Path.{_≡_, ap, sym, _∙_}
 use mathlib.Core.Bool.{Bool}
 use denote.Ref.{now}
 use Rattle.stamps.specs.Stamps.{dtsFlag, stampsOf}
+use Rattle.stamps.specs.declared.Stamp.{Stamp}
+use Rattle.stamps.specs.declared.Stamps.{Stamps}
 use Rattle.pes_fields.specs.Tables.{packetFlags}
 use Rattle.pes_fields.specs.HeaderData.{flagsOf}
 use Rattle.pes_fields.specs.HeaderDataLaws.{times-within}
-use Rattle.pes_reader.specs.Reading.{timesOf}
-use Rattle.stamps.specs.declared.Stamp.{Stamp}
-use Rattle.stamps.specs.declared.Stamps.{Stamps}
 use Rattle.pes_fields.specs.declared.Extension.the-variants.{DoesNotFit, WithoutTref, WithTref}
+use Rattle.pes_reader.specs.Reading.{timesOf}
 use Rattle.pes_reader.proofs.read_fields.Statement.{statement}
 use Rattle.pes_reader.proofs.read_fields.Tie as tie
 
