@@ -30,10 +30,10 @@ use Rattle.es_loop.specs.declared.entries.Entry.{Entry}
 use Rattle.es_loop.specs.declared.entries.Stream.{Stream}
 use Rattle.es_loop.specs.Entries.{entryHead, esInfoLength, seenIn, streamOf, streamsOf}
 use Rattle.es_loop.specs.Meant.{by-head}
-use Rattle.loop_writer.specs.Layout.{filled, bytesIn, tooWideIn, bitOf, hierarchyFields, extensionFields, layerTable, recordTables, infoBytes, loopBytes, tooWide}
-use Rattle.loop_writer.specs.Writing.{streamFor}
-use Rattle.loop_writer.specs.Sizes.{fit-first, fit-others, hierarchy-fit, extension-fit, layers-fit, count-small, head-fit, record-fit, length-layers}
-use Rattle.loop_writer.specs.Bytes.{extension-bytes}
+use Rattle.loop_layout.specs.Layout.{filled, bytesIn, tooWideIn, bitOf, hierarchyFields, extensionFields, layerTable, recordTables, infoBytes, loopBytes, tooWide}
+use Rattle.loop_layout.specs.Sizes.{fit-first, fit-others, hierarchy-fit, extension-fit, layers-fit, count-small, head-fit, record-fit, length-layers}
+use Rattle.loop_layout.specs.Bytes.{extension-bytes}
+use Rattle.loop_verdict.specs.Verdict.{streamFor}
 
 -- THE ENTRIES READ. The layers that a record lists, and blanks after them: what stands beyond the count in the array is not written.
 abbrev pub layersKept : Record → List LayerIndex → List LayerIndex

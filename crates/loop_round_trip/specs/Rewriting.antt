@@ -41,10 +41,11 @@ use Rattle.es_loop.specs.Conditions.{streamAt, applies, refusalOf}
 use Rattle.es_loop.specs.Reading.{refusedWith, accepted, loopRead}
 use Rattle.es_loop.specs.Entries.{entryHead, streamType, elementaryPid, esInfoLength, seenIn, streamOf, streamsOf, noStream, entryOf, blankEntry}
 use Rattle.es_loop.specs.Meant.{by-head}
-use Rattle.loop_writer.specs.Layout.{filled, bytesIn, tooWideIn, bitOf, hierarchyFields, extensionFields, layerTable, recordTables, infoBytes, entryBytes, loopBytes, tooWide}
+use Rattle.loop_layout.specs.Layout.{filled, bytesIn, tooWideIn, bitOf, hierarchyFields, extensionFields, layerTable, recordTables, infoBytes, entryBytes, loopBytes, tooWide}
+use Rattle.loop_verdict.specs.Verdict.{onUnknownType}
 use Rattle.loop_writer.specs.declared.Written.{Written}
 use Rattle.loop_writer.specs.declared.Written.the-variants.{Bytes, Refused}
-use Rattle.loop_writer.specs.Writing.{onUnknownType, answer}
+use Rattle.loop_writer.specs.Writing.{answer}
 use Rattle.loop_round_trip.specs.ReadBack.{Typed, none, one-more as one-typed, by-tag, entry-sound, descriptor-sound, hierarchy-sound, extension-sound, layer-sound}
 use Rattle.loop_round_trip.specs.RoundTrip.{Refuses, wide, too-long, judged-by, no-room, writes, refuses, numbered, none-below, same-refusal}
 use Rattle.loop_round_trip.specs.OwnShape.{Ones, ListOnes, no-more, one-more, OwnDescriptor, hierarchy-own, extension-own, OwnEntry, known-own, bare-own, OwnShape}

@@ -27,9 +27,9 @@ use Rattle.es_loop.specs.declared.entries.Entry.{Entry}
 use Rattle.es_loop.specs.declared.entries.Stream.{Stream}
 use Rattle.es_loop.specs.Entries.{noStream, blankEntry}
 use Rattle.es_loop.specs.Conditions.{streamAt, pidAt, recordAt, repeatedPid, repeatedIndex, conditions, applies}
-use Rattle.loop_writer.specs.Layout.{tooWideIn, recordTables, tooWide}
-use Rattle.loop_writer.specs.Writing.{streamFor, onUnknownType, appliesTo}
-use Rattle.loop_writer.specs.Sizes.{record-fit, count-small}
+use Rattle.loop_layout.specs.Layout.{tooWideIn, recordTables, tooWide}
+use Rattle.loop_layout.specs.Sizes.{record-fit, count-small}
+use Rattle.loop_verdict.specs.Verdict.{streamFor, onUnknownType, appliesTo}
 use Rattle.loop_round_trip.specs.ReadBack.{layersKept, normal, withoutRecord, readAs, Typed, typed-at}
 
 -- a test that is false is not true

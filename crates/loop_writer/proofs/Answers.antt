@@ -1,6 +1,6 @@
 -- The answer of writing a loop and the buffer's content, from what the tests on the way say.
 -- Assumes nothing.
-use Prim.Native.Nat.{ℕ, _+_, _≤_, _<_, min}
+use Prim.Native.Nat.{ℕ, _≤_, _<_, min}
 use mathlib.Core.Path.{_≡_, sym, _∙_, ap}
 use mathlib.Core.Bool.{true, false, cond, _||_}
 use mathlib.Core.List.{List, _++_}
@@ -20,10 +20,11 @@ use Rattle.vocabulary.specs.declared.refusal.Refusal.{Refusal}
 use Rattle.vocabulary.specs.declared.refusal.Refusal.the-variants.{LoopTooLong, NoRoom, TooWide}
 use Rattle.es_loop.specs.declared.entries.Entry.{Entry}
 use Rattle.es_loop.specs.Conditions.{refusalOf}
+use Rattle.loop_layout.specs.Layout.{loopBytes, tooWide}
+use Rattle.loop_verdict.specs.Verdict.{appliesTo}
 use Rattle.loop_writer.specs.declared.Written.{Written}
 use Rattle.loop_writer.specs.declared.Written.the-variants.{Bytes, Refused}
-use Rattle.loop_writer.specs.Layout.{loopBytes, tooWide}
-use Rattle.loop_writer.specs.Writing.{appliesTo, inRoom, answer, contentAfter, content}
+use Rattle.loop_writer.specs.Writing.{inRoom, answer, contentAfter, content}
 
 -- a count beyond the array takes all of it
 pub within-array : (array : List Entry) (count given : ℕ) → length array ≡ 201 → given ≡ min count 201 → take given array ≡ take count array

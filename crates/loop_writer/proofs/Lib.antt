@@ -1,4 +1,1 @@
-pub mod Wide
-pub mod Pieces
-pub mod Walk
 pub mod Answers

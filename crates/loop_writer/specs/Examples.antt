@@ -10,8 +10,8 @@ use Rattle.descriptors.specs.Records.{noLayer}
 use Rattle.es_loop.specs.declared.entries.Entry.{Entry}
 use Rattle.es_loop.specs.Entries.{blankEntry}
 use Rattle.es_loop.specs.Examples.{loopA}
+use Rattle.loop_layout.specs.Layout.{loopBytes}
 use Rattle.loop_writer.specs.declared.Written.the-variants.{Bytes, Refused}
-use Rattle.loop_writer.specs.Layout.{loopBytes}
 use Rattle.loop_writer.specs.Writing.{answer}
 
 abbrev base : Entry

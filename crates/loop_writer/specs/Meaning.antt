@@ -15,9 +15,9 @@ use Rattle.judging.specs.Judging.{isLayer, indexOf}
 use Rattle.judging.specs.Meaning.{TypeNotAllowed, WrongFlags, WrongEmbedded, TooManyEmbedded}
 use Rattle.es_loop.specs.declared.entries.Entry.{Entry}
 use Rattle.es_loop.specs.Conditions.{refusalOf}
+use Rattle.loop_layout.specs.Layout.{Filled, entryTables, loopBytes}
 use Rattle.loop_writer.specs.declared.Written.{Written}
 use Rattle.loop_writer.specs.declared.Written.the-variants.{Bytes, Refused}
-use Rattle.loop_writer.specs.Layout.{Filled, entryTables, loopBytes}
 
 -- 25: 'a value to be written is too wide for its field': some table of some entry cannot hold its values. Else every one can.
 pub data SomeTooWide (entries : List Entry) : Type 0 where

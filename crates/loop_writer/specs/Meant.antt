@@ -22,9 +22,10 @@ use Rattle.es_loop.specs.declared.entries.Entry.{Entry}
 use Rattle.es_loop.specs.declared.entries.Stream.{Stream}
 use Rattle.es_loop.specs.Entries.{noStream, blankEntry}
 use Rattle.es_loop.specs.Conditions.{streamAt, pidAt, recordAt, repeatedPid, repeatedIndex, conditions, applies}
+use Rattle.loop_layout.specs.Layout.{Filled, tooWideIn, entryTables, loopBytes, tooWide}
+use Rattle.loop_verdict.specs.Verdict.{streamFor, onUnknownType, appliesTo}
 use Rattle.loop_writer.specs.declared.Written.{Written}
-use Rattle.loop_writer.specs.Layout.{Filled, tooWideIn, entryTables, loopBytes, tooWide}
-use Rattle.loop_writer.specs.Writing.{streamFor, onUnknownType, appliesTo, answer}
+use Rattle.loop_writer.specs.Writing.{answer}
 use Rattle.loop_writer.specs.Meaning.{SomeTooWide, too-wide-at, EachFits, Condition, pid-seen, type-wrong, type-unknown, flags-wrong, index-held, embedded-wrong, embedded-many, Answers, too-wide, too-many, too-long, refuses, no-room, accepts}
 
 -- a test that is false is not true

@@ -1,48 +1,19 @@
 -- WHAT WRITING A LOOP ANSWERS, and what the buffer holds after it.
 -- Assumes nothing.
 use Prim.Native.Nat.{ℕ}
-use mathlib.Core.Bool.{Bool, true, false, cond, not, _&&_, _||_}
-use mathlib.Core.List.{List, _++_, map}
-use lib.Dec.{eqb, ltb}
-use lib.ListN.{length, getD, take, drop}
+use mathlib.Core.Bool.{cond, _||_}
+use mathlib.Core.List.{List, _++_}
+use lib.Dec.{ltb}
+use lib.ListN.{length, take, drop}
 use Rattle.combinators.specs.Lists.{any}
 use Rattle.combinators.specs.Lowest.{lowestNumber, earliestPlace}
-use Rattle.vocabulary.specs.declared.stream_types.Reading.the-variants.{Edition2015}
 use Rattle.vocabulary.specs.declared.refusal.Refusal.the-variants.{LoopTooLong, NoRoom, TooWide}
-use Rattle.vocabulary.specs.StreamTypes.{known}
-use Rattle.judging.specs.Judging.{isLayer}
 use Rattle.es_loop.specs.declared.entries.Entry.{Entry}
-use Rattle.es_loop.specs.declared.entries.Stream.{Stream}
-use Rattle.es_loop.specs.Entries.{blankEntry}
-use Rattle.es_loop.specs.Conditions.{applies, refusalOf}
+use Rattle.es_loop.specs.Conditions.{refusalOf}
+use Rattle.loop_layout.specs.Layout.{loopBytes, tooWide}
+use Rattle.loop_verdict.specs.Verdict.{appliesTo}
 use Rattle.loop_writer.specs.declared.Written.{Written}
 use Rattle.loop_writer.specs.declared.Written.the-variants.{Bytes, Refused}
-use Rattle.loop_writer.specs.Layout.{loopBytes, tooWide}
-
--- An entry as it is judged: a stream that fits, with its record the first and only one.
-abbrev pub streamFor : Entry → Stream
-streamFor e =
-    record {
-      fits = true;
-      «stream_type» = e .«stream_type»;
-      pid = e .pid;
-      seen = record {
-        fits = true;
-        «wrong_length» = false;
-        «second_record» = false;
-        «record» = e .«record»;
-        embedded = e .embedded;
-      };
-    }
-
--- a record on a stream type that the 2015 reading does not know
-abbrev pub onUnknownType : Entry → Bool
-onUnknownType e = isLayer (e .«record») && not (known Edition2015 (e .«stream_type»))
-
--- Whether a number applies at an entry: as reading judges, and 'the loop writer uses 6 also for a record on a stream type the 2015 reading
--- doesn't know'. Of the numbers that reading uses, 2, 4 and 5 apply to no entry that is to be written.
-abbrev pub appliesTo : List Entry → ℕ → ℕ → Bool
-appliesTo entries number k = applies (map streamFor entries) number k || (eqb number 6 && onUnknownType (getD entries k blankEntry))
 
 -- 17, or the number of bytes
 abbrev pub inRoom : ℕ → ℕ → Written

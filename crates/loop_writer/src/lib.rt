@@ -6,13 +6,6 @@ ghost use mathlib.Core.Path.{_≡_};
 ghost use Prim.Native.Nat.{min};
 ghost use lib.ListN.{length};
 ghost use Rattle.loop_writer.specs.Writing.{answer, content};
-
-mod laying;
-mod sizes;
-mod tables;
-mod verdict;
-mod widths;
-
 use es_loop::Entry;
 use es_loop::refusal_of;
 use vocabulary::Refusal;
@@ -34,23 +27,23 @@ pub fn write_loop(count: usize, entries: [Entry; 201], out: &mut [u8]) -> Writte
     ensures { λ r. ⌜ (r ≡ answer (length (now (out .entry))) count entries) × (now (out .exit) ≡ content count entries (now (out .entry))) ⌝ }
 {
     let given = lesser(count, 201);
-    if widths::some_too_wide(given, entries) {
+    if loop_layout::some_too_wide(given, entries) {
         return Written::Refused(Refusal::TooWide);
     }
     if 201 < count {
         return Written::Refused(Refusal::LoopTooLong);
     }
-    let size = sizes::loop_size(given, entries);
+    let size = loop_layout::loop_size(given, entries);
     if 1008 < size {
         return Written::Refused(Refusal::LoopTooLong);
     }
-    let fault = verdict::lowest_of(given, entries);
+    let fault = loop_verdict::lowest_of(given, entries);
     if fault.number < 11 {
         return Written::Refused(refusal_of(fault.number, fault.place));
     }
     if out.len() < size {
         return Written::Refused(Refusal::NoRoom);
     }
-    laying::put_entries(out, given, entries);
+    loop_laying::put_entries(out, given, entries);
     Written::Bytes(size)
 }

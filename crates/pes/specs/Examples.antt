@@ -3,9 +3,9 @@
 use Prim.Native.Nat.{ℕ}
 use mathlib.Core.Path.{_≡_, refl}
 use mathlib.Core.List.{List, [], _∷_}
-use Rattle.pes.specs.Reading.{readOf}
-use Rattle.pes.specs.Writing.{headerOf}
-use Rattle.pes.specs.declared.Answer.the-variants.{Times}
+use Rattle.pes_reader.specs.Reading.{readOf}
+use Rattle.pes_reader.specs.declared.Answer.the-variants.{Times}
+use Rattle.pes_writer.specs.Writing.{headerOf}
 
 -- 'PTS 9000 alone'
 abbrev pub pts9000 : List ℕ

@@ -16,26 +16,28 @@ use Rattle.syntax.specs.Laws.{written-unique}
 use Rattle.syntax.specs.Named.{named}
 use Rattle.clock.specs.Clock.{ticks, isBefore}
 use Rattle.vocabulary.specs.declared.refusal.Refusal.the-variants.{NoRoom, PtsBeforeDts, TooWide}
-use Rattle.pes.specs.Tables as Tables
-use Rattle.pes.specs.Tables.{ptsAlone, ptsBeforeDts, tref, extensionFlags, secondExtension, trefExtension}
-use Rattle.pes.specs.Stamps.{dtsFlag, timeOf, stampOf, withDts, withoutDts, stampsOf}
-use Rattle.pes.specs.StampLaws.{stamp}
-use Rattle.pes.specs.HeaderData.{withMarker}
-use Rattle.pes.specs.Reading.{dataOf, judged, marksOf, matchOf, readOf}
-use Rattle.pes.specs.Meaning.{VideoHeader, inOrder, Optional, with-tref, SecondExtension, PackHeader, PesExtension, LaidOut}
-use Rattle.pes.specs.FieldLaws.{stamp-before}
-use Rattle.pes.specs.MeaningLaws.{laid-answer}
-use Rattle.pes.specs.Writing.{partsOf, headValues, headerOf, tooWide, writeOf, bufferOf}
-use Rattle.pes.specs.WritingLaws.{narrow}
-use Rattle.pes.specs.OwnShape as own
-use Rattle.pes.specs.OwnShape.{OwnTimes, alone, both, OwnExtension, OwnShape, Narrow}
-use Rattle.pes.specs.OwnShapeLaws.{own-is, own-only, by-tests, writes-only}
-use Rattle.pes.specs.declared.stamp.Stamp.{Stamp}
-use Rattle.pes.specs.declared.stamp.Stamps.{Stamps}
-use Rattle.pes.specs.declared.header_data.Extension.{Extension}
-use Rattle.pes.specs.declared.header_data.Extension.the-variants.{WithoutTref, WithTref}
-use Rattle.pes.specs.declared.Answer.the-variants as Answer
-use Rattle.pes.specs.declared.writer.Written.the-variants.{Bytes, Refused}
+use Rattle.stamps.specs.Tables as Times
+use Rattle.stamps.specs.Tables.{ptsAlone, ptsBeforeDts, tref}
+use Rattle.stamps.specs.Stamps.{dtsFlag, timeOf, stampOf, withDts, withoutDts, stampsOf, partsOf}
+use Rattle.stamps.specs.StampLaws.{stamp, stamp-before}
+use Rattle.stamps.specs.declared.Stamp.{Stamp}
+use Rattle.stamps.specs.declared.Stamps.{Stamps}
+use Rattle.pes_fields.specs.Tables as Tables
+use Rattle.pes_fields.specs.Tables.{extensionFlags, secondExtension, trefExtension}
+use Rattle.pes_fields.specs.HeaderData.{withMarker}
+use Rattle.pes_fields.specs.Meaning.{inOrder, Optional, with-tref, SecondExtension, PackHeader, PesExtension}
+use Rattle.pes_fields.specs.declared.Extension.{Extension}
+use Rattle.pes_fields.specs.declared.Extension.the-variants.{WithoutTref, WithTref}
+use Rattle.pes_reader.specs.Reading.{dataOf, judged, marksOf, matchOf, readOf}
+use Rattle.pes_reader.specs.Meaning.{VideoHeader, LaidOut}
+use Rattle.pes_reader.specs.MeaningLaws.{laid-answer}
+use Rattle.pes_reader.specs.declared.Answer.the-variants as Answer
+use Rattle.pes_writer.specs.Writing.{headValues, headerOf, tooWide, writeOf, bufferOf}
+use Rattle.pes_writer.specs.WritingLaws.{narrow}
+use Rattle.pes_writer.specs.OwnShape as own
+use Rattle.pes_writer.specs.OwnShape.{OwnTimes, alone, both, OwnExtension, OwnShape, Narrow}
+use Rattle.pes_writer.specs.OwnShapeLaws.{own-is, own-only, by-tests, writes-only}
+use Rattle.pes_writer.specs.declared.Written.the-variants.{Bytes, Refused}
 
 -- ---- a time in its field
 
@@ -90,7 +92,7 @@ times-read (both {ptsField} {dtsField} {pts} {decoding} v w differ) =
       reads =
           ap₂ withDts
           (stamp-before ptsBeforeDts ptsField dtsField (omega (arith, v .as-long)) ∙ field-stamp ptsBeforeDts refl (λ n. refl) v)
-          (ap (stampOf Tables.dts) (drop-at ptsField dtsField 5 (v .as-long)) ∙ field-stamp Tables.dts refl (λ n. refl) w);
+          (ap (stampOf Times.dts) (drop-at ptsField dtsField 5 (v .as-long)) ∙ field-stamp Times.dts refl (λ n. refl) w);
     }
 
 -- ---- the extension

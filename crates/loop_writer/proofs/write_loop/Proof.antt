@@ -12,8 +12,8 @@ use Rattle.combinators.specs.Lists.{any}
 use Rattle.combinators.specs.Lowest.{Lowest}
 use Rattle.text.specs.Text.{Laid}
 use Rattle.es_loop.specs.declared.entries.Entry.{Entry}
-use Rattle.loop_writer.specs.Layout.{loopBytes, tooWide}
-use Rattle.loop_writer.specs.Writing.{appliesTo}
+use Rattle.loop_layout.specs.Layout.{loopBytes, tooWide}
+use Rattle.loop_verdict.specs.Verdict.{appliesTo}
 use Rattle.loop_writer.proofs.Answers.{within-array, Promised, some-wide, too-many, too-large, applies-to-one, no-room, written}
 use borrow.Author.Needs.{needs}
 use Rattle.loop_writer.proofs.write_loop.Statement.{statement}

@@ -1,0 +1,16 @@
+-- `tables::embedded_layer` meets its contract: the byte of an index that fits.
+-- Assumes nothing.
+use native.Mathlib.Omega.{arith}
+use Rattle.syntax.specs.Equations.{bounds}
+use Rattle.loop_layout.specs.Bytes.{layer-byte}
+use Rattle.loop_layout.proofs.tables.embedded_layer.Statement.{statement}
+use Rattle.loop_layout.proofs.tables.embedded_layer.Tie as tie
+
+add-t2 : tie.Need-add-t2
+add-t2 c = let b = bounds (c .before .pre) in omega arith
+
+returns : tie.Need-returns
+returns c = layer-byte (c .before .args .index) (c .before .pre)
+
+pub embedded-layer-spec : {M : Type 1} → statement M
+embedded-layer-spec = tie.close (tie.spec add-t2 returns)

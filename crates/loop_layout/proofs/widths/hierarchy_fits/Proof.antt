@@ -1,0 +1,12 @@
+-- `widths::hierarchy_fits` meets its contract: a flag always fits, and each other value is tested.
+-- Assumes nothing.
+use mathlib.Core.Bool.{and-true, and-assoc}
+use Rattle.loop_layout.proofs.Wide.{bit-fits}
+use Rattle.loop_layout.proofs.widths.hierarchy_fits.Statement.{statement}
+use Rattle.loop_layout.proofs.widths.hierarchy_fits.Tie as tie
+
+returns : tie.Need-returns
+returns c = simp (bit-fits, and-true, and-assoc)
+
+pub hierarchy-fits-spec : {M : Type 1} → statement M
+hierarchy-fits-spec = tie.close (tie.spec returns)

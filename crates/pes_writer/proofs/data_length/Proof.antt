@@ -1,0 +1,32 @@
+-- `pes_writer::data_length` meets its contract: the header data are PTS and DTS, and the extension.
+-- Assumes nothing.
+use borrow.Author.Needs.{needs}
+use native.Mathlib.Omega.{arith}
+use Rattle.pes_writer.specs.WritingLaws.{times-at-most, tref-at-most, data-length}
+use Rattle.pes_writer.proofs.data_length.Statement.{statement}
+use Rattle.pes_writer.proofs.data_length.Tie as tie
+
+times-length-requires : tie.Need-times-length-requires
+times-length-requires c κs = search needs
+
+tref-length-requires : tie.Need-tref-length-requires
+tref-length-requires c κs = search needs
+
+add-result : tie.Need-add-result
+add-result c =
+    let a = c .before .before .args in
+    omega (
+      arith,
+      times-at-most (a .pts) (a .decoding) (a .matching),
+      tref-at-most (a .pts) (a .decoding) (a .matching),
+      c .before .times-length .ensures,
+      c .tref-length .ensures,
+    )
+
+returns : tie.Need-returns
+returns c =
+    omega (arith, data-length (c .before .before .args .pts) (c .before .before .args .decoding) (c .before .before .args .matching), c .before .times-length .ensures, c .tref-length .ensures)
+
+pub data-length-spec : {M : Type 1} → statement M
+data-length-spec =
+    tie.close (tie.spec times-length-requires tref-length-requires add-result returns)

@@ -1,0 +1,44 @@
+-- `pes_writer::head_for` meets its contract: the head's table at the values that its callees answer.
+-- Assumes nothing.
+use borrow.Author.Needs.{needs}
+use native.Mathlib.Omega.{arith}
+use Prim.Native.Nat.{ℕ}
+use mathlib.Core.Path.{ap, ap₂, _∙_}
+use Rattle.syntax.specs.Table.{writeTable}
+use Rattle.pes_fields.specs.Tables.{head}
+use Rattle.pes_writer.specs.Writing.{headValues, ptsDtsFlagsOf, extensionFlagOf}
+use Rattle.pes_writer.specs.WritingLaws.{flags-below, extension-below}
+use Rattle.pes_writer.proofs.head_for.Statement.{statement}
+use Rattle.pes_writer.proofs.head_for.Tie as tie
+
+pts-dts-flags-requires : tie.Need-pts-dts-flags-requires
+pts-dts-flags-requires c κs = search needs
+
+extension-flag-requires : tie.Need-extension-flag-requires
+extension-flag-requires c κs = search needs
+
+data-length-requires : tie.Need-data-length-requires
+data-length-requires c κs = search needs
+
+head-of-requires : tie.Need-head-of-requires
+head-of-requires c κs = (
+  omega (arith, flags-below (c .before .before .before .args .pts) (c .before .before .before .args .decoding), c .before .before .pts-dts-flags .ensures),
+  omega (arith, extension-below (c .before .before .before .args .decoding) (c .before .before .before .args .matching), c .before .extension-flag .ensures),
+)
+
+returns : tie.Need-returns
+returns c =
+    let a = c .before .before .before .before .args in
+    c .head-of .ensures
+    ∙ ap₂ (λ (f e : ℕ). writeTable head (headValues f e (c .before .data-length .result))) (c .before .before .before .pts-dts-flags .ensures) (c .before .before .extension-flag .ensures)
+    ∙ ap (λ (n : ℕ). writeTable head (headValues (ptsDtsFlagsOf (a .pts) (a .decoding)) (extensionFlagOf (a .decoding) (a .matching)) n)) (c .before .data-length .ensures)
+
+pub head-for-spec : {M : Type 1} → statement M
+head-for-spec =
+    tie.close
+    (tie.spec
+    pts-dts-flags-requires
+    extension-flag-requires
+    data-length-requires
+    head-of-requires
+    returns)

@@ -1,0 +1,96 @@
+-- `pes_writer::put_header` meets its contract: the head, PTS and DTS, and the extension, each put right after the last.
+-- Assumes nothing.
+use borrow.Author.Needs.{needs}
+use native.Mathlib.Omega.{arith}
+use Prim.Native.Nat.{ℕ}
+use mathlib.Core.Path.{ap, _∙_}
+use mathlib.Core.List.{List, _++_, append-assoc}
+use lib.ListN.{length, length-append}
+use Rattle.pes_writer.specs.Placed.{put-as, put-both}
+use Rattle.pes_writer.specs.Writing.{headOf, timeFields, trefFields}
+use Rattle.pes_writer.specs.WritingLaws.{data-length, header-length}
+use Rattle.pes_writer.proofs.put_header.Statement.{statement}
+use Rattle.pes_writer.proofs.put_header.Tie as tie
+
+head-for-requires : tie.Need-head-for-requires
+head-for-requires c κs = search needs
+
+slice-aggregate-put : tie.Need-slice-aggregate-put
+slice-aggregate-put c = search needs
+
+put-requires : tie.Need-put-requires
+put-requires c κs = search needs
+
+put-times-requires : tie.Need-put-times-requires
+put-times-requires c κs =
+    let a = c .before .before .before .before .before .before .before .before .args in (
+      c .before .before .before .before .before .before .before .before .pre .0,
+      omega (
+        arith,
+        c .before .before .before .before .before .before .before .before .pre .1 .1,
+        header-length (a .pts) (a .decoding) (a .matching),
+        data-length (a .pts) (a .decoding) (a .matching),
+        ap length (c .before .before .before .before .before .before .head-for .ensures),
+        c .before .before .before .put .ensures .next-is,
+        c .before .before .before .put .kept .0,
+      ),
+    )
+
+put-tref-requires : tie.Need-put-tref-requires
+put-tref-requires c κs =
+    let a = c .before .before .before .before .before .before .before .before .before .before .before .before .args in (
+      c .before .before .before .before .before .before .before .before .before .before .before .before .pre .1 .0,
+      omega (
+        arith,
+        c .before .before .before .before .before .before .before .before .before .before .before .before .pre .1 .1,
+        header-length (a .pts) (a .decoding) (a .matching),
+        data-length (a .pts) (a .decoding) (a .matching),
+        ap length (c .before .before .before .before .before .before .before .before .before .before .head-for .ensures),
+        c .before .before .before .before .before .before .before .put .ensures .next-is,
+        c .before .before .before .before .before .before .before .put .kept .0,
+        c .before .before .before .put-times .ensures .next-is,
+        c .before .before .before .put-times .kept .0,
+      ),
+    )
+
+same-length : tie.Need-same-length
+same-length c = search needs
+
+returns : tie.Need-returns
+returns c =
+    let a = c .before .before .before .before .before .before .before .before .before .before .before .before .before .before .before .args in
+    put-as
+    (ap (λ (l : List ℕ). l ++ timeFields (a .pts) (a .decoding) ++ trefFields (a .decoding) (a .matching)) (c .before .before .before .before .before .before .before .before .before .before .before .before .before .head-for .ensures)
+    ∙ append-assoc (headOf (a .pts) (a .decoding) (a .matching)) (timeFields (a .pts) (a .decoding)) (trefFields (a .decoding) (a .matching)))
+    (put-both
+    (omega (
+      arith,
+      c .before .before .before .before .before .before .before .before .before .before .before .before .before .before .before .pre .1 .1,
+      header-length (a .pts) (a .decoding) (a .matching),
+      data-length (a .pts) (a .decoding) (a .matching),
+      ap length (c .before .before .before .before .before .before .before .before .before .before .before .before .before .head-for .ensures),
+      length-append (c .before .before .before .before .before .before .before .before .before .before .before .before .before .head-for .result) (timeFields (a .pts) (a .decoding)),
+    ))
+    (put-both
+    (omega (
+      arith,
+      c .before .before .before .before .before .before .before .before .before .before .before .before .before .before .before .pre .1 .1,
+      header-length (a .pts) (a .decoding) (a .matching),
+      data-length (a .pts) (a .decoding) (a .matching),
+      ap length (c .before .before .before .before .before .before .before .before .before .before .before .before .before .head-for .ensures),
+    ))
+    (c .before .before .before .before .before .before .before .before .before .before .put .ensures)
+    (c .before .before .before .before .before .before .put-times .ensures))
+    (c .before .before .put-tref .ensures))
+
+pub put-header-spec : {M : Type 1} → statement M
+put-header-spec =
+    tie.close
+    (tie.spec
+    head-for-requires
+    slice-aggregate-put
+    put-requires
+    put-times-requires
+    put-tref-requires
+    same-length
+    returns)

@@ -1,0 +1,5 @@
+pub mod Placed
+pub mod Writing
+pub mod OwnShape
+pub mod WritingLaws
+pub mod OwnShapeLaws
