@@ -21,17 +21,17 @@ use Rattle.es_loop.specs.declared.reader.Outcome.the-variants.{Accepted as Loop
 use Rattle.es_loop.specs.Entries.{blankEntry}
 use Rattle.es_loop.specs.Reading.{loopRead}
 use Rattle.loop_writer.specs.declared.Written.the-variants as Loop
-use Rattle.loop_writer.specs.Layout.{loopBytes}
+use Rattle.loop_layout.specs.Layout.{loopBytes}
 use Rattle.loop_writer.specs.Writing.{answer}
 use Rattle.loop_round_trip.specs.ReadBack.{normal, Typed}
 use Rattle.loop_round_trip.specs.RoundTrip as loops
 use Rattle.loop_round_trip.specs.OwnShape.{OwnShape}
 use Rattle.loop_round_trip.specs.Rewriting as loops-again
-use Rattle.pes.specs.declared.Answer.the-variants as Times
-use Rattle.pes.specs.declared.writer.Written.the-variants as Header
-use Rattle.pes.specs.Reading.{readOf}
-use Rattle.pes.specs.Writing.{headerOf, writeOf, bufferOf}
-use Rattle.pes.specs.OwnShape.{OwnShape as OwnHeader}
+use Rattle.pes_reader.specs.declared.Answer.the-variants as Times
+use Rattle.pes_writer.specs.declared.Written.the-variants as Header
+use Rattle.pes_reader.specs.Reading.{readOf}
+use Rattle.pes_writer.specs.Writing.{headerOf, writeOf, bufferOf}
+use Rattle.pes_writer.specs.OwnShape.{OwnShape as OwnHeader}
 use Rattle.pes.specs.RoundTrips as times
 use Rattle.closure.specs.declared.Layers.{Layers}
 use Rattle.closure.specs.Meaning.{RestsOn}

@@ -22,11 +22,11 @@ use Rattle.closure.specs.Laws as target
 use Rattle.loop_layers.specs.Closures.{loopClosure}
 use Rattle.loop_layers.specs.Meaning as LoopTarget
 use Rattle.loop_layers.specs.Meant as loop-target
-use Rattle.pes.specs.declared.Answer.{Answer}
-use Rattle.pes.specs.declared.Answer.the-variants as Answer
-use Rattle.pes.specs.Reading.{readOf}
-use Rattle.pes.specs.Meaning as Times
-use Rattle.pes.specs.MeaningLaws as times
+use Rattle.pes_reader.specs.declared.Answer.{Answer}
+use Rattle.pes_reader.specs.declared.Answer.the-variants as Answer
+use Rattle.pes_reader.specs.Reading.{readOf}
+use Rattle.pes_reader.specs.Meaning as Times
+use Rattle.pes_reader.specs.MeaningLaws as times
 use Rattle.demands.specs.Calls.{Call, isListed, Promised, listed-first}
 
 -- ---- `es_loop::read_loop`: 'Loop reading uses 1 to 10'

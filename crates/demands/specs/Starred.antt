@@ -16,10 +16,10 @@ use Rattle.closure.specs.declared.Closure.{Closure}
 use Rattle.closure.specs.declared.Closure.the-variants as Closure
 use Rattle.loop_layers.specs.Closures.{loopClosure}
 use Rattle.clock.specs.Clock.{distanceOf, lagOf}
-use Rattle.pes.specs.declared.Answer.the-variants as Answer
-use Rattle.pes.specs.declared.writer.Written.the-variants as Written
-use Rattle.pes.specs.Reading.{readOf}
-use Rattle.pes.specs.Writing.{headerOf, writeOf, bufferOf}
+use Rattle.pes_reader.specs.declared.Answer.the-variants as Answer
+use Rattle.pes_writer.specs.declared.Written.the-variants as Written
+use Rattle.pes_reader.specs.Reading.{readOf}
+use Rattle.pes_writer.specs.Writing.{headerOf, writeOf, bufferOf}
 use Rattle.joining.specs.declared.answer.Joined.{Joined}
 use Rattle.joining.specs.declared.answer.Joined.the-variants.{Units, Refused}
 use Rattle.joining.specs.Table.{Table, table}

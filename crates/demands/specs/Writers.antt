@@ -10,15 +10,15 @@ use Rattle.vocabulary.specs.declared.refusal.Refusal.{Refusal}
 use Rattle.es_loop.specs.declared.entries.Entry.{Entry}
 use Rattle.loop_writer.specs.declared.Written.{Written}
 use Rattle.loop_writer.specs.declared.Written.the-variants as Written
-use Rattle.loop_writer.specs.Layout.{loopBytes}
+use Rattle.loop_layout.specs.Layout.{loopBytes}
 use Rattle.loop_writer.specs.Writing.{answer, contentAfter, content}
 use Rattle.loop_writer.specs.Meaning as Loop
 use Rattle.loop_writer.specs.Meant as loop
-use Rattle.pes.specs.declared.writer.Written.{Written as TimesWritten}
-use Rattle.pes.specs.declared.writer.Written.the-variants as TimesWritten
-use Rattle.pes.specs.Writing.{headerOf, writeOf, bufferOf}
-use Rattle.pes.specs.OwnShape as Times
-use Rattle.pes.specs.OwnShapeLaws as times
+use Rattle.pes_writer.specs.declared.Written.{Written as TimesWritten}
+use Rattle.pes_writer.specs.declared.Written.the-variants as TimesWritten
+use Rattle.pes_writer.specs.Writing.{headerOf, writeOf, bufferOf}
+use Rattle.pes_writer.specs.OwnShape as Times
+use Rattle.pes_writer.specs.OwnShapeLaws as times
 use Rattle.demands.specs.Calls.{Call, isListed, Promised, not-refused}
 
 -- ---- `loop_writer::write_loop`: 'The loop writer .. uses 1, 3, 6 to 10 .., 17, 25'
