@@ -3,7 +3,6 @@
 mod answer;
 mod assembly;
 mod index;
-mod table;
 mod units;
 mod writing;
 

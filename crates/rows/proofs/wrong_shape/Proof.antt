@@ -1,8 +1,8 @@
--- `joining::table::wrong_shape` meets its contract: each way of the code decides the tests of the definition up to its own.
+-- `rows::wrong_shape` meets its contract: each way of the code decides the tests of the definition up to its own.
 -- Assumes nothing.
 use borrow.Author.Tests.{eq-eqb, ne-eqb}
-use Rattle.joining.proofs.table.wrong_shape.Statement.{statement}
-use Rattle.joining.proofs.table.wrong_shape.Tie as tie
+use Rattle.rows.proofs.wrong_shape.Statement.{statement}
+use Rattle.rows.proofs.wrong_shape.Tie as tie
 
 returns : tie.Need-returns
 returns c = rw (ne-eqb _ _ (c .if1 .taken))

@@ -1,8 +1,8 @@
--- `joining::table::out_of_range` meets its contract: each way of the code decides the tests of the definition up to its own.
+-- `rows::out_of_range` meets its contract: each way of the code decides the tests of the definition up to its own.
 -- Assumes nothing.
 use borrow.Author.Tests.{lt-ltb, le-ltb, le-leb, lt-leb}
-use Rattle.joining.proofs.table.out_of_range.Statement.{statement}
-use Rattle.joining.proofs.table.out_of_range.Tie as tie
+use Rattle.rows.proofs.out_of_range.Statement.{statement}
+use Rattle.rows.proofs.out_of_range.Tie as tie
 
 returns : tie.Need-returns
 returns c = rw (lt-ltb 63 _ (c .if1 .taken))

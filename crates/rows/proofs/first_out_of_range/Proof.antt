@@ -1,4 +1,4 @@
--- `joining::table::first_out_of_range` meets its contract. The invariant: no row before this one is out of range. The measure is the
+-- `rows::first_out_of_range` meets its contract. The invariant: no row before this one is out of range. The measure is the
 -- number of rows left. Assumes nothing.
 use Prim.Native.Nat.{ℕ, _≤_, _<_, _-_}
 use mathlib.Core.Bool.{false}
@@ -8,9 +8,9 @@ use borrow.Author.Count.{below-more}
 use borrow.Author.Needs.{needs}
 use lib.ListN.{length}
 use Rattle.combinators.specs.Below.{seek-here, seek-end}
-use Rattle.joining.specs.Table.{table, outOfRange}
-use Rattle.joining.proofs.table.first_out_of_range.Statement.{statement}
-use Rattle.joining.proofs.table.first_out_of_range.Tie as tie
+use Rattle.rows.specs.Table.{table, outOfRange}
+use Rattle.rows.proofs.first_out_of_range.Statement.{statement}
+use Rattle.rows.proofs.first_out_of_range.Tie as tie
 
 abbrev Inv-loop : tie.InvT-loop
 Inv-loop indices decodings matches row₀ row =

@@ -1,8 +1,8 @@
--- `joining::table::first_time` meets its contract: the two ways of the code are the two cases of the definition.
+-- `rows::first_time` meets its contract: the two ways of the code are the two cases of the definition.
 -- Assumes nothing.
 use borrow.Author.Tests.{eq-eqb, ne-eqb}
-use Rattle.joining.proofs.table.first_time.Statement.{statement}
-use Rattle.joining.proofs.table.first_time.Tie as tie
+use Rattle.rows.proofs.first_time.Statement.{statement}
+use Rattle.rows.proofs.first_time.Tie as tie
 
 returns : tie.Need-returns
 returns c = rw (eq-eqb _ _ (c .if1 .taken))

@@ -1,8 +1,8 @@
 -- The time order of the closure layers as the table is walked: what is known after some of its rows, and what another row adds.
 -- Assumes nothing.
-use Prim.Native.Nat.{ℕ, suc, _+_, _^_, _≤_, _<_}
+use Prim.Native.Nat.{ℕ, _+_, _^_, _≤_, _<_}
 use mathlib.Core.Path.{_≡_, refl, sym, _∙_, ap, ap₂}
-use mathlib.Core.Bool.{Bool, true, false, cond, _&&_, _||_, and-true, and-false, or-false}
+use mathlib.Core.Bool.{Bool, true, false, _&&_, _||_, and-true, or-false}
 use mathlib.Core.List.{List}
 use native.Mathlib.Omega.{arith}
 use native.Mathlib.Decide.{decLt, ℕ-discrete}
@@ -13,11 +13,10 @@ use lib.Dec.{eqb, leb, ltb}
 use lib.ListN.{length, getD, set, replicate, length-set, length-replicate, getD-replicate}
 use lib.Seq.{getD-set-same, getD-set-other}
 use Rattle.clock.specs.Clock.{half, distanceOf}
-use Rattle.combinators.specs.Below.{some, none-at, seek-here, seek-end}
-use Rattle.combinators.specs.Bools.{both-left}
+use Rattle.combinators.specs.Below.{none-at, seek-here, seek-end}
 use Rattle.sets.specs.Sets.{has}
 use Rattle.sets.specs.Laws.{has-within}
-use Rattle.joining.specs.Table.{Table, rowsIn, layerOf, decodingOf, firstRow, firstTime, ahead, passed, breaksOrder, firstBroken}
+use Rattle.rows.specs.Table.{Table, rowsIn, layerOf, decodingOf, firstRow, firstTime, ahead, passed, breaksOrder, firstBroken}
 
 -- What is known after k rows, none of which breaks the order: `least` of a closure layer is past every distance of its rows, and not
 -- past more; and `firsts` has the decoding time of its first row, if it had one.

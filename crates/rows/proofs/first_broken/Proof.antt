@@ -1,4 +1,4 @@
--- `joining::table::first_broken` meets its contract. The invariant, what is known of the order after some rows, and each turn are in Order.
+-- `rows::first_broken` meets its contract. The invariant, what is known of the order after some rows, and each turn are in Order.
 -- The measure is the number of rows left. Assumes nothing.
 use Prim.Native.Nat.{ℕ, _≤_, _<_, _-_}
 use mathlib.Core.List.{[]}
@@ -8,10 +8,10 @@ use native.Mathlib.Omega.{arith}
 use borrow.Author.Needs.{needs}
 use lib.ListN.{length, getD}
 use Rattle.sets.specs.Laws.{has-within}
-use Rattle.joining.specs.Table.{table}
-use Rattle.joining.proofs.Order.{Ordered, ordered-start, ordered-other, broken-no-farther, broken-too-far, ordered-more, ordered-end}
-use Rattle.joining.proofs.table.first_broken.Statement.{statement}
-use Rattle.joining.proofs.table.first_broken.Tie as tie
+use Rattle.rows.specs.Table.{table}
+use Rattle.rows.proofs.Order.{Ordered, ordered-start, ordered-other, broken-no-farther, broken-too-far, ordered-more, ordered-end}
+use Rattle.rows.proofs.first_broken.Statement.{statement}
+use Rattle.rows.proofs.first_broken.Tie as tie
 
 abbrev Inv-loop : tie.InvT-loop
 Inv-loop closure indices decodings firsts₀ least₀ row₀ firsts least row =
