@@ -1,19 +1,16 @@
 -- The answer, way by way: each return of the code is a case of the definition, given what its calls answer.
 -- Assumes nothing.
-use Prim.Native.Nat.{ℕ, zero, suc, _+_, _-_, _*_, _≤_, _<_}
+use Prim.Native.Nat.{ℕ, _-_, _*_, _≤_, _<_}
 use mathlib.Core.Path.{_≡_, refl, sym, _∙_, ap, ap₂, subst}
-use mathlib.Core.Bool.{Bool, true, false, not, cond, _&&_, _||_}
+use mathlib.Core.Bool.{Bool, true, false, not, cond, _&&_}
 use mathlib.Core.List.{List}
 use native.Mathlib.Omega.{arith}
 use native.Mathlib.Nat.{mul-le-mul}
-use borrow.Author.Tests.{lt-ltb, le-ltb, ltb-false, eqb-true, not-false}
-use lib.Dec.{eqb, leb, ltb}
+use lib.Dec.{ltb}
 use lib.IntN.{ℤ}
-use lib.ListN.{length, getD, take, replicate, length-append}
+use lib.ListN.{length, take, replicate, length-append}
 use lib.Seq.{sets, take-append-seam}
 use Rattle.closure.specs.declared.Layers.{Layers}
-use Rattle.clock.specs.Clock.{ticks}
-use Rattle.combinators.specs.Bools.{neither-left, neither-right}
 use Rattle.combinators.specs.Below.{count, seek-first, count-short, count-alike}
 use Rattle.combinators.specs.Padding.{padTo}
 use Rattle.sets.specs.Sets.{has}
@@ -22,62 +19,34 @@ use Rattle.vocabulary.specs.declared.refusal.Refusal.the-variants.{OutOfRange, 
 use Rattle.joining.specs.declared.answer.Joined.{Joined}
 use Rattle.joining.specs.declared.answer.Joined.the-variants.{Units, Refused}
 use Rattle.joining.specs.declared.units.Judged.{Judged}
-use Rattle.joining.specs.Table.{Table, rowsIn, layerOf, decodingOf, matchOf, wrongShape, outOfRange, firstOutOfRange, breaksOrder, firstBroken}
-use Rattle.joining.specs.Units.{Frame, isTarget, unpaired, shares, firstUnpaired, firstShared, unitsIn, rowsBelow, lagsBelow, leftOut, isLeftOut}
+use Rattle.joining.specs.Table.{Table, rowsIn, layerOf, wrongShape, firstOutOfRange, firstBroken}
+use Rattle.joining.specs.Units.{Frame, isTarget, unpaired, firstUnpaired, firstShared, unitsIn, rowsBelow, lagsBelow, leftOut, isLeftOut}
 use Rattle.joining.specs.Judging.{Whole, Judges}
 use Rattle.joining.specs.Writing.{over, sets-over, Writable}
+use Rattle.joining.specs.Cases.{is-unpaired as case-unpaired, is-shared as case-shared, no-number-room as case-no-number-room, no-lag-room as case-no-lag-room, are-units as case-units}
 use Rattle.joining.specs.Joining.{places, unitsJoined, tableJoined, framedNumbers, framedLags, numbersAfter, lagsAfter, isSpare}
 use Rattle.joining.specs.Frames.{frameOf}
-use Rattle.joining.specs.Orderly.{Closed, Orderly}
 use Rattle.joining.proofs.Filling.{rows-long, beside-long}
 
-pub taken : {A : Type 0} (x y : A) (b : Bool) → b ≡ true → x ≡ cond b x y
-taken x y b e = sym (ap (λ (b : Bool). cond b x y) e)
-
-pub passed : {A : Type 0} (x y : A) (b : Bool) → b ≡ false → y ≡ cond b x y
-passed x y b e = sym (ap (λ (b : Bool). cond b x y) e)
-
 module _ (t : Table) (closure : ℕ) (f : Frame) (numberRoom lagRoom : ℕ) (judged : Judged) (found : Judges t f judged) where
-  -- what is left of the definition past each test
-  abbrev pastRoom : Joined
-  pastRoom = cond (ltb lagRoom (places t f)) (Refused NoRoom) (Units closure (unitsIn t f) (leftOut t closure f))
-
-  abbrev pastShared : Joined
-  pastShared = cond (ltb numberRoom (places t f)) (Refused NoRoom) pastRoom
-
-  abbrev pastUnpaired : Joined
-  pastUnpaired = cond (ltb (firstShared t f) (rowsIn t)) (Refused (UsedTwice (firstShared t f))) pastShared
-
   -- 15
   pub is-unpaired : judged .unpaired < rowsIn t → Refused (Unpaired (judged .unpaired)) ≡ unitsJoined t closure f numberRoom lagRoom
-  is-unpaired h =
-      ap (λ (k : ℕ). Refused (Unpaired k)) (found .no-assembly)
-      ∙ taken (Refused (Unpaired (firstUnpaired t f))) pastUnpaired (ltb (firstUnpaired t f) (rowsIn t))
-      (lt-ltb (firstUnpaired t f) (rowsIn t) (subst (λ (k : ℕ). k < rowsIn t) (found .no-assembly) h))
+  is-unpaired h = case-unpaired t closure f numberRoom lagRoom (judged .unpaired) (found .no-assembly) h
 
   module _ (paired : rowsIn t ≤ judged .unpaired) where
     none-unpaired : judged .unpaired ≡ rowsIn t
     none-unpaired = omega (arith, paired, found .no-assembly, seek-first (unpaired t f) (rowsIn t) .within)
 
-    after-unpaired : pastUnpaired ≡ unitsJoined t closure f numberRoom lagRoom
-    after-unpaired =
-        passed (Refused (Unpaired (firstUnpaired t f))) pastUnpaired (ltb (firstUnpaired t f) (rowsIn t))
-        (le-ltb (firstUnpaired t f) (rowsIn t) (subst (λ (k : ℕ). rowsIn t ≤ k) (found .no-assembly) paired))
+    paired-first : rowsIn t ≤ firstUnpaired t f
+    paired-first = subst (λ (k : ℕ). rowsIn t ≤ k) (found .no-assembly) paired
 
     -- 16
     pub is-shared : judged .shared < rowsIn t → Refused (UsedTwice (judged .shared)) ≡ unitsJoined t closure f numberRoom lagRoom
-    is-shared h =
-        ap (λ (k : ℕ). Refused (UsedTwice k)) (found .two-units none-unpaired)
-        ∙ taken (Refused (UsedTwice (firstShared t f))) pastShared (ltb (firstShared t f) (rowsIn t))
-        (lt-ltb (firstShared t f) (rowsIn t) (subst (λ (k : ℕ). k < rowsIn t) (found .two-units none-unpaired) h))
-        ∙ after-unpaired
+    is-shared h = case-shared t closure f numberRoom lagRoom paired-first (judged .shared) (found .two-units none-unpaired) h
 
     module _ (apart : rowsIn t ≤ judged .shared) where
-      after-shared : pastShared ≡ unitsJoined t closure f numberRoom lagRoom
-      after-shared =
-          passed (Refused (UsedTwice (firstShared t f))) pastShared (ltb (firstShared t f) (rowsIn t))
-          (le-ltb (firstShared t f) (rowsIn t) (subst (λ (k : ℕ). rowsIn t ≤ k) (found .two-units none-unpaired) apart))
-          ∙ after-unpaired
+      apart-first : rowsIn t ≤ firstShared t f
+      apart-first = subst (λ (k : ℕ). rowsIn t ≤ k) (found .two-units none-unpaired) apart
 
       pub places-is : judged .units * length (f .members) ≡ places t f
       places-is = ap (λ (n : ℕ). n * length (f .members)) (found .counted none-unpaired)
@@ -91,20 +60,15 @@ module _ (t : Table) (closure : ℕ) (f : Frame) (numberRoom lagRoom : ℕ) (jud
       -- 17
       pub no-number-room : numberRoom < judged .units * length (f .members) → Refused NoRoom ≡ unitsJoined t closure f numberRoom lagRoom
       no-number-room h =
-          taken (Refused NoRoom) pastRoom (ltb numberRoom (places t f)) (lt-ltb numberRoom (places t f) (subst (λ (n : ℕ). numberRoom < n) places-is h))
-          ∙ after-shared
+          case-no-number-room t closure f numberRoom lagRoom paired-first apart-first (subst (λ (n : ℕ). numberRoom < n) places-is h)
 
       module _ (number-room : judged .units * length (f .members) ≤ numberRoom) where
-        after-number-room : pastRoom ≡ unitsJoined t closure f numberRoom lagRoom
-        after-number-room =
-            passed (Refused NoRoom) pastRoom (ltb numberRoom (places t f)) (le-ltb numberRoom (places t f) (subst (λ (n : ℕ). n ≤ numberRoom) places-is number-room))
-            ∙ after-shared
+        number-places : places t f ≤ numberRoom
+        number-places = subst (λ (n : ℕ). n ≤ numberRoom) places-is number-room
 
         pub no-lag-room : lagRoom < judged .units * length (f .members) → Refused NoRoom ≡ unitsJoined t closure f numberRoom lagRoom
         no-lag-room h =
-            taken (Refused NoRoom) (Units closure (unitsIn t f) (leftOut t closure f)) (ltb lagRoom (places t f))
-            (lt-ltb lagRoom (places t f) (subst (λ (n : ℕ). lagRoom < n) places-is h))
-            ∙ after-number-room
+            case-no-lag-room t closure f numberRoom lagRoom paired-first apart-first number-places (subst (λ (n : ℕ). lagRoom < n) places-is h)
 
         module _ (lag-room : judged .units * length (f .members) ≤ lagRoom) where
           -- the units
@@ -117,9 +81,7 @@ module _ (t : Table) (closure : ℕ) (f : Frame) (numberRoom lagRoom : ℕ) (jud
               → Units closure (judged .units) left ≡ unitsJoined t closure f numberRoom lagRoom
           are-units short left e =
               ap₂ (Units closure) (found .counted none-unpaired) (e ∙ spare-is short)
-              ∙ passed (Refused NoRoom) (Units closure (unitsIn t f) (leftOut t closure f)) (ltb lagRoom (places t f))
-              (le-ltb lagRoom (places t f) (subst (λ (n : ℕ). n ≤ lagRoom) places-is lag-room))
-              ∙ after-number-room
+              ∙ case-units t closure f numberRoom lagRoom paired-first apart-first number-places (subst (λ (n : ℕ). n ≤ lagRoom) places-is lag-room)
 
       pub writable : Whole t f → (numbers : List ℕ) (lags : List ℤ) → judged .units * length (f .members) ≤ length numbers
           → judged .units * length (f .members) ≤ length lags → Writable t f numbers lags
@@ -148,88 +110,6 @@ part-is size count l array e a = ap₂ (λ (n : ℕ) (x : List ℕ). take n x) e
 pub part-fits : (size count : ℕ) (l array : List ℕ) → count ≡ length l → array ≡ padTo size 0 l → count ≤ length array
 part-fits size count l array e a =
     omega (arith, e, ap length a ∙ length-append l (replicate (size - length l) 0))
-
--- ---- 13 and 14
-
--- what a right shape means
-module _ (t : Table) (shape : wrongShape t ≡ false) where
-  shape-rest : (not (eqb (length (t .matches)) (rowsIn t)) || ltb 512 (rowsIn t)) ≡ false
-  shape-rest =
-      neither-right (not (eqb (length (t .decodings)) (rowsIn t))) (not (eqb (length (t .matches)) (rowsIn t)) || ltb 512 (rowsIn t)) shape
-
-  pub shape-decoded : length (t .decodings) ≡ rowsIn t
-  shape-decoded =
-      eqb-true (length (t .decodings)) (rowsIn t) (not-false (eqb (length (t .decodings)) (rowsIn t))
-      (neither-left (not (eqb (length (t .decodings)) (rowsIn t))) (not (eqb (length (t .matches)) (rowsIn t)) || ltb 512 (rowsIn t)) shape))
-
-  pub shape-matched : length (t .matches) ≡ rowsIn t
-  shape-matched =
-      eqb-true (length (t .matches)) (rowsIn t) (not-false (eqb (length (t .matches)) (rowsIn t))
-      (neither-left (not (eqb (length (t .matches)) (rowsIn t))) (ltb 512 (rowsIn t)) shape-rest))
-
-  pub shape-short : rowsIn t ≤ 512
-  shape-short = ltb-false 512 (rowsIn t) (neither-right (not (eqb (length (t .matches)) (rowsIn t))) (ltb 512 (rowsIn t)) shape-rest)
-
-module _ (layers : Layers) (target : ℕ) (t : Table) (closure numberRoom lagRoom : ℕ) where
-  abbrev pastOrder : Joined
-  pastOrder = unitsJoined t closure (frameOf layers closure target) numberRoom lagRoom
-
-  abbrev pastRange : Joined
-  pastRange = cond (ltb (firstBroken t closure) (rowsIn t)) (Refused (TimeOrderBroken (firstBroken t closure))) pastOrder
-
-  abbrev pastShape : Joined
-  pastShape = cond (ltb (firstOutOfRange t) (rowsIn t)) (Refused (OutOfRange (firstOutOfRange t))) pastRange
-
-  pub bad-shape : wrongShape t ≡ true → Refused (OutOfRange 0) ≡ tableJoined layers target t closure numberRoom lagRoom
-  bad-shape e = taken (Refused (OutOfRange 0)) pastShape (wrongShape t) e
-
-  module _ (shape : wrongShape t ≡ false) where
-    after-shape : pastShape ≡ tableJoined layers target t closure numberRoom lagRoom
-    after-shape = passed (Refused (OutOfRange 0)) pastShape (wrongShape t) shape
-
-    module _ (outside : ℕ) (is-outside : outside ≡ firstOutOfRange t) where
-      pub out-of-range : outside < rowsIn t → Refused (OutOfRange outside) ≡ tableJoined layers target t closure numberRoom lagRoom
-      out-of-range h =
-          ap (λ (k : ℕ). Refused (OutOfRange k)) is-outside
-          ∙ taken (Refused (OutOfRange (firstOutOfRange t))) pastRange (ltb (firstOutOfRange t) (rowsIn t))
-          (lt-ltb (firstOutOfRange t) (rowsIn t) (subst (λ (k : ℕ). k < rowsIn t) is-outside h))
-          ∙ after-shape
-
-      module _ (in-range : rowsIn t ≤ outside) (broken : ℕ) (is-broken : broken ≡ firstBroken t closure) where
-        after-range : pastRange ≡ tableJoined layers target t closure numberRoom lagRoom
-        after-range =
-            passed (Refused (OutOfRange (firstOutOfRange t))) pastRange (ltb (firstOutOfRange t) (rowsIn t))
-            (le-ltb (firstOutOfRange t) (rowsIn t) (subst (λ (k : ℕ). rowsIn t ≤ k) is-outside in-range))
-            ∙ after-shape
-
-        pub order-broken : broken < rowsIn t → Refused (TimeOrderBroken broken) ≡ tableJoined layers target t closure numberRoom lagRoom
-        order-broken h =
-            ap (λ (k : ℕ). Refused (TimeOrderBroken k)) is-broken
-            ∙ taken (Refused (TimeOrderBroken (firstBroken t closure))) pastOrder (ltb (firstBroken t closure) (rowsIn t))
-            (lt-ltb (firstBroken t closure) (rowsIn t) (subst (λ (k : ℕ). k < rowsIn t) is-broken h))
-            ∙ after-range
-
-        pub in-order : rowsIn t ≤ broken → pastOrder ≡ tableJoined layers target t closure numberRoom lagRoom
-        in-order h =
-            passed (Refused (TimeOrderBroken (firstBroken t closure))) pastOrder (ltb (firstBroken t closure) (rowsIn t))
-            (le-ltb (firstBroken t closure) (rowsIn t) (subst (λ (k : ℕ). rowsIn t ≤ k) is-broken h))
-            ∙ after-range
-
-        pub orderly : Closed layers target closure → rowsIn t ≤ broken → Orderly layers target closure t
-        orderly closed-over h =
-            record {
-              closed-over = closed-over;
-              decoded = shape-decoded t shape;
-              matched = shape-matched t shape;
-              short = shape-short t shape;
-              within = λ k i. (let n = neither-left (ltb 63 (layerOf t k)) (leb ticks (decodingOf t k) || leb ticks (matchOf t k)) (none-outside k i) in
-                  let s = ltb-false 63 (layerOf t k) n in omega arith);
-              unbroken = λ k i. seek-first (breaksOrder t closure) (rowsIn t) .before k (let w = subst (λ (b : ℕ). rowsIn t ≤ b) is-broken h in omega arith);
-            }
-          where
-            none-outside : (k : ℕ) → k < rowsIn t → outOfRange t k ≡ false
-            none-outside k i =
-                seek-first (outOfRange t) (rowsIn t) .before k (let w = subst (λ (b : ℕ). rowsIn t ≤ b) is-outside in-range in omega arith)
 
 -- ---- 11 and 12, and the lists
 

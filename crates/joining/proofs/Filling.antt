@@ -1,21 +1,22 @@
 -- All units written, target row after target row: what is known after some rows of the table, and what another row adds.
 -- Assumes nothing.
-use Prim.Native.Nat.{ℕ, zero, suc, _+_, _*_, _≤_, _<_}
+use Prim.Native.Nat.{ℕ, _+_, _*_, _≤_, _<_}
 use mathlib.Core.Path.{_≡_, refl, sym, _∙_, ap, ap₂, subst}
 use mathlib.Core.Bool.{Bool, true, false, not, _&&_}
-use mathlib.Core.List.{List, [], _∷_, _++_, append-nil, map}
+use mathlib.Core.List.{List, [], _∷_, _++_, append-nil}
 use native.Mathlib.Omega.{arith}
-use native.Mathlib.Nat.{zero-add, mul-le-mul-right, suc-mul, le-trans}
+use native.Mathlib.Nat.{zero-add, mul-le-mul-right, suc-mul}
 use native.Mathlib.Numerals.{add-one}
 use borrow.Author.Tests.{not-false}
 use lib.IntN.{ℤ}
-use lib.ListN.{length, getD, length-append, length-map}
+use lib.ListN.{length, getD, length-map}
 use lib.Seq.{sets, length-sets}
 use Rattle.combinators.specs.Below.{count, count-more, count-same, count-less}
 use Rattle.combinators.specs.Lists.{gather, gather-append}
 use Rattle.combinators.specs.Those.{those, length-those, those-more, those-same}
 use Rattle.joining.specs.Table.{Table, rowsIn, decodingOf}
-use Rattle.joining.specs.Units.{Frame, isTarget, assemblyOf, unitFrom, lagsFrom, unitOf, lagsOf, rowsBelow, lagsBelow, unpaired, unitsIn}
+use Rattle.joining.specs.Units.{Frame, isTarget, assemblyOf, unitOf, lagsOf, rowsBelow, lagsBelow, unitsIn}
+use Rattle.joining.specs.Contents.{length-pieces}
 use Rattle.joining.specs.Writing.{sets-append, Placed, Writable}
 
 -- ---- what is gathered from one row more, and how long it is
@@ -30,13 +31,8 @@ module _ {A : Type 0} (g : ℕ → List A) where
   pub gathered-same : (test : ℕ → Bool) (k : ℕ) → test k ≡ false → gather g (those test (k + 1)) ≡ gather g (those test k)
   gathered-same test k e = ap (gather g) (those-same test k e)
 
-  length-gather : (size : ℕ) → ((k : ℕ) → length (g k) ≡ size) → (l : List ℕ) → length (gather g l) ≡ length l * size
-  length-gather size f [] = omega arith
-  length-gather size f (k ∷ l) =
-      length-append (g k) (gather g l) ∙ ap₂ (λ (a b : ℕ). a + b) (f k) (length-gather size f l) ∙ (let e = suc-mul (length l) size in omega arith)
-
   pub length-gathered : (size : ℕ) → ((k : ℕ) → length (g k) ≡ size) → (test : ℕ → Bool) (k : ℕ) → length (gather g (those test k)) ≡ count test k * size
-  length-gathered size f test k = length-gather size f (those test k) ∙ ap (λ (n : ℕ). n * size) (length-those test k)
+  length-gathered size f test k = length-pieces g size f (those test k) ∙ ap (λ (n : ℕ). n * size) (length-those test k)
 
 module _ (t : Table) (f : Frame) where
   unit-long : (k : ℕ) → length (unitOf t f k) ≡ length (f .members)

@@ -1,16 +1,18 @@
 -- The computed answer, case by case: which tests lead to each refusal, and which to the units.
 -- Assumes nothing.
 use Prim.Native.Nat.{ℕ, _≤_, _<_}
-use mathlib.Core.Bool.{Bool, true, false, not, cond, _||_}
-use mathlib.Core.Path.{_≡_, sym, _∙_, ap, subst}
+use mathlib.Core.Bool.{Bool, true, false, cond, _||_}
+use mathlib.Core.Path.{_≡_, refl, sym, _∙_, ap, subst}
 use native.Mathlib.Omega.{arith}
-use borrow.Author.Tests.{lt-ltb, le-ltb, ltb-false, eqb-true, not-false}
-use lib.Dec.{eqb, leb, ltb}
-use lib.ListN.{length}
+use borrow.Author.Tests.{lt-ltb, le-ltb, ltb-false}
+use lib.Dec.{leb, ltb}
 use Rattle.clock.specs.Clock.{ticks}
 use Rattle.closure.specs.declared.Layers.{Layers}
 use Rattle.combinators.specs.Below.{seek-first}
-use Rattle.combinators.specs.Bools.{neither-left, neither-right}
+use Rattle.combinators.specs.Bools.{neither-left}
+use Rattle.rows.specs.declared.Verdict.{Verdict}
+use Rattle.rows.specs.declared.Verdict.the-variants.{InOrder, OutOfRange as Outside, OrderBroken}
+use Rattle.rows.specs.Verdicts.{verdictOf, shape-decoded, shape-matched, shape-short}
 use Rattle.vocabulary.specs.declared.refusal.Refusal.the-variants.{OutOfRange, TimeOrderBroken, Unpaired, UsedTwice, NoRoom}
 use Rattle.joining.specs.declared.answer.Joined.{Joined}
 use Rattle.joining.specs.declared.answer.Joined.the-variants.{Units, Refused}
@@ -83,25 +85,6 @@ module _ (t : Table) (closure : ℕ) (f : Frame) (numberRoom lagRoom : ℕ) wher
 
 -- ---- 13 and 14
 
--- what a right shape means
-module _ (t : Table) (shape : wrongShape t ≡ false) where
-  shape-rest : (not (eqb (length (t .matches)) (rowsIn t)) || ltb 512 (rowsIn t)) ≡ false
-  shape-rest =
-      neither-right (not (eqb (length (t .decodings)) (rowsIn t))) (not (eqb (length (t .matches)) (rowsIn t)) || ltb 512 (rowsIn t)) shape
-
-  pub shape-decoded : length (t .decodings) ≡ rowsIn t
-  shape-decoded =
-      eqb-true (length (t .decodings)) (rowsIn t) (not-false (eqb (length (t .decodings)) (rowsIn t))
-      (neither-left (not (eqb (length (t .decodings)) (rowsIn t))) (not (eqb (length (t .matches)) (rowsIn t)) || ltb 512 (rowsIn t)) shape))
-
-  pub shape-matched : length (t .matches) ≡ rowsIn t
-  shape-matched =
-      eqb-true (length (t .matches)) (rowsIn t) (not-false (eqb (length (t .matches)) (rowsIn t))
-      (neither-left (not (eqb (length (t .matches)) (rowsIn t))) (ltb 512 (rowsIn t)) shape-rest))
-
-  pub shape-short : rowsIn t ≤ 512
-  shape-short = ltb-false 512 (rowsIn t) (neither-right (not (eqb (length (t .matches)) (rowsIn t))) (ltb 512 (rowsIn t)) shape-rest)
-
 module _ (layers : Layers) (target : ℕ) (t : Table) (closure numberRoom lagRoom : ℕ) where
   abbrev pastOrder : Joined
   pastOrder = unitsJoined t closure (frameOf layers closure target) numberRoom lagRoom
@@ -160,3 +143,26 @@ module _ (layers : Layers) (target : ℕ) (t : Table) (closure numberRoom lagRoo
         where
           none-outside : (k : ℕ) → k < rowsIn t → outOfRange t k ≡ false
           none-outside k i = seek-first (outOfRange t) (rowsIn t) .before k (omega arith)
+
+-- ---- the same by the verdict on the table
+
+abbrev pub joinedBy : Joined → Verdict → Joined
+joinedBy units InOrder = units
+joinedBy units (Outside row) = Refused (OutOfRange row)
+joinedBy units (OrderBroken row) = Refused (TimeOrderBroken row)
+
+pub by-verdict : (layers : Layers) (target : ℕ) (t : Table) (closure numberRoom lagRoom : ℕ)
+    → joinedBy (unitsJoined t closure (frameOf layers closure target) numberRoom lagRoom) (verdictOf t closure)
+    ≡ tableJoined layers target t closure numberRoom lagRoom
+by-verdict layers target t closure numberRoom lagRoom =
+    go (wrongShape t) (ltb (firstOutOfRange t) (rowsIn t)) (ltb (firstBroken t closure) (rowsIn t)) (firstOutOfRange t) (firstBroken t closure)
+  where
+    go : (b₁ b₂ b₃ : Bool) (i j : ℕ)
+        → joinedBy (unitsJoined t closure (frameOf layers closure target) numberRoom lagRoom)
+        (cond b₁ (Outside 0) (cond b₂ (Outside i) (cond b₃ (OrderBroken j) InOrder)))
+        ≡ cond b₁ (Refused (OutOfRange 0)) (cond b₂ (Refused (OutOfRange i)) (cond b₃ (Refused (TimeOrderBroken j))
+        (unitsJoined t closure (frameOf layers closure target) numberRoom lagRoom)))
+    go true b₂ b₃ i j = refl
+    go false true b₃ i j = refl
+    go false false true i j = refl
+    go false false false i j = refl

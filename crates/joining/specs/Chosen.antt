@@ -16,11 +16,11 @@ use Rattle.closure.specs.Meaning.{RestsOn, by}
 use Rattle.clock.specs.Clock.{distanceOf}
 use Rattle.combinators.specs.Below.{seek-here}
 use Rattle.combinators.specs.Bools.{both-left, both-right}
-use Rattle.joining.specs.declared.assembly.Assembly.{Assembly}
+use Rattle.assembling.specs.declared.assembly.Assembly.{Assembly}
 use Rattle.joining.specs.Table.{Table, rowsIn, layerOf, decodingOf, matchOf, firstRow, ahead}
-use Rattle.joining.specs.Index.{Rising}
+use Rattle.assembling.specs.Index.{Rising}
 use Rattle.joining.specs.Assemblies.{upperOf, lowerOf, rowAt, pairedRow, partner, edgesOf, assembledFrom, assembled}
-use Rattle.joining.specs.Assembled.{all-met, all-own, heads, begin-long, begin-target, begin-other, begin-own, lower-below}
+use Rattle.assembling.specs.Assembled.{all-met, all-own, heads, begin-long, begin-target, begin-other, begin-own, lower-below}
 use Rattle.joining.specs.Frames.{frameOf, edge-names, edge-listed, led-before, row-for-each, rests-below, target-below}
 use Rattle.joining.specs.Orderly.{Orderly, rises}
 use Rattle.joining.specs.Meaning.{Assembles, NoAssembly}

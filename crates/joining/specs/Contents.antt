@@ -34,21 +34,21 @@ use Rattle.joining.specs.Ascending.{Ascending, those-ascending, ascendin
 
 -- ---- what is gathered in pieces of one size, place by place
 
-module _ {A : Type 0} (g : ℕ → List A) (size : ℕ) (long : (k : ℕ) → length (g k) ≡ size) (d : A) where
+module _ {A : Type 0} (g : ℕ → List A) (size : ℕ) (long : (k : ℕ) → length (g k) ≡ size) where
   pub length-pieces : (l : List ℕ) → length (gather g l) ≡ length l * size
   length-pieces [] = omega arith
   length-pieces (k ∷ l) =
       length-append (g k) (gather g l) ∙ ap₂ (λ (a b : ℕ). a + b) (long k) (length-pieces l) ∙ (let e = suc-mul (length l) size in omega arith)
 
-  pub piece-at : (l : List ℕ) (i p : ℕ) → i < length l → p < size → getD (gather g l) (i * size + p) d ≡ getD (g (getD l i 0)) p d
-  piece-at [] i p h k = absurd (omega arith)
-  piece-at (x ∷ l) zero p h k =
+  pub piece-at : (d : A) (l : List ℕ) (i p : ℕ) → i < length l → p < size → getD (gather g l) (i * size + p) d ≡ getD (g (getD l i 0)) p d
+  piece-at d [] i p h k = absurd (omega arith)
+  piece-at d (x ∷ l) zero p h k =
       ap (λ (q : ℕ). getD (g x ++ gather g l) q d) (omega arith) ∙ List·getD-append (g x) (gather g l) d p (let e = long x in omega arith)
-  piece-at (x ∷ l) (suc i) p h k =
+  piece-at d (x ∷ l) (suc i) p h k =
       let place : suc i * size + p ≡ length (g x) + (i * size + p) = (let e = long x in let s = suc-mul i size in omega arith) in
       ap (λ (q : ℕ). getD (g x ++ gather g l) q d) place
       ∙ getD-append-add (g x) (gather g l) (i * size + p) d
-      ∙ piece-at l i p (omega arith) k
+      ∙ piece-at d l i p (omega arith) k
 
   -- a place among them
   pub piece-inside : (units i p : ℕ) → i < units → p < size → i * size + p < units * size
@@ -150,10 +150,10 @@ module _ (layers : Layers) (target closure : ℕ) (t : Table) (orderly : Orderly
   lags-size k = length-map (unitOf t frame k) (λ row. lagOf (decodingOf t row) (decodingOf t k)) ∙ unit-size k
 
   pub rows-size : length (rowsBelow t frame (rowsIn t)) ≡ length headsOf * length (membersOf closure)
-  rows-size = length-pieces (unitOf t frame) (length (membersOf closure)) unit-size 0 headsOf
+  rows-size = length-pieces (unitOf t frame) (length (membersOf closure)) unit-size headsOf
 
   pub beside-size : length (lagsBelow t frame (rowsIn t)) ≡ length headsOf * length (membersOf closure)
-  beside-size = length-pieces (lagsOf t frame) (length (membersOf closure)) lags-size (pos 0) headsOf
+  beside-size = length-pieces (lagsOf t frame) (length (membersOf closure)) lags-size headsOf
 
   module _ (paired : (k : ℕ) → k < rowsIn t → unpaired t frame k ≡ false) where
     complete-at : (head : ℕ) → TargetRow target t head → assemblyOf t frame head .complete ≡ true
@@ -229,7 +229,7 @@ module _ (layers : Layers) (target closure : ℕ) (t : Table) (orderly : Orderly
           → getD (over (rowsBelow t frame (rowsIn t)) numbers) (i * size + p) 0 ≡ chosen (getD headsOf i 0) (getD (membersOf closure) p 0)
       number-at i p h k =
           over-at (rowsBelow t frame (rowsIn t)) numbers 0 (i * size + p)
-          (subst (λ (n : ℕ). i * size + p < n) (sym rows-size) (piece-inside (unitOf t frame) size unit-size 0 (length headsOf) i p h k))
+          (subst (λ (n : ℕ). i * size + p < n) (sym rows-size) (piece-inside (unitOf t frame) size unit-size (length headsOf) i p h k))
           ∙ piece-at (unitOf t frame) size unit-size 0 headsOf i p h k
           ∙ unit-at (membersOf closure) (assemblyOf t frame (getD headsOf i 0) .rows) p k
 
@@ -238,7 +238,7 @@ module _ (layers : Layers) (target closure : ℕ) (t : Table) (orderly : Orderly
           ≡ lagOf (decodingOf t (chosen (getD headsOf i 0) (getD (membersOf closure) p 0))) (decodingOf t (getD headsOf i 0))
       lag-at i p h k =
           over-at (lagsBelow t frame (rowsIn t)) lags (pos 0) (i * size + p)
-          (subst (λ (n : ℕ). i * size + p < n) (sym beside-size) (piece-inside (lagsOf t frame) size lags-size (pos 0) (length headsOf) i p h k))
+          (subst (λ (n : ℕ). i * size + p < n) (sym beside-size) (piece-inside (lagsOf t frame) size lags-size (length headsOf) i p h k))
           ∙ piece-at (lagsOf t frame) size lags-size (pos 0) headsOf i p h k
           ∙ getD-map (λ row. lagOf (decodingOf t row) (decodingOf t (getD headsOf i 0))) (pos 0)
           (getD-nth (unitOf t frame (getD headsOf i 0)) p 0 (subst (λ (n : ℕ). p < n) (sym (unit-size (getD headsOf i 0))) k))

@@ -1,4 +1,4 @@
--- The row examples of document 01, each computed from the definition. Layer 1 embeds layer 0.
+-- The row examples of document 01, and some more, each computed from the definition. Layer 1 embeds layer 0.
 -- Assumes nothing.
 use Prim.Native.Nat.{ℕ}
 use mathlib.Core.List.{[], _∷_}
@@ -11,6 +11,8 @@ use Rattle.joining.specs.declared.answer.Joined.the-variants.{Units, Ref
 use Rattle.joining.specs.Table.{Table, table}
 use Rattle.joining.specs.Assemblies.{edgesOf, membersOf}
 use Rattle.joining.specs.Joining.{joinedOf, numbersAfter, lagsAfter}
+use Rattle.joining.specs.Meaning.{Answers}
+use Rattle.joining.specs.Laws.{meets}
 
 abbrev two : Layers
 two = record { present = 0b11; embedded = 0 ∷ 0b1 ∷ replicate 62 0 }
@@ -89,3 +91,30 @@ unequal-columns = refl
 no-rows : joinedOf one 0 (table [] [] []) 0 0 ≡ Units 0b1 0 0
 unfolding edgesOf membersOf
 no-rows = refl
+
+-- 'the count of closure rows in no unit': the third row is of layer 0 and in no unit; the fourth, of a layer outside the closure, is not counted
+left-out : joinedOf two 1 (table (0 ∷ 1 ∷ 0 ∷ 5 ∷ []) (9000 ∷ 9000 ∷ 12600 ∷ 1 ∷ []) (9000 ∷ 9000 ∷ 12600 ∷ 1 ∷ [])) 2 2 ≡ Units 0b11 1 1
+unfolding edgesOf membersOf
+left-out = refl
+
+-- A diamond: 2 rests on 1 and on 0, and 1 on 0, so that the row of 0 has to meet two edges. The row of 2 asks for 9000 below it, that of 1 for
+-- the time given.
+abbrev three : Layers
+three = record { present = 0b111; embedded = 0 ∷ 0b1 ∷ 0b11 ∷ replicate 61 0 }
+
+abbrev diamond : ℕ → Table
+diamond asked = table (0 ∷ 0 ∷ 1 ∷ 2 ∷ []) (8000 ∷ 9000 ∷ 9000 ∷ 9500 ∷ []) (8000 ∷ 9000 ∷ asked ∷ 9000 ∷ [])
+
+both-edges-met : joinedOf three 2 (diamond 9000) 3 3 ≡ Units 0b111 1 1
+unfolding edgesOf membersOf
+both-edges-met = refl
+
+one-edge-not-met : joinedOf three 2 (diamond 8000) 3 3 ≡ Refused (Unpaired 3)
+unfolding edgesOf membersOf
+one-edge-not-met = refl
+
+-- The first example once more, as the relation has it: whatever else is said of these rows and lists is wrong.
+units-meant : Answers two 1 (rows 12600) (7 ∷ 7 ∷ 7 ∷ 7 ∷ 7 ∷ []) (pos 7 ∷ pos 7 ∷ pos 7 ∷ pos 7 ∷ []) (Units 0b11 2 0)
+    (0 ∷ 1 ∷ 2 ∷ 3 ∷ 7 ∷ []) (pos 0 ∷ pos 0 ∷ pos 600 ∷ pos 0 ∷ [])
+unfolding edgesOf membersOf
+units-meant = meets two 1 (rows 12600) (7 ∷ 7 ∷ 7 ∷ 7 ∷ 7 ∷ []) (pos 7 ∷ pos 7 ∷ pos 7 ∷ pos 7 ∷ [])

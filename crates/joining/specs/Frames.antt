@@ -18,7 +18,7 @@ use Rattle.combinators.specs.Those.{those-at, those-which, those-earlier}
 use Rattle.sets.specs.Sets.{has}
 use Rattle.joining.specs.Table.{Table, rowsIn}
 use Rattle.joining.specs.Assemblies.{upperOf, lowerOf, joins, isEdge, edgesOf, membersOf, assembled}
-use Rattle.joining.specs.Assembled.{all-met, heads, begin-long}
+use Rattle.assembling.specs.Assembled.{all-met, heads, begin-long}
 use Rattle.joining.specs.Units.{Frame, frame}
 use Rattle.joining.specs.Judging.{Whole}
 

@@ -1,7 +1,5 @@
 pub mod Table
-pub mod Index
 pub mod Assemblies
-pub mod Assembled
 pub mod Units
 pub mod Judging
 pub mod Writing

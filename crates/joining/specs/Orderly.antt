@@ -14,7 +14,7 @@ use Rattle.closure.specs.Meaning.{by, WholeClosure, Answers, no-such-layer, abs
 use Rattle.closure.specs.Laws.{meets}
 use Rattle.sets.specs.Sets.{has}
 use Rattle.joining.specs.Table.{Table, rowsIn, breaksOrder}
-use Rattle.joining.specs.Index.{Within, Starts, Order, Rising, Ready}
+use Rattle.assembling.specs.Index.{Within, Starts, Order, Rising, Ready}
 use Rattle.joining.specs.Assemblies.{lowerOf, edgesOf}
 use Rattle.joining.specs.Frames.{edge-names}
 use Rattle.joining.specs.Ordering.{farther}

@@ -4,23 +4,21 @@ ghost use Prim.Native.Nat.{_≤_};
 ghost use lib.ListN.{length};
 ghost use Rattle.combinators.specs.Below.{count};
 ghost use Rattle.joining.specs.Table.{table};
-ghost use Rattle.joining.specs.Index.{Ready};
+ghost use Rattle.assembling.specs.Index.{Ready};
 ghost use Rattle.joining.specs.Units.{frame};
 ghost use Rattle.joining.specs.Judging.{Whole};
 ghost use Rattle.joining.specs.Frames.{frameOf};
 ghost use Rattle.joining.specs.Orderly.{Closed, Orderly};
 ghost use Rattle.joining.specs.Joining.{isSpare, unitsJoined, tableJoined, joinedOf, framedNumbers, framedLags, numbersAfter, lagsAfter};
-use super::assembly::edges_of;
-use super::assembly::members_of;
-use super::index::order_of;
-use super::index::starts_of;
-use super::table::first_broken;
-use super::table::first_out_of_range;
-use super::table::wrong_shape;
 use super::units::judge;
 use super::writing::write_units;
+use assembling::edges_of;
+use assembling::members_of;
+use assembling::order_of;
+use assembling::starts_of;
 use closure::Closure;
 use closure::Layers;
+use rows::Verdict;
 use vocabulary::Refusal;
 
 // The answer of joining: the set of the closure's layer indices, the number of units, and how many closure rows stand in none; or why
@@ -168,27 +166,21 @@ fn join_closure(
     ensures content { λ r. ⌜ now (numbers .exit) ≡ framedNumbers (table (now (indices .entry)) (now (decodings .entry)) (now (matches .entry))) (frameOf layers closure target) r (now (numbers .entry)) ⌝ }
     ensures beside { λ r. ⌜ now (lags .exit) ≡ framedLags (table (now (indices .entry)) (now (decodings .entry)) (now (matches .entry))) (frameOf layers closure target) r (now (lags .entry)) ⌝ }
 {
-    if wrong_shape(indices, decodings, matches) {
-        return Joined::Refused(Refusal::OutOfRange(0));
+    let verdict = rows::judge(closure, indices, decodings, matches);
+    match verdict {
+        Verdict::InOrder => join_ordered(
+            layers,
+            closure,
+            target,
+            indices,
+            decodings,
+            matches,
+            numbers,
+            lags,
+        ),
+        Verdict::OutOfRange(row) => Joined::Refused(Refusal::OutOfRange(row)),
+        Verdict::OrderBroken(row) => Joined::Refused(Refusal::TimeOrderBroken(row)),
     }
-    let outside = first_out_of_range(indices, decodings, matches);
-    if outside < indices.len() {
-        return Joined::Refused(Refusal::OutOfRange(outside));
-    }
-    let broken = first_broken(closure, indices, decodings);
-    if broken < indices.len() {
-        return Joined::Refused(Refusal::TimeOrderBroken(broken));
-    }
-    join_ordered(
-        layers,
-        closure,
-        target,
-        indices,
-        decodings,
-        matches,
-        numbers,
-        lags,
-    )
 }
 
 // THE CALL. The layers of a loop, a target, the three columns of the row table, and the two lists for the answer, of any lengths: the row

@@ -5,10 +5,10 @@ ghost use Prim.Native.Nat.{_≤_, _<_};
 ghost use lib.ListN.{length, getD, replicate};
 ghost use Rattle.combinators.specs.Lists.{any};
 ghost use Rattle.joining.specs.Table.{table};
-ghost use Rattle.joining.specs.Index.{Ready};
+ghost use Rattle.assembling.specs.Index.{Ready};
 ghost use Rattle.joining.specs.Units.{frame, unitFrom, firstSharing};
 ghost use Rattle.joining.specs.Judging.{Chosen, Whole, marked, Judges};
-use super::assembly::assemble;
+use assembling::assemble;
 
 // What was found of the target rows: the first with no assembly and the first that shares a row, each the number of rows where there is
 // none, how many there are, and a mark for each row that stands in a unit.

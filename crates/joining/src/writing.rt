@@ -5,10 +5,10 @@ ghost use Prim.Native.Nat.{_+_, _≤_};
 ghost use lib.ListN.{length};
 ghost use lib.Seq.{sets};
 ghost use Rattle.joining.specs.Table.{table};
-ghost use Rattle.joining.specs.Index.{Ready};
+ghost use Rattle.assembling.specs.Index.{Ready};
 ghost use Rattle.joining.specs.Units.{frame, unitFrom, lagsFrom, rowsBelow, lagsBelow};
 ghost use Rattle.joining.specs.Writing.{Placed, Writable};
-use super::assembly::assemble;
+use assembling::assemble;
 
 // Writes the rows of one unit, and the lag of each, from place `at` on.
 fn write_unit(

@@ -9,10 +9,10 @@ use lib.ListN.{length, take}
 use lib.Seq.{length-take-le}
 use Rattle.combinators.specs.Those.{those-short}
 use Rattle.sets.specs.Sets.{has}
-use Rattle.joining.specs.declared.assembly.Edges.{Edges}
-use Rattle.joining.specs.declared.assembly.Members.{Members}
+use Rattle.assembling.specs.declared.assembly.Edges.{Edges}
+use Rattle.assembling.specs.declared.assembly.Members.{Members}
 use Rattle.joining.specs.Table.{table}
-use Rattle.joining.specs.Index.{Ready}
+use Rattle.assembling.specs.Index.{Ready}
 use Rattle.joining.specs.Assemblies.{edgesOf, membersOf}
 use Rattle.joining.specs.Units.{Frame, frame}
 use Rattle.joining.specs.Judging.{Whole}

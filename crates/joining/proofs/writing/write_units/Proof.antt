@@ -9,7 +9,7 @@ use borrow.Author.Needs.{needs}
 use borrow.Author.Tests.{eq-eqb, ne-eqb}
 use lib.ListN.{length, getD}
 use lib.Seq.{sets}
-use Rattle.joining.specs.declared.assembly.Assembly.{Assembly}
+use Rattle.assembling.specs.declared.assembly.Assembly.{Assembly}
 use Rattle.joining.specs.Table.{table}
 use Rattle.joining.specs.Units.{frame, unitFrom, lagsFrom}
 use Rattle.joining.specs.Writing.{Placed}

@@ -1,0 +1,214 @@
+-- What an assembly that was found is: rows once chosen stay, each is a row of its own layer, and every edge is met.
+-- Assumes nothing.
+use Prim.Native.Nat.{ℕ, zero, suc, _≤_, _<_}
+use mathlib.Core.Path.{_≡_, refl, sym, _∙_, ap, subst}
+use mathlib.Core.Bool.{Bool, true, false, cond, _&&_, true≢false}
+use mathlib.Core.List.{List, [], _∷_}
+use mathlib.Core.Logic.{_⊎_, inl, inr}
+use native.Mathlib.Omega.{arith}
+use native.Mathlib.Decide.{decLt, ℕ-discrete}
+use native.Mathlib.Nat.{mod-lt}
+use borrow.Author.Tests.{lt-ltb, le-ltb, eqb-true}
+use lib.Dec.{eqb}
+use lib.ListN.{length, getD, set, replicate, length-set, length-replicate, getD-replicate}
+use lib.Seq.{getD-set-same, getD-set-other}
+use Rattle.combinators.specs.Below.{seek-first}
+use Rattle.combinators.specs.Bools.{both-left, both-right}
+use Rattle.assembling.specs.declared.assembly.Assembly.{Assembly}
+use Rattle.rows.specs.Table.{Table, rowsIn, layerOf, decodingOf, matchOf}
+use Rattle.assembling.specs.Assemblies.{upperOf, lowerOf, rowAt, pairedRow, partner, assembledFrom, assembled}
+
+-- an edge is met: both its layers have a row, and 'the decoding time of the lower row equals the match time of the upper row'
+pub record Met (t : Table) (rows : List ℕ) (edge : ℕ) : Type 0 where
+  pub upper-row : getD rows (upperOf edge) 0 < rowsIn t
+  pub lower-row : getD rows (lowerOf edge) 0 < rowsIn t
+  pub paired : decodingOf t (getD rows (lowerOf edge) 0) ≡ matchOf t (getD rows (upperOf edge) 0)
+
+-- each row chosen is one of its layer's
+pub record OfLayers (t : Table) (rows : List ℕ) : Type 0 where
+  pub long : length rows ≡ 64
+  pub own : (layer : ℕ) → layer < 64 → getD rows layer 0 < rowsIn t → layerOf t (getD rows layer 0) ≡ layer
+
+pub lower-below : (edge : ℕ) → lowerOf edge < 64
+lower-below edge = mod-lt edge (omega arith)
+
+module _ (t : Table) where
+  -- ---- the row found by its time has that time, and is one of the layer's
+
+  pub row-found : (layer time : ℕ) → rowAt t layer time < rowsIn t → (layerOf t (rowAt t layer time) ≡ layer) × (decodingOf t (rowAt t layer time) ≡ time)
+  row-found layer time h =
+      let both = seek-first (λ k. eqb (layerOf t k) layer && eqb (decodingOf t k) time) (rowsIn t) .found h in
+      let k : ℕ = rowAt t layer time in (
+        eqb-true (layerOf t k) layer (both-left (eqb (layerOf t k) layer) (eqb (decodingOf t k) time) both),
+        eqb-true (decodingOf t k) time (both-right (eqb (layerOf t k) layer) (eqb (decodingOf t k) time) both),
+      )
+
+  -- ---- one edge
+
+  -- how a lower layer came to its row: it had it before, and it has the time asked for; or it was found by that time
+  pub record Partner (rows : List ℕ) (edge row : ℕ) : Type 0 where
+    pub above : getD rows (upperOf edge) 0 < rowsIn t
+    pub timed : decodingOf t row ≡ matchOf t (getD rows (upperOf edge) 0)
+    pub origin : ((getD rows (lowerOf edge) 0 < rowsIn t) × (row ≡ getD rows (lowerOf edge) 0))
+        ⊎ ((rowsIn t ≤ getD rows (lowerOf edge) 0) × (layerOf t row ≡ lowerOf edge))
+
+  pub partner-is : (rows : List ℕ) (edge : ℕ) → partner t rows edge < rowsIn t → Partner rows edge (partner t rows edge)
+  partner-is rows edge h = go (decLt (getD rows (upperOf edge) 0) (rowsIn t)) h
+    where
+      u : ℕ
+      u = getD rows (upperOf edge) 0
+
+      old : (b : Bool) → eqb (decodingOf t (getD rows (lowerOf edge) 0)) (matchOf t (getD rows (upperOf edge) 0)) ≡ b
+          → getD rows (upperOf edge) 0 < rowsIn t → getD rows (lowerOf edge) 0 < rowsIn t
+          → cond b (getD rows (lowerOf edge) 0) (rowsIn t) < rowsIn t → Partner rows edge (cond b (getD rows (lowerOf edge) 0) (rowsIn t))
+      old true e a l x =
+          record {
+            above = a;
+            timed = eqb-true (decodingOf t (getD rows (lowerOf edge) 0)) (matchOf t (getD rows (upperOf edge) 0)) e;
+            origin = inl (l, refl);
+          }
+      old false e a l x = absurd (omega arith)
+
+      paired : getD rows (upperOf edge) 0 < rowsIn t → Dec (getD rows (lowerOf edge) 0 < rowsIn t)
+          → pairedRow t (getD rows (lowerOf edge) 0) (lowerOf edge) (matchOf t (getD rows (upperOf edge) 0)) < rowsIn t
+          → Partner rows edge (pairedRow t (getD rows (lowerOf edge) 0) (lowerOf edge) (matchOf t (getD rows (upperOf edge) 0)))
+      paired a (yes l) =
+          rw (lt-ltb (getD rows (lowerOf edge) 0) (rowsIn t) l)
+          (λ x. old (eqb (decodingOf t (getD rows (lowerOf edge) 0)) (matchOf t (getD rows (upperOf edge) 0))) refl a l x)
+      paired a (no l) =
+          rw (le-ltb (getD rows (lowerOf edge) 0) (rowsIn t) (omega arith))
+          (λ x. (let w = row-found (lowerOf edge) (matchOf t (getD rows (upperOf edge) 0)) x in
+          record { above = a; timed = w .1; origin = inr (omega arith, w .0) }))
+
+      go : Dec (getD rows (upperOf edge) 0 < rowsIn t) → partner t rows edge < rowsIn t → Partner rows edge (partner t rows edge)
+      go (yes a) = rw (lt-ltb (getD rows (upperOf edge) 0) (rowsIn t) a) (paired a (decLt (getD rows (lowerOf edge) 0) (rowsIn t)))
+      go (no a) = rw (le-ltb (getD rows (upperOf edge) 0) (rowsIn t) (omega arith)) (λ x. absurd (omega arith))
+
+  -- the rows after it: as before where there was one
+  module _ (rows : List ℕ) (edge row : ℕ) (long : length rows ≡ 64) (p : Partner rows edge row) where
+    pub stays : (layer : ℕ) → getD rows layer 0 < rowsIn t → getD (set rows (lowerOf edge) row) layer 0 ≡ getD rows layer 0
+    stays layer h = go (ℕ-discrete layer (lowerOf edge)) (p .origin)
+      where
+        go : Dec (layer ≡ lowerOf edge)
+            → ((getD rows (lowerOf edge) 0 < rowsIn t) × (row ≡ getD rows (lowerOf edge) 0))
+            ⊎ ((rowsIn t ≤ getD rows (lowerOf edge) 0) × (layerOf t row ≡ lowerOf edge))
+            → getD (set rows (lowerOf edge) row) layer 0 ≡ getD rows layer 0
+        go (no e) o = getD-set-other rows (lowerOf edge) layer row 0 e
+        go (yes e) (inl w) = rw e (getD-set-same rows (lowerOf edge) row 0 (omega (arith, long, lower-below edge)) ∙ w .1)
+        go (yes e) (inr w) = absurd (let same = ap (λ (l : ℕ). getD rows l 0) e in omega (arith, w .0))
+
+    pub stored : getD (set rows (lowerOf edge) row) (lowerOf edge) 0 ≡ row
+    stored = getD-set-same rows (lowerOf edge) row 0 (omega (arith, long, lower-below edge))
+
+    pub own-more : OfLayers t rows → OfLayers t (set rows (lowerOf edge) row)
+    own-more known =
+        record {
+          long = length-set rows (lowerOf edge) row ∙ long;
+          own = λ layer h l. go layer h l (ℕ-discrete layer (lowerOf edge)) (p .origin);
+        }
+      where
+        go : (layer : ℕ) → layer < 64 → getD (set rows (lowerOf edge) row) layer 0 < rowsIn t → Dec (layer ≡ lowerOf edge)
+            → ((getD rows (lowerOf edge) 0 < rowsIn t) × (row ≡ getD rows (lowerOf edge) 0))
+            ⊎ ((rowsIn t ≤ getD rows (lowerOf edge) 0) × (layerOf t row ≡ lowerOf edge))
+            → layerOf t (getD (set rows (lowerOf edge) row) layer 0) ≡ layer
+        go layer h l (no e) o =
+            let same = getD-set-other rows (lowerOf edge) layer row 0 e in
+            ap (layerOf t) same ∙ known .own layer h (subst (λ (x : ℕ). x < rowsIn t) same l)
+        go layer h l (yes e) (inl w) =
+            rw e (ap (layerOf t) (stored ∙ w .1) ∙ known .own (lowerOf edge) (lower-below edge) (w .0))
+        go layer h l (yes e) (inr w) = rw e (ap (layerOf t) stored ∙ w .1)
+
+  -- ---- all edges
+
+  -- a complete assembly came by its first edge
+  first-met : (edge : ℕ) (edges rows : List ℕ) → assembledFrom t (edge ∷ edges) rows .complete ≡ true
+      → (partner t rows edge < rowsIn t)
+      × (assembledFrom t (edge ∷ edges) rows ≡ assembledFrom t edges (set rows (lowerOf edge) (partner t rows edge)))
+  first-met edge edges rows e = go (decLt (partner t rows edge) (rowsIn t)) e
+    where
+      go : Dec (partner t rows edge < rowsIn t) → assembledFrom t (edge ∷ edges) rows .complete ≡ true
+          → (partner t rows edge < rowsIn t)
+          × (assembledFrom t (edge ∷ edges) rows ≡ assembledFrom t edges (set rows (lowerOf edge) (partner t rows edge)))
+      go (yes h) e = (h, rw (lt-ltb (partner t rows edge) (rowsIn t) h))
+      go (no h) e = absurd (true≢false (sym (rw (le-ltb (partner t rows edge) (rowsIn t) (omega arith)) at e)))
+
+  -- rows once chosen stay
+  pub keeps : (edges rows : List ℕ) → length rows ≡ 64 → assembledFrom t edges rows .complete ≡ true
+      → (layer : ℕ) → getD rows layer 0 < rowsIn t → getD (assembledFrom t edges rows .rows) layer 0 ≡ getD rows layer 0
+  keeps [] rows long e layer h = refl
+  keeps (edge ∷ edges) rows long e layer h =
+      let w = first-met edge edges rows e in
+      let p = partner-is rows edge (w .0) in
+      let s = stays rows edge (partner t rows edge) long p layer h in
+      ap (λ (a : Assembly). getD (a .rows) layer 0) (w .1)
+      ∙ keeps edges (set rows (lowerOf edge) (partner t rows edge)) (length-set rows (lowerOf edge) (partner t rows edge) ∙ long)
+      (sym (ap (λ (a : Assembly). a .complete) (w .1)) ∙ e) layer (subst (λ (x : ℕ). x < rowsIn t) (sym s) h)
+      ∙ s
+
+  -- EVERY EDGE IS MET,
+  pub all-met : (edges rows : List ℕ) → length rows ≡ 64 → assembledFrom t edges rows .complete ≡ true
+      → (i : ℕ) → i < length edges → Met t (assembledFrom t edges rows .rows) (getD edges i 0)
+  all-met [] rows long e i h = absurd (omega arith)
+  all-met (edge ∷ edges) rows long e zero h =
+      let w = first-met edge edges rows e in
+      let p = partner-is rows edge (w .0) in
+      let later = set rows (lowerOf edge) (partner t rows edge) in
+      let long-later = length-set rows (lowerOf edge) (partner t rows edge) ∙ long in
+      let done = sym (ap (λ (a : Assembly). a .complete) (w .1)) ∙ e in
+      let s = stays rows edge (partner t rows edge) long p (upperOf edge) (p .above) in
+      let here = stored rows edge (partner t rows edge) long p in
+      let up : getD (assembledFrom t (edge ∷ edges) rows .rows) (upperOf edge) 0 ≡ getD rows (upperOf edge) 0 =
+      ap (λ (a : Assembly). getD (a .rows) (upperOf edge) 0) (w .1)
+      ∙ keeps edges later long-later done (upperOf edge) (subst (λ (x : ℕ). x < rowsIn t) (sym s) (p .above)) ∙ s in
+      let low : getD (assembledFrom t (edge ∷ edges) rows .rows) (lowerOf edge) 0 ≡ partner t rows edge =
+      ap (λ (a : Assembly). getD (a .rows) (lowerOf edge) 0) (w .1)
+      ∙ keeps edges later long-later done (lowerOf edge) (subst (λ (x : ℕ). x < rowsIn t) (sym here) (w .0)) ∙ here in
+      record {
+        upper-row = subst (λ (x : ℕ). x < rowsIn t) (sym up) (p .above);
+        lower-row = subst (λ (x : ℕ). x < rowsIn t) (sym low) (w .0);
+        paired = ap (decodingOf t) low ∙ p .timed ∙ ap (matchOf t) (sym up);
+      }
+  all-met (edge ∷ edges) rows long e (suc i) h =
+      let w = first-met edge edges rows e in
+      subst (λ (a : Assembly). Met t (a .rows) (getD edges i 0)) (sym (w .1))
+      (all-met edges (set rows (lowerOf edge) (partner t rows edge)) (length-set rows (lowerOf edge) (partner t rows edge) ∙ long)
+      (sym (ap (λ (a : Assembly). a .complete) (w .1)) ∙ e) i (omega arith))
+
+  -- and every row chosen is one of its layer's.
+  pub all-own : (edges rows : List ℕ) → OfLayers t rows → assembledFrom t edges rows .complete ≡ true → OfLayers t (assembledFrom t edges rows .rows)
+  all-own [] rows known e = known
+  all-own (edge ∷ edges) rows known e =
+      let w = first-met edge edges rows e in
+      subst (λ (a : Assembly). OfLayers t (a .rows)) (sym (w .1))
+      (all-own edges (set rows (lowerOf edge) (partner t rows edge))
+      (own-more rows edge (partner t rows edge) (known .long) (partner-is rows edge (w .0)) known)
+      (sym (ap (λ (a : Assembly). a .complete) (w .1)) ∙ e))
+
+  -- ---- from the start: the target's row, and no other
+
+  module _ (target head : ℕ) (small : target < 64) where
+    abbrev begin : List ℕ
+    begin = set (replicate 64 (rowsIn t)) target head
+
+    pub begin-long : length begin ≡ 64
+    begin-long = length-set (replicate 64 (rowsIn t)) target head ∙ length-replicate 64 (rowsIn t)
+
+    pub begin-target : getD begin target 0 ≡ head
+    begin-target = getD-set-same (replicate 64 (rowsIn t)) target head 0 (omega (arith, length-replicate 64 (rowsIn t)))
+
+    pub begin-other : (layer : ℕ) → layer < 64 → (layer ≡ target → ⊥) → getD begin layer 0 ≡ rowsIn t
+    begin-other layer h e =
+        getD-set-other (replicate 64 (rowsIn t)) target layer head 0 e ∙ getD-replicate 64 layer (rowsIn t) 0 h
+
+    pub begin-own : layerOf t head ≡ target → OfLayers t begin
+    begin-own e = record { long = begin-long; own = λ layer h l. go layer h l (ℕ-discrete layer target) }
+      where
+        go : (layer : ℕ) → layer < 64 → getD begin layer 0 < rowsIn t → Dec (layer ≡ target) → layerOf t (getD begin layer 0) ≡ layer
+        go layer h l (yes q) = rw q (ap (layerOf t) begin-target ∙ e)
+        go layer h l (no q) = absurd (let other = begin-other layer h q in omega arith)
+
+    -- a complete assembly has the head for its target
+    pub heads : (edges : List ℕ) → head < rowsIn t → assembled t edges target head .complete ≡ true
+        → getD (assembled t edges target head .rows) target 0 ≡ head
+    heads edges h e =
+        keeps edges begin begin-long e target (subst (λ (x : ℕ). x < rowsIn t) (sym begin-target) h) ∙ begin-target

@@ -1,0 +1,65 @@
+-- Assemblies: 'An assembly of a target row chooses one row for each closure layer, that row for the target, such that for each layer and
+-- each of its embedded layers the decoding time of the lower row equals the match time of the upper row.' This file finds it; what it is,
+-- in these words, is in Meaning.
+-- Assumes nothing.
+use Prim.Native.Nat.{ℕ, _-_, _/_, _%_}
+use mathlib.Core.Bool.{Bool, true, false, cond, _&&_}
+use mathlib.Core.List.{List, [], _∷_}
+use lib.Dec.{eqb, ltb}
+use lib.ListN.{getD, set, replicate}
+use Rattle.closure.specs.declared.Layers.{Layers}
+use Rattle.combinators.specs.Below.{seek}
+use Rattle.combinators.specs.Those.{those}
+use Rattle.sets.specs.Sets.{has}
+use Rattle.assembling.specs.declared.assembly.Assembly.{Assembly}
+use Rattle.rows.specs.Table.{Table, rowsIn, layerOf, decodingOf, matchOf}
+
+-- An edge, 'each layer and each of its embedded layers', is held as one number: the pairs of indices in this order have the highest
+-- upper layer first.
+abbrev pub upperOf : ℕ → ℕ
+upperOf edge = 63 - edge / 64 % 64
+
+abbrev pub lowerOf : ℕ → ℕ
+lowerOf edge = edge % 64
+
+-- whether an upper layer of the closure names a lower one, given the set of its embedded layers
+abbrev pub joins : ℕ → ℕ → ℕ → ℕ → Bool
+joins closure embedded upper lower = has closure upper && (ltb lower upper && has embedded lower)
+
+abbrev pub isEdge : Layers → ℕ → ℕ → Bool
+isEdge layers closure edge = joins closure (getD (layers .embedded) (upperOf edge) 0) (upperOf edge) (lowerOf edge)
+
+-- the edges of a closure, and its layers in rising index
+unfoldable pub edgesOf : Layers → ℕ → List ℕ
+edgesOf layers closure = those (isEdge layers closure) 4096
+
+unfoldable pub membersOf : ℕ → List ℕ
+membersOf closure = those (has closure) 64
+
+-- the row of a layer that has a decoding time, or the number of rows where there is none
+abbrev pub rowAt : Table → ℕ → ℕ → ℕ
+rowAt t layer time = seek (λ k. eqb (layerOf t k) layer && eqb (decodingOf t k) time) (rowsIn t)
+
+-- The row for the lower layer of an edge, given the time that the upper row asks for: where the layer has its row already, by another
+-- edge, that row must meet this edge too. The number of rows stands for no row.
+abbrev pub pairedRow : Table → ℕ → ℕ → ℕ → ℕ
+pairedRow t row layer time =
+    cond (ltb row (rowsIn t)) (cond (eqb (decodingOf t row) time) row (rowsIn t)) (rowAt t layer time)
+
+abbrev pub partner : Table → List ℕ → ℕ → ℕ
+partner t rows edge =
+    cond (ltb (getD rows (upperOf edge) 0) (rowsIn t))
+    (pairedRow t (getD rows (lowerOf edge) 0) (lowerOf edge) (matchOf t (getD rows (upperOf edge) 0)))
+    (rowsIn t)
+
+-- Edge after edge, each lower layer is given its row; the first edge that finds none ends it.
+abbrev pub assembledFrom : Table → List ℕ → List ℕ → Assembly
+assembledFrom t [] rows = record { complete = true; rows = rows }
+assembledFrom t (edge ∷ edges) rows =
+    cond (ltb (partner t rows edge) (rowsIn t))
+    (assembledFrom t edges (set rows (lowerOf edge) (partner t rows edge)))
+    (record { complete = false; rows = rows })
+
+-- at the start the target alone has a row
+abbrev pub assembled : Table → List ℕ → ℕ → ℕ → Assembly
+assembled t edges target head = assembledFrom t edges (set (replicate 64 (rowsIn t)) target head)

@@ -1,0 +1,3 @@
+pub mod Assemblies
+pub mod Index
+pub mod Assembled

@@ -1,0 +1,224 @@
+// The assembly of a row: one row for each layer that its own layer rests on.
+ghost use mathlib.Core.List.{[]};
+ghost use mathlib.Core.Path.{_≡_};
+ghost use Prim.Native.Nat.{_<_};
+ghost use lib.ListN.{length};
+ghost use Rattle.combinators.specs.Padding.{padTo};
+ghost use Rattle.rows.specs.Table.{table};
+ghost use Rattle.assembling.specs.Index.{Sorted, Rising, Climbing, Reached, Ready};
+ghost use Rattle.assembling.specs.Assemblies.{upperOf, lowerOf, joins, edgesOf, membersOf, rowAt, pairedRow, assembled};
+use closure::Layers;
+
+// The edges of a closure, as many as `count`, in `list`.
+pub struct Edges {
+    pub count: usize,
+    pub list: [u16; 4096],
+}
+
+// The layers of a closure in rising index, as many as `count`, in `list`.
+pub struct Members {
+    pub count: usize,
+    pub list: [u8; 64],
+}
+
+// The rows chosen, one for each layer index, the number of rows standing for none; and whether each edge was met.
+pub struct Assembly {
+    pub complete: bool,
+    pub rows: [usize; 64],
+}
+
+fn upper_of(edge: usize) -> usize
+    ensures { λ r. ⌜ r ≡ upperOf edge ⌝ }
+{
+    63 - edge / 64 % 64
+}
+
+fn lower_of(edge: usize) -> usize
+    ensures { λ r. ⌜ r ≡ lowerOf edge ⌝ }
+{
+    edge % 64
+}
+
+// Whether an upper layer of the closure names a lower one.
+fn is_edge(closure: u64, embedded: u64, upper: usize, lower: usize) -> bool
+    ensures { λ r. ⌜ r ≡ joins closure embedded upper lower ⌝ }
+{
+    if !sets::member(closure, upper) {
+        return false;
+    }
+    if upper <= lower {
+        return false;
+    }
+    sets::member(embedded, lower)
+}
+
+// The edges of a closure, those of the highest layer first.
+pub fn edges_of(layers: Layers, closure: u64) -> Edges
+    ensures { λ r. ⌜ r ≡ record { count = length (edgesOf layers closure); list = padTo 4096 0 (edgesOf layers closure) } ⌝ }
+{
+    let mut list = [0u16; 4096];
+    let mut count = 0;
+    let mut edge = 0;
+    while edge < 4096 {
+        let upper = upper_of(edge);
+        if is_edge(closure, layers.embedded[upper], upper, lower_of(edge)) {
+            list[count] = edge as u16;
+            count += 1;
+        }
+        edge += 1;
+    }
+    Edges { count, list }
+}
+
+// The layers of a closure.
+pub fn members_of(closure: u64) -> Members
+    ensures { λ r. ⌜ r ≡ record { count = length (membersOf closure); list = padTo 64 0 (membersOf closure) } ⌝ }
+{
+    let mut list = [0u8; 64];
+    let mut count = 0;
+    let mut layer = 0;
+    while layer < 64 {
+        if sets::member(closure, layer) {
+            list[count] = layer as u8;
+            count += 1;
+        }
+        layer += 1;
+    }
+    Members { count, list }
+}
+
+// The first place of a layer's rows, from `first` on and before `end`, whose row lies at least `far` ahead of `origin`.
+fn first_as_far(
+    decodings: &[u64],
+    order: &[usize; 512],
+    origin: u64,
+    far: u64,
+    first: usize,
+    end: usize,
+) -> usize
+    requires { ⌜ Climbing (now decodings) (now order) origin first end ⌝ }
+    ensures { λ r. ⌜ Reached (now (decodings .entry)) (now (order .entry)) origin far first end r ⌝ }
+{
+    let mut low = first;
+    let mut high = end;
+    while low < high {
+        let middle = low + (high - low) / 2;
+        if clock::distance(origin, decodings[order[middle]]) < far {
+            low = middle + 1;
+        } else {
+            high = middle;
+        }
+    }
+    low
+}
+
+// The row of a layer that has a decoding time, or the number of rows. The layer's rows lie farther and farther ahead of its first.
+fn row_at(
+    indices: &[u8],
+    decodings: &[u64],
+    starts: &[usize; 65],
+    order: &[usize; 512],
+    layer: usize,
+    time: u64,
+) -> usize
+    requires { ⌜ Sorted (now indices) (now decodings) (now starts) (now order) × (layer < 64) × Rising (table (now indices) (now decodings) []) layer ⌝ }
+    ensures { λ r. ⌜ r ≡ rowAt (table (now (indices .entry)) (now (decodings .entry)) []) layer time ⌝ }
+{
+    let none = indices.len();
+    let first = starts[layer];
+    let end = starts[layer + 1];
+    if end <= first {
+        return none;
+    }
+    let origin = decodings[order[first]];
+    let place = first_as_far(
+        decodings,
+        order,
+        origin,
+        clock::distance(origin, time),
+        first,
+        end,
+    );
+    if end <= place {
+        return none;
+    }
+    let row = order[place];
+    if decodings[row] == time {
+        return row;
+    }
+    none
+}
+
+// The row for the lower layer of an edge, given the row that the layer has so far, or the number of rows.
+fn paired_row(
+    indices: &[u8],
+    decodings: &[u64],
+    starts: &[usize; 65],
+    order: &[usize; 512],
+    row: usize,
+    layer: usize,
+    time: u64,
+) -> usize
+    requires { ⌜ Sorted (now indices) (now decodings) (now starts) (now order) × (layer < 64) × Rising (table (now indices) (now decodings) []) layer ⌝ }
+    ensures { λ r. ⌜ r ≡ pairedRow (table (now (indices .entry)) (now (decodings .entry)) []) row layer time ⌝ }
+{
+    if row < indices.len() {
+        if decodings[row] == time {
+            return row;
+        }
+        return indices.len();
+    }
+    row_at(indices, decodings, starts, order, layer, time)
+}
+
+// The assembly that the row `head` of the layer `top` is at the head of.
+pub fn assemble(
+    indices: &[u8],
+    decodings: &[u64],
+    matches: &[u64],
+    starts: &[usize; 65],
+    order: &[usize; 512],
+    edges: &[u16],
+    top: usize,
+    head: usize,
+) -> Assembly
+    requires { ⌜ Ready (table (now indices) (now decodings) (now matches)) (now starts) (now order) (now edges) × (top < 64) ⌝ }
+    ensures { λ r. ⌜ r ≡ assembled (table (now (indices .entry)) (now (decodings .entry)) (now (matches .entry))) (now (edges .entry)) top head ⌝ }
+{
+    let none = indices.len();
+    let mut rows = [none; 64];
+    rows[top] = head;
+    let mut at = 0;
+    while at < edges.len() {
+        let edge = edges[at] as usize;
+        let upper = rows[63 - edge / 64 % 64];
+        if none <= upper {
+            return Assembly {
+                complete: false,
+                rows,
+            };
+        }
+        let lower = edge % 64;
+        let row = paired_row(
+            indices,
+            decodings,
+            starts,
+            order,
+            rows[lower],
+            lower,
+            matches[upper],
+        );
+        if none <= row {
+            return Assembly {
+                complete: false,
+                rows,
+            };
+        }
+        rows[lower] = row;
+        at += 1;
+    }
+    Assembly {
+        complete: true,
+        rows,
+    }
+}
