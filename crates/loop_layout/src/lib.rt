@@ -1,8 +1,7 @@
-// An entry of the elementary-stream loop as the syntax tables that make it up: the bytes of each table, made of its values; whether each value
-// fits its field (25); and how many bytes the entries take.
+// An entry of the elementary-stream loop as the syntax tables that make it up: the bytes of each table, made of its values, and how many bytes
+// the entries take. The specs say when a value is too wide for its field.
 mod sizes;
 mod tables;
-mod widths;
 
 pub use sizes::loop_size;
 pub use sizes::record_size;
@@ -11,4 +10,3 @@ pub use tables::embedded_layer;
 pub use tables::entry_head;
 pub use tables::extension_head;
 pub use tables::hierarchy_descriptor;
-pub use widths::some_too_wide;

@@ -27,7 +27,7 @@ pub fn write_loop(count: usize, entries: [Entry; 201], out: &mut [u8]) -> Writte
     ensures { λ r. ⌜ (r ≡ answer (length (now (out .entry))) count entries) × (now (out .exit) ≡ content count entries (now (out .entry))) ⌝ }
 {
     let given = lesser(count, 201);
-    if loop_layout::some_too_wide(given, entries) {
+    if loop_widths::some_too_wide(given, entries) {
         return Written::Refused(Refusal::TooWide);
     }
     if 201 < count {

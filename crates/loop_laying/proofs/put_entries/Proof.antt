@@ -1,4 +1,4 @@
--- `laying::put_entries` meets its contract. The invariant: the entries passed are laid in, after the empty text at the start.
+-- `put_entries` meets its contract. The invariant: the entries passed are laid in, after the empty text at the start.
 -- Assumes nothing.
 use Rattle.text.specs.Text.{Laid}
 use Rattle.text.specs.Laws.{laid-length}

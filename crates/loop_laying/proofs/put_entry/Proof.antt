@@ -1,4 +1,4 @@
--- `laying::put_entry` meets its contract: the head, with the size of the descriptor in it, and the descriptor.
+-- `put_entry` meets its contract: the head, with the size of the descriptor in it, and the descriptor.
 -- Assumes nothing.
 use Rattle.text.specs.Laws.{laid-then, laid-as}
 use Prim.Native.Nat.{ℕ}

@@ -1,4 +1,4 @@
--- `laying::put_extension` meets its contract: the head, the table and the list, one after the other.
+-- `put_extension` meets its contract: the head, the table and the list, one after the other.
 -- Assumes nothing.
 use Rattle.text.specs.Laws.{laid-then, laid-as}
 use native.Mathlib.Omega.{arith}

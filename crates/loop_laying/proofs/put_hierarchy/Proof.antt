@@ -1,4 +1,4 @@
--- `laying::put_hierarchy` meets its contract: the head and the table, one after the other.
+-- `put_hierarchy` meets its contract: the head and the table, one after the other.
 -- Assumes nothing.
 use Rattle.text.specs.Laws.{laid-then, laid-as}
 use mathlib.Core.List.{[]}

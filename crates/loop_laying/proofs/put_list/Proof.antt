@@ -1,4 +1,4 @@
--- `laying::put_list` meets its contract. The invariant: the layers passed are laid in, after the empty text at the start.
+-- `put_list` meets its contract. The invariant: the layers passed are laid in, after the empty text at the start.
 -- Assumes nothing.
 use Rattle.text.specs.Text.{Laid}
 use Rattle.text.specs.Laws.{laid-as, laid-length}

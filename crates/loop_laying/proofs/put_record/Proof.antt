@@ -1,4 +1,4 @@
--- `laying::put_record` meets its contract: which arm was taken says which record it is.
+-- `put_record` meets its contract: which arm was taken says which record it is.
 -- Assumes nothing.
 use Rattle.text.specs.Laws.{laid-as}
 use mathlib.Core.Path.{sym, _∙_, ap}

@@ -1,4 +1,4 @@
--- `verdict::also_six` meets its contract: the branch is the definition's own test.
+-- `also_six` meets its contract: the branch is the definition's own test.
 -- Assumes nothing.
 use Rattle.loop_verdict.proofs.also_six.Statement.{statement}
 use Rattle.loop_verdict.proofs.also_six.Tie as tie

@@ -1,4 +1,4 @@
--- `verdict::lowest_of` meets its contract. The invariant is what Walk knows after the entries passed; each turn is one of its steps.
+-- `lowest_of` meets its contract. The invariant is what Walk knows after the entries passed; each turn is one of its steps.
 -- Assumes nothing.
 use Prim.Native.Nat.{ℕ, _-_, _≤_}
 use mathlib.Core.Path.{_≡_, sym, _∙_, ap, subst}

@@ -1,4 +1,4 @@
--- `verdict::on_unknown_type` meets its contract: both tests are those of the definition.
+-- `on_unknown_type` meets its contract: both tests are those of the definition.
 -- Assumes nothing.
 use borrow.Author.Needs.{needs}
 use Rattle.loop_verdict.proofs.on_unknown_type.Statement.{statement}

@@ -1,4 +1,4 @@
--- `widths::list_too_wide` meets its contract. The invariant: none of the layers passed is too wide.
+-- `list_too_wide` meets its contract. The invariant: none of the layers passed is too wide.
 -- Assumes nothing.
 use Prim.Native.Nat.{_-_, _≤_}
 use mathlib.Core.Bool.{false, _||_}
@@ -6,10 +6,10 @@ use mathlib.Core.Path.{_≡_, refl, sym, _∙_, ap₂}
 use native.Mathlib.Omega.{arith}
 use lib.ListN.{take}
 use Rattle.combinators.specs.Lists.{any, any-map, any-next, any-found}
 use Rattle.loop_layout.specs.Layout.{tooWideIn, layerTable}
 use borrow.Author.Needs.{needs}
-use Rattle.loop_layout.proofs.widths.list_too_wide.Statement.{statement}
-use Rattle.loop_layout.proofs.widths.list_too_wide.Tie as tie
+use Rattle.loop_widths.proofs.list_too_wide.Statement.{statement}
+use Rattle.loop_widths.proofs.list_too_wide.Tie as tie
 
 abbrev Inv-loop : tie.InvT-loop
 Inv-loop count embedded i₀ i = (i ≤ count) × (any (λ x. tooWideIn (layerTable x)) (take i embedded) ≡ false)

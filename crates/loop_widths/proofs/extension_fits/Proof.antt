@@ -1,12 +1,12 @@
--- `widths::extension_fits` meets its contract: the flag and the 16 bits always fit, and each other value is tested.
+-- `extension_fits` meets its contract: the flag and the 16 bits always fit, and each other value is tested.
 -- Assumes nothing.
 use Prim.Native.Nat.{_<_}
 use mathlib.Core.Bool.{and-true, and-assoc}
 use native.Mathlib.Omega.{arith}
 use borrow.Author.Tests.{lt-ltb}
-use Rattle.loop_layout.proofs.Wide.{bit-fits}
-use Rattle.loop_layout.proofs.widths.extension_fits.Statement.{statement}
-use Rattle.loop_layout.proofs.widths.extension_fits.Tie as tie
+use Rattle.loop_widths.proofs.Wide.{bit-fits}
+use Rattle.loop_widths.proofs.extension_fits.Statement.{statement}
+use Rattle.loop_widths.proofs.extension_fits.Tie as tie
 
 returns : tie.Need-returns
 returns c =

@@ -1,4 +1,4 @@
--- `widths::record_too_wide` meets its contract: which arm was taken says which record it is, and its tables are tested in order.
+-- `record_too_wide` meets its contract: which arm was taken says which record it is, and its tables are tested in order.
 -- Assumes nothing.
 use mathlib.Core.Path.{_≡_, sym, _∙_, ap}
 use native.Mathlib.Omega.{arith}
@@ -9,11 +9,11 @@ use Rattle.syntax.specs.Laws.{fits-fit}
 use Rattle.syntax.specs.Equations.{bounds}
 use Rattle.descriptors.specs.declared.records.Record.{Record}
 use Rattle.descriptors.specs.Tables.{extensionHead}
 use Rattle.loop_layout.specs.Layout.{tooWideIn, extensionFields, recordTables}
-use Rattle.loop_layout.proofs.Wide.{hierarchy-wide, extension-fine, extension-wide}
+use Rattle.loop_widths.proofs.Wide.{hierarchy-wide, extension-fine, extension-wide}
 use borrow.Author.Needs.{needs}
-use Rattle.loop_layout.proofs.widths.record_too_wide.Statement.{statement}
-use Rattle.loop_layout.proofs.widths.record_too_wide.Tie as tie
+use Rattle.loop_widths.proofs.record_too_wide.Statement.{statement}
+use Rattle.loop_widths.proofs.record_too_wide.Tie as tie
 
 enum-told : tie.Need-enum-told
 enum-told c = search needs

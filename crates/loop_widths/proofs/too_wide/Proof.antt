@@ -1,11 +1,11 @@
--- `widths::too_wide` meets its contract: the PID is tested, then the record.
+-- `too_wide` meets its contract: the PID is tested, then the record.
 -- Assumes nothing.
 use mathlib.Core.Path.{_∙_}
 use native.Mathlib.Omega.{arith}
-use Rattle.loop_layout.proofs.Wide.{entry-fine, entry-wide}
+use Rattle.loop_widths.proofs.Wide.{entry-fine, entry-wide}
 use borrow.Author.Needs.{needs}
-use Rattle.loop_layout.proofs.widths.too_wide.Statement.{statement}
-use Rattle.loop_layout.proofs.widths.too_wide.Tie as tie
+use Rattle.loop_widths.proofs.too_wide.Statement.{statement}
+use Rattle.loop_widths.proofs.too_wide.Tie as tie
 
 returns : tie.Need-returns
 returns c = entry-wide (c .before .before .before .args .entry) (omega arith)

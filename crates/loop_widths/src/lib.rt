@@ -1,4 +1,4 @@
-// Refusal 25: a value that is too wide for its field.
+// Refusal 25 for the elementary-stream loop: whether a value of the entries that are to be written is too wide for its field.
 ghost use mathlib.Core.Path.{_≡_};
 ghost use mathlib.Core.List.{map};
 ghost use Prim.Native.Nat.{_≤_};

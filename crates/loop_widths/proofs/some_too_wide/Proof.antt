@@ -1,4 +1,4 @@
--- `widths::some_too_wide` meets its contract. The invariant: none of the entries passed has a value that is too wide.
+-- `some_too_wide` meets its contract. The invariant: none of the entries passed has a value that is too wide.
 -- Assumes nothing.
 use Prim.Native.Nat.{_-_, _≤_}
 use mathlib.Core.Bool.{false, _||_}
@@ -6,10 +6,10 @@ use mathlib.Core.Path.{_≡_, refl, sym, _∙_, ap₂}
 use native.Mathlib.Omega.{arith}
 use lib.ListN.{take}
 use Rattle.combinators.specs.Lists.{any, any-next, any-found}
 use Rattle.loop_layout.specs.Layout.{tooWide}
 use borrow.Author.Needs.{needs}
-use Rattle.loop_layout.proofs.widths.some_too_wide.Statement.{statement}
-use Rattle.loop_layout.proofs.widths.some_too_wide.Tie as tie
+use Rattle.loop_widths.proofs.some_too_wide.Statement.{statement}
+use Rattle.loop_widths.proofs.some_too_wide.Tie as tie
 
 abbrev Inv-loop : tie.InvT-loop
 Inv-loop count entries i₀ i = (i ≤ count) × (any tooWide (take i entries) ≡ false)
