@@ -1,27 +1,16 @@
 -- What the tests of a row's widths say: bounds of its values, and the whole test from its parts.
 -- Assumes nothing.
-use Prim.Native.Nat.{ℕ, _≤_, _<_, min}
-use mathlib.Core.Path.{_≡_, refl, sym, _∙_}
+use Prim.Native.Nat.{ℕ, _≤_, _<_}
+use mathlib.Core.Path.{_≡_}
 use mathlib.Core.Bool.{Bool, true, false, not}
 use mathlib.Core.List.{List, [], _∷_}
-use native.Mathlib.Decide.{decLt}
 use native.Mathlib.Omega.{arith}
 use borrow.Author.Tests.{not-false, lt-ltb, le-ltb}
-use lib.ListN.{length, take}
-use lib.Seq.{take-all}
 use Rattle.syntax.specs.Table.{Table, fits, Fit}
 use Rattle.syntax.specs.Laws.{fits-fit}
 use Rattle.syntax.specs.Equations.{Bounds, bounds}
 use Rattle.descriptors.specs.Tables.{embeddedLayer}
 use Rattle.entry_rows.specs.Rows.{fieldsIn, tooWideFor, layerTooWide}
-
--- a count beyond a list takes all of it
-pub within : {A : Type 0} (l : List A) (count given size : ℕ) → length l ≡ size → given ≡ min count size → take given l ≡ take count l
-within l count given size long e = go (decLt count size)
-  where
-    go : Dec (count < size) → take given l ≡ take count l
-    go (yes h) = let same : given ≡ count = omega arith in rw same
-    go (no h) = take-all given l (omega arith) ∙ sym (take-all count l (omega arith))
 
 -- each value of a row that a table can hold is below two to its width
 pub row-bounds : (table : Table) (row : List ℕ) → tooWideFor table row ≡ false → Bounds table (fieldsIn table row)

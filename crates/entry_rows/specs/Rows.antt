@@ -70,14 +70,14 @@ unfoldable pub headOf : ℕ → ℕ → Record → List ℕ
 headOf streamType pid «record» =
     picked rowNames (namesOf (entryTable (kindOf «record»))) (streamType ∷ pid ∷ kindOf «record» ∷ recordFields «record»)
 
--- the embedded layers that the record counts, 'in the descriptor's order'
+-- the embedded layers that the record counts, 'in the descriptor's order', of which a row has room for 63
 abbrev pub layerNumber : LayerIndex → ℕ
 layerNumber index = index .0
 
 abbrev pub listOf : Record → List LayerIndex → List ℕ
 listOf NoRecord layers = []
 listOf (Hierarchy h) layers = []
-listOf (Extension x) layers = map layerNumber (take (x .«num_embedded_layers») layers)
+listOf (Extension x) layers = map layerNumber (take (min (x .«num_embedded_layers») 63) layers)
 
 -- '0 .. and so is what stands in `embedded` beyond `num_embedded_layers`', up to the end of the row
 unfoldable pub tailOf : Record → List LayerIndex → List ℕ

@@ -1,7 +1,7 @@
 // From entries to rows.
 ghost use mathlib.Core.Path.{_≡_};
 ghost use mathlib.Core.List.{map};
-ghost use Prim.Native.Nat.{_≤_, min};
+ghost use Prim.Native.Nat.{min};
 ghost use lib.ListN.{take};
 ghost use Rattle.combinators.specs.Padding.{padTo};
 ghost use Rattle.text.specs.Text.{Laid};
@@ -118,9 +118,9 @@ fn head_of(entry: Entry) -> [u16; 16]
     }
 }
 
-// The rest of a row: the first `count` embedded layers, and 0 after them.
+// The rest of a row: the first `count` embedded layers, of at most 63, and 0 after them.
 fn tail_with(count: usize, embedded: [LayerIndex; 63]) -> [u16; 64]
-    ensures { λ r. ⌜ r ≡ padTo 64 0 (map layerNumber (take count embedded)) ⌝ }
+    ensures { λ r. ⌜ r ≡ padTo 64 0 (map layerNumber (take (min count 63) embedded)) ⌝ }
 {
     let mut tail = [0u16; 64];
     let end = lesser(count, 63);
@@ -172,14 +172,14 @@ fn put_entry(out: &mut [u16], at: usize, entry: Entry) -> usize
     put(out, next, &tail)
 }
 
-// The rows of the first `count` entries, from the front of the buffer on.
+// The rows of the first `count` entries, of which there are at most 201, from the front of the buffer on.
 pub fn put_entries(out: &mut [u16], count: usize, entries: [Entry; 201]) -> usize
-    requires { ⌜ count ≤ 201 ⌝ }
     ensures { λ r. ⌜ Laid (now (out .entry)) 0 (rowsOf (take count entries)) r (now (out .exit)) ⌝ }
 {
+    let end = lesser(count, 201);
     let mut place = 0;
     let mut i = 0;
-    while i < count {
+    while i < end {
         place = put_entry(out, place, entries[i]);
         i += 1;
     }

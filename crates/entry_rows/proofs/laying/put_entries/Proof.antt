@@ -1,22 +1,26 @@
 -- `laying::put_entries` meets its contract. The invariant: the rows of the entries passed are laid in.
 -- Assumes nothing.
-use Prim.Native.Nat.{ℕ, _-_, _≤_}
-use mathlib.Core.Path.{_≡_, sym, ap}
+use Prim.Native.Nat.{_-_, _≤_}
+use mathlib.Core.Path.{sym, ap}
 use lib.ListN.{take}
-use Rattle.combinators.specs.Lists.{gather, gather-next}
+use Rattle.combinators.specs.Lists.{gather-next}
 use Rattle.text.specs.Text.{Laid}
 use Rattle.text.specs.Laws.{laid-then, laid-as, laid-nothing, laid-length}
 use Rattle.entry_rows.specs.Rows.{rowOf, rowsOf}
+use Rattle.entry_rows.specs.Laws.{within}
 use borrow.Author.Needs.{needs}
 use native.Mathlib.Omega.{arith}
 use Rattle.entry_rows.proofs.laying.put_entries.Statement.{statement}
 use Rattle.entry_rows.proofs.laying.put_entries.Tie as tie
 
 abbrev Inv-loop : tie.InvT-loop
-Inv-loop out₀ count entries place₀ i₀ out place i = (i ≤ count) × Laid out₀ 0 (rowsOf (take i entries)) place out
+Inv-loop out₀ count entries end place₀ i₀ out place i = (i ≤ end) × Laid out₀ 0 (rowsOf (take i entries)) place out
 
 abbrev μ-loop : tie.MeasureT-loop
-μ-loop out₀ count entries place₀ i₀ out place i = count - i
+μ-loop out₀ count entries end place₀ i₀ out place i = end - i
+
+lesser-requires : tie.Need-lesser-requires Inv-loop μ-loop
+lesser-requires c κs = search needs
 
 loop-holds : tie.Need-loop-holds Inv-loop μ-loop
 loop-holds c = (omega arith, laid-nothing _ 0 0 (omega arith))
@@ -38,16 +42,15 @@ loop-less c = search needs
 
 loop-again : tie.Need-loop-again Inv-loop μ-loop
 loop-again c =
-    let a = c .before .before .before .before .before .before .before .before .args in
+    let a = c .before .before .before .before .before .before .before .before .before .args in
     let loop = c .before .before .before .before .before .before .loop in
     (omega arith, laid-as (sym (gather-next (a .t3) _ rowOf (loop .i) (omega arith))) (laid-then (loop .inv .1) (c .before .before .put-entry .ensures)))
 
 returns : tie.Need-returns Inv-loop μ-loop
 returns c =
-    let a = c .before .before .before .args in
+    let a = c .before .before .before .before .args in
     let loop = c .before .loop in
-    let all : loop .i ≡ a .count = omega arith in
-    laid-as (ap (λ (n : ℕ). rowsOf (take n (a .t3))) all) (loop .inv .1)
+    laid-as (ap rowsOf (within (a .t3) (a .count) (loop .i) 201 (omega arith) (omega arith))) (loop .inv .1)
 
 same-length : tie.Need-same-length Inv-loop μ-loop
 same-length c = laid-length (returns c)
@@ -58,6 +61,7 @@ put-entries-spec =
     (tie.spec
     Inv-loop
     μ-loop
+    lesser-requires
     loop-holds
     mul-put-entry
     array-copy-out-put-entry

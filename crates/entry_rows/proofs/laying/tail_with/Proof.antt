@@ -1,13 +1,11 @@
 -- `laying::tail_with` meets its contract. The invariant: the array holds the numbers of the layers passed, and 0 after them.
 -- Assumes nothing.
-use Prim.Native.Nat.{ℕ, _-_, _≤_}
-use mathlib.Core.Path.{_≡_, refl, sym, _∙_, ap}
-use mathlib.Core.List.{List, map}
-use lib.ListN.{length, take}
+use Prim.Native.Nat.{ℕ, _-_, _≤_, min}
+use mathlib.Core.Path.{_≡_, refl, _∙_, ap}
+use mathlib.Core.List.{map}
+use lib.ListN.{take}
 use Rattle.combinators.specs.Padding.{padTo, store-map}
-use Rattle.vocabulary.specs.declared.LayerIndex.{LayerIndex}
 use Rattle.entry_rows.specs.Rows.{layerNumber}
-use Rattle.entry_rows.proofs.Widths.{within}
 use borrow.Author.Needs.{needs}
 use native.Mathlib.Omega.{arith}
 use Rattle.entry_rows.proofs.laying.tail_with.Statement.{statement}
@@ -52,8 +50,8 @@ loop-again c =
 returns : tie.Need-returns Inv-loop μ-loop
 returns c =
     let a = c .before .before .before .args in
-    c .before .loop .inv .1
-    ∙ ap (λ (l : List LayerIndex). padTo 64 0 (map layerNumber l)) (within (a .t2) (a .count) (c .before .loop .i) 63 (omega arith) (omega arith))
+    let all : c .before .loop .i ≡ min (a .count) 63 = omega arith in
+    c .before .loop .inv .1 ∙ ap (λ (n : ℕ). padTo 64 0 (map layerNumber (take n (a .t2)))) all
 
 pub tail-with-spec : {M : Type 1} → statement M
 tail-with-spec =
