@@ -51,7 +51,7 @@ pub fn layers_of(entries: &[Entry]) -> Layers {
 /// The layers of a loop straight from its bytes, or the refusal, 1 to 10.
 pub fn layers_of_loop(reading: Reading, bytes: &[u8]) -> Result<Layers, Refusal> {
     let mut layers = Layers::default();
-    read_loop_with(reading, bytes, |entry| layers.add(&entry))?;
+    read_loop_with(reading, bytes, |entry| layers.add(entry))?;
     Ok(layers)
 }
 

@@ -13,6 +13,7 @@ const MVC: u8 = 0x20;
 const HEVC: u8 = 0x24;
 
 /// Whether a reading looks into the descriptors of a stream of this type.
+#[inline]
 pub(crate) fn known(reading: Reading, stream_type: u8) -> bool {
     match stream_type {
         AVC | SVC | MVC => true,
@@ -31,46 +32,55 @@ fn allowed(hierarchy_type: u8, stream_type: u8) -> bool {
     }
 }
 
-/// What one descriptor on a known stream turns out to be.
-pub(crate) enum Descriptor {
-    /// One of the other descriptors.
-    Skipped,
-    /// One of the two, of a wrong length: 4.
-    Malformed,
-    /// One of the two.
-    Record(Record),
+/// Reads one descriptor of a known stream. One of the two is put into `record`; 4 where its length is wrong, 5 where a record is there
+/// already. Others are skipped.
+#[inline]
+pub(crate) fn read(
+    reading: Reading,
+    tag: u8,
+    payload: &[u8],
+    record: &mut Option<Record>,
+) -> Option<u8> {
+    let read = match tag {
+        HIERARCHY_TAG => read_hierarchy(reading, payload).map(Record::Hierarchy),
+        EXTENSION_DESCRIPTOR_TAG
+            if reading == Reading::Of2015 && payload.first() == Some(&HIERARCHY_EXTENSION_TAG) =>
+        {
+            read_extension(&payload[1..]).map(Record::Extension)
+        }
+        _ => return None,
+    };
+    if read.is_none() {
+        return Some(4);
+    }
+    if record.is_some() {
+        return Some(5);
+    }
+    *record = read;
+    None
 }
 
-/// Reads one descriptor of a known stream.
+/// Reads a hierarchy descriptor, or nothing where its length isn't 4.
 #[inline]
-pub(crate) fn read(reading: Reading, tag: u8, payload: &[u8]) -> Descriptor {
-    match (tag, payload.first()) {
-        (HIERARCHY_TAG, _) => match *payload {
-            [flags, index, embedded, channel] => Descriptor::Record(Record::Hierarchy(Hierarchy {
-                no_view: flags & 0x80 != 0 || reading == Reading::Of2009,
-                no_temporal: flags & 0x40 != 0,
-                no_spatial: flags & 0x20 != 0,
-                no_quality: flags & 0x10 != 0,
-                hierarchy_type: flags & 0x0F,
-                layer_index: index & 0x3F,
-                tref_present: embedded & 0x80 != 0,
-                embedded_index: embedded & 0x3F,
-                channel: channel & 0x3F,
-            })),
-            _ => Descriptor::Malformed,
-        },
-        (EXTENSION_DESCRIPTOR_TAG, Some(&HIERARCHY_EXTENSION_TAG))
-            if reading == Reading::Of2015 =>
-        {
-            read_extension(&payload[1..]).map_or(Descriptor::Malformed, |extension| {
-                Descriptor::Record(Record::Extension(extension))
-            })
-        }
-        _ => Descriptor::Skipped,
+fn read_hierarchy(reading: Reading, payload: &[u8]) -> Option<Hierarchy> {
+    match *payload {
+        [flags, index, embedded, channel] => Some(Hierarchy {
+            no_view: flags & 0x80 != 0 || reading == Reading::Of2009,
+            no_temporal: flags & 0x40 != 0,
+            no_spatial: flags & 0x20 != 0,
+            no_quality: flags & 0x10 != 0,
+            hierarchy_type: flags & 0x0F,
+            layer_index: index & 0x3F,
+            tref_present: embedded & 0x80 != 0,
+            embedded_index: embedded & 0x3F,
+            channel: channel & 0x3F,
+        }),
+        _ => None,
     }
 }
 
 /// Reads a hierarchy extension after its extension tag, or nothing where its length isn't what its count demands.
+#[inline]
 fn read_extension(bytes: &[u8]) -> Option<Extension> {
     if bytes.len() < 6 || bytes.len() != 6 + usize::from(bytes[4] & 0x3F) {
         return None;
@@ -158,6 +168,7 @@ pub(crate) fn too_wide(record: &Record) -> bool {
 }
 
 /// The lowest number, of 6 and 7, that a record gives on a known stream of this type.
+#[inline]
 pub(crate) fn fault_on_stream(stream_type: u8, record: &Record) -> Option<u8> {
     match record {
         Record::Hierarchy(h) => {
@@ -180,6 +191,7 @@ pub(crate) fn fault_on_stream(stream_type: u8, record: &Record) -> Option<u8> {
 }
 
 /// The lowest number, of 9 and 10, that a record gives by the layers that it names.
+#[inline]
 pub(crate) fn fault_of_embedded(record: &Record) -> Option<u8> {
     let mut named = 0_u64;
     for &index in record.embedded() {

@@ -1,6 +1,6 @@
 //! The elementary-stream loop, read and written.
 
-use crate::descriptors::{self, Descriptor};
+use crate::descriptors;
 use crate::{Entry, Faults, Reading, Record, Refusal};
 
 /// The most bytes that a loop may have.
@@ -12,7 +12,7 @@ const ENTRY_HEAD: usize = 5;
 /// Reads a loop: every entry in loop order, or the refusal, 1 to 10.
 pub fn read_loop(reading: Reading, bytes: &[u8]) -> Result<Vec<Entry>, Refusal> {
     let mut entries = Vec::with_capacity(bytes.len().min(LONGEST_LOOP) / 11 + 1);
-    read_loop_with(reading, bytes, |entry| entries.push(entry))?;
+    read_loop_with(reading, bytes, |entry| entries.push(*entry))?;
     Ok(entries)
 }
 
@@ -21,7 +21,7 @@ pub fn read_loop(reading: Reading, bytes: &[u8]) -> Result<Vec<Entry>, Refusal> 
 pub fn read_loop_with(
     reading: Reading,
     bytes: &[u8],
-    mut take: impl FnMut(Entry),
+    mut take: impl FnMut(&Entry),
 ) -> Result<(), Refusal> {
     if bytes.len() > LONGEST_LOOP {
         return Err(Refusal::of(1));
@@ -42,18 +42,16 @@ pub fn read_loop_with(
         let info = rest.get(ENTRY_HEAD..end).ok_or(too_short)?;
         rest = &rest[end..];
 
-        let record = if descriptors::known(reading, stream_type) {
-            read_info(reading, info, place, &mut faults)?
-        } else {
-            None
-        };
-        let entry = Entry {
+        let mut entry = Entry {
             stream_type,
             pid,
-            record,
+            record: None,
         };
+        if descriptors::known(reading, stream_type) {
+            read_info(reading, info, place, &mut entry.record, &mut faults)?;
+        }
         judge(&entry, place, &mut seen, &mut faults);
-        take(entry);
+        take(&entry);
         place += 1;
     }
     faults.none()
@@ -65,9 +63,9 @@ fn read_info(
     reading: Reading,
     info: &[u8],
     place: usize,
+    record: &mut Option<Record>,
     faults: &mut Faults,
-) -> Result<Option<Record>, Refusal> {
-    let mut found = None;
+) -> Result<(), Refusal> {
     let mut rest = info;
     while !rest.is_empty() {
         let too_short = Refusal::at(2, place);
@@ -76,15 +74,12 @@ fn read_info(
         }
         let end = 2 + usize::from(rest[1]);
         let payload = rest.get(2..end).ok_or(too_short)?;
-        match descriptors::read(reading, rest[0], payload) {
-            Descriptor::Skipped => {}
-            Descriptor::Malformed => faults.add(4, place),
-            Descriptor::Record(_) if found.is_some() => faults.add(5, place),
-            Descriptor::Record(record) => found = Some(record),
+        if let Some(number) = descriptors::read(reading, rest[0], payload, record) {
+            faults.add(number, place);
         }
         rest = &rest[end..];
     }
-    Ok(found)
+    Ok(())
 }
 
 /// The PIDs and layer indices of the entries so far, a bit for each.
