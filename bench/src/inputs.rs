@@ -56,29 +56,37 @@ fn extension(index: u8) -> Entry {
     }
 }
 
-/// The entries of a loop of 1,008 bytes: 64 layers with a hierarchy descriptor, and further entries without one.
+/// 64 layers with a hierarchy descriptor, and entries without one: nearly the longest loop.
 pub fn hierarchies() -> Vec<Entry> {
     let mut entries: Vec<Entry> = (0..64).map(hierarchy).collect();
-    // 64 times 11 bytes, and 60 times 5.
-    entries.extend((0..60).map(|place| other(1000 + place)));
+    entries.extend((0..59).map(|place| other(1000 + place)));
     entries
 }
 
-/// The entries of a loop of 1,008 bytes or little less: layers with an extension of up to eight embedded layers.
+/// Layers with an extension of up to eight embedded layers: nearly the longest loop.
 pub fn extensions() -> Vec<Entry> {
     (0..46).map(extension).collect()
 }
 
-/// The most entries that a loop can hold.
+/// All but one of the most entries that a loop can hold.
 pub fn others() -> Vec<Entry> {
-    (0..201).map(other).collect()
+    (0..200).map(other).collect()
 }
 
-/// The loop of these entries, with bytes of a descriptor that is skipped up to 1,008.
+/// The loop of these entries.
 pub fn loop_of(entries: &[Entry]) -> Vec<u8> {
-    let mut bytes = vec![0; 1008];
+    let mut bytes = vec![0; plain::LONGEST_LOOP];
     let length = plain::write_loop(entries, &mut bytes).expect("a sound loop");
     bytes.truncate(length);
+    bytes
+}
+
+/// The loop of these entries and of one more that fills it up to 1,008 bytes.
+pub fn longest_loop_of(entries: &[Entry]) -> Vec<u8> {
+    let mut bytes = loop_of(entries);
+    let info = plain::LONGEST_LOOP - bytes.len() - 5;
+    bytes.extend([0x0F, 0xFF, 0xFF, 0xF0 | (info >> 8) as u8, info as u8]);
+    bytes.resize(plain::LONGEST_LOOP, 0xFF);
     bytes
 }
 

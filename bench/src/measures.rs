@@ -71,7 +71,7 @@ fn read_loop(name: &str, bytes: Vec<u8>) -> Measure {
             entries.clear();
             let entries = hide(&mut entries);
             let read = plain::read_loop_with(hide(Reading::Of2015), hide(&given[..]), |entry| {
-                entries.push(entry)
+                entries.push(*entry)
             });
             answer(read.map(|()| entries.len()))
         })
@@ -85,8 +85,8 @@ fn read_loop(name: &str, bytes: Vec<u8>) -> Measure {
     }
 }
 
-fn write_loop(name: &str, bytes: &[u8]) -> Measure {
-    let entries = plain::read_loop(Reading::Of2015, bytes).expect("a sound loop");
+fn write_loop(name: &str, bytes: Vec<u8>) -> Measure {
+    let entries = plain::read_loop(Reading::Of2015, &bytes).expect("a sound loop");
     let mut numbers = vec![0_u16; entries.len() * raw::THQ_ENTRY_NUMBERS];
     // SAFETY: as above.
     let read = unsafe {
@@ -358,9 +358,9 @@ fn import(count: usize) -> Measure {
 
 /// Everything that is measured.
 pub fn all() -> Vec<Measure> {
-    let hierarchies = inputs::loop_of(&inputs::hierarchies());
-    let extensions = inputs::loop_of(&inputs::extensions());
-    let others = inputs::loop_of(&inputs::others());
+    let hierarchies = inputs::longest_loop_of(&inputs::hierarchies());
+    let extensions = inputs::longest_loop_of(&inputs::extensions());
+    let others = inputs::longest_loop_of(&inputs::others());
     let alone = Times {
         pts: 9000,
         decoding: 9000,
@@ -373,21 +373,15 @@ pub fn all() -> Vec<Measure> {
     };
     vec![
         read_loop("loop A (37 bytes, 3 layers)", inputs::LOOP_A.to_vec()),
-        read_loop(
-            &format!("{} bytes, 64 hierarchy descriptors", hierarchies.len()),
-            hierarchies.clone(),
+        read_loop("1,008 bytes, 64 hierarchy descriptors", hierarchies.clone()),
+        read_loop("1,008 bytes, 46 extensions", extensions.clone()),
+        read_loop("1,008 bytes, 201 entries of other types", others),
+        write_loop("loop A", inputs::LOOP_A.to_vec()),
+        write_loop(
+            "64 hierarchy descriptors",
+            inputs::loop_of(&inputs::hierarchies()),
         ),
-        read_loop(
-            &format!("{} bytes, 46 extensions", extensions.len()),
-            extensions.clone(),
-        ),
-        read_loop(
-            &format!("{} bytes, 201 entries of other types", others.len()),
-            others,
-        ),
-        write_loop("loop A", &inputs::LOOP_A),
-        write_loop("64 hierarchy descriptors", &hierarchies),
-        write_loop("46 extensions", &extensions),
+        write_loop("46 extensions", inputs::loop_of(&inputs::extensions())),
         closure("loop A, target 2", inputs::LOOP_A.to_vec(), 2),
         closure("chain of 64 layers, target 63", hierarchies, 63),
         closure("46 extensions, target 45", extensions, 45),
