@@ -6,7 +6,6 @@ set -eu
 cd "$(dirname "$0")/.."
 log=target/linked.log
 mkdir -p target/linked
-trap 'rm -f target/linked/running' EXIT
 
 # part NAME COMMAND..: runs a part of the tests. Its words are kept for when it fails, and its last line is shown.
 part() {
