@@ -45,6 +45,18 @@ class WorkedExamples(unittest.TestCase):
     def test_loop_a_is_written(self):
         self.assertEqual(write_loop(ENTRIES_OF_LOOP_A), LOOP_A)
 
+    def test_every_field_has_its_place(self):
+        loop = bytes.fromhex("1FEABCF0060404B3E9E8F2" "2BF234F00C3F0A06FFFEFAC2C3D1FDC0E5" "02E000F000")
+        entries = [
+            Entry(0x1F, 0x0ABC, Hierarchy(no_view=True, no_temporal=False, no_spatial=True, no_quality=True, hierarchy_type=3,
+                                          layer_index=41, tref_present=True, embedded_layer_index=40, channel=50)),
+            Entry(0x2B, 0x1234, Extension(dimension_bits=0xFFFE, layer_index=62, temporal_id=5, nuh_layer_id=33, tref_present=False,
+                                          channel=17, embedded=(61, 0, 37))),
+            Entry(0x02, 0),
+        ]
+        self.assertEqual(read_loop(Reading.IN_2015, loop), entries)
+        self.assertEqual(write_loop(entries), loop)
+
     def test_a_list_longer_than_its_count_can_say_is_too_wide(self):
         def with_list(length):
             embedded = tuple(index % 64 for index in range(length))

@@ -108,6 +108,52 @@ fn loop_a_is_written() {
 }
 
 #[test]
+fn every_field_has_its_place() {
+    let bytes = [
+        0x1F, 0xEA, 0xBC, 0xF0, 0x06, 0x04, 0x04, 0xB3, 0xE9, 0xE8, 0xF2, 0x2B, 0xF2, 0x34, 0xF0,
+        0x0C, 0x3F, 0x0A, 0x06, 0xFF, 0xFE, 0xFA, 0xC2, 0xC3, 0xD1, 0xFD, 0xC0, 0xE5, 0x02, 0xE0,
+        0x00, 0xF0, 0x00,
+    ];
+    let entries = [
+        Entry {
+            stream_type: 0x1F,
+            elementary_pid: 0x0ABC,
+            record: Record::Hierarchy {
+                no_view: true,
+                no_temporal: false,
+                no_spatial: true,
+                no_quality: true,
+                hierarchy_type: 3,
+                layer_index: LayerIndex(41),
+                tref_present: true,
+                embedded_layer_index: LayerIndex(40),
+                channel: Channel(50),
+            },
+        },
+        Entry {
+            stream_type: 0x2B,
+            elementary_pid: 0x1234,
+            record: Record::Extension {
+                dimension_bits: 0xFFFE,
+                layer_index: LayerIndex(62),
+                temporal_id: TemporalId(5),
+                nuh_layer_id: NuhLayerId(33),
+                tref_present: false,
+                channel: Channel(17),
+                embedded: [61, 0, 37].map(LayerIndex).to_vec(),
+            },
+        },
+        Entry {
+            stream_type: 0x02,
+            elementary_pid: 0,
+            record: Record::None,
+        },
+    ];
+    assert_eq!(read_loop(Reading::In2015, &bytes).unwrap(), entries);
+    assert_eq!(write_loop(&entries).unwrap(), bytes);
+}
+
+#[test]
 fn a_list_longer_than_its_count_can_say_is_too_wide() {
     let with_list = |length: u8| {
         let mut entries = entries_of_loop_a();
