@@ -1,7 +1,7 @@
 #!/bin/sh
 # longer.sh [COUNT]: the longer run, by hand. The linked tests first; then every call is compared with the independent implementation on
 # COUNT generated inputs (500,000 where it is not said) for each of several seeds, and again with each buffer beside pages that cannot be
-# touched; under valgrind where the machine is x86-64; and the parts that Debian has a peer for are compared with that peer: libbitstream-dev
+# touched; under valgrind too where the machine is x86-64; and the parts that Debian has a peer for are compared with that peer: libbitstream-dev
 # (PTS, DTS, the hierarchy descriptor) and libdvbpsi-dev (the hierarchy descriptor). It prints what each part counts and fails if
 # anything fails.
 set -eu
@@ -26,11 +26,15 @@ for seed in $guarded_seeds; do
     scripts/x86 "$compare" --guarded "$seed" "$count"
 done
 
-# Memcheck knows the processor that it runs on, so elsewhere the guard pages stand alone.
+# Memcheck knows the processor that it runs on, so elsewhere the guard pages stand alone. (The archive is not instrumented, so
+# AddressSanitizer would see nothing of what it touches.)
 if [ "$(uname -m)" = x86_64 ]; then
     scripts/install-tools valgrind
+    checked="valgrind --quiet --error-exitcode=1"
+    echo "longer: Rust's tests under valgrind"
+    (cd rust && THOQUENRY_RUNNER=$checked ../scripts/cargo test --quiet --tests)
     echo "longer: compare under valgrind, seed 8, $few calls"
-    valgrind --quiet --error-exitcode=1 "$compare" 8 "$few"
+    $checked "$compare" 8 "$few"
 else
     echo "longer: valgrind left out: this machine is no x86-64"
 fi

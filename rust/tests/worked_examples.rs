@@ -90,7 +90,7 @@ fn two_rows(first: u64, second: u64) -> Result<Units, Refusal> {
 #[test]
 fn loop_a_is_read_with_all_fields() {
     assert_eq!(
-        read_loop(Reading::In2015, &LOOP_A).unwrap(),
+        read_loop(Reading::Edition2015, &LOOP_A).unwrap(),
         entries_of_loop_a()
     );
 }
@@ -99,7 +99,7 @@ fn loop_a_is_read_with_all_fields() {
 fn the_2009_reading_knows_no_hevc_stream() {
     let mut expected = entries_of_loop_a();
     expected[2].record = Record::None;
-    assert_eq!(read_loop(Reading::In2009, &LOOP_A).unwrap(), expected);
+    assert_eq!(read_loop(Reading::Edition2009, &LOOP_A).unwrap(), expected);
 }
 
 #[test]
@@ -149,7 +149,7 @@ fn every_field_has_its_place() {
             record: Record::None,
         },
     ];
-    assert_eq!(read_loop(Reading::In2015, &bytes).unwrap(), entries);
+    assert_eq!(read_loop(Reading::Edition2015, &bytes).unwrap(), entries);
     assert_eq!(write_loop(&entries).unwrap(), bytes);
 }
 
@@ -180,16 +180,16 @@ fn closures() {
         let set = closure(reading, &LOOP_A, LayerIndex(target))?;
         Ok(set.iter().map(|index| index.0).collect::<Vec<_>>())
     };
-    assert_eq!(of(Reading::In2015, 1), Ok(vec![0, 1]));
-    assert_eq!(of(Reading::In2009, 1), Ok(vec![0, 1]));
-    assert_eq!(of(Reading::In2015, 2), Ok(vec![0, 2]));
-    assert_eq!(of(Reading::In2009, 2), Err(Refusal::NoSuchLayer));
-    assert_eq!(of(Reading::In2015, 255), Err(Refusal::NoSuchLayer));
+    assert_eq!(of(Reading::Edition2015, 1), Ok(vec![0, 1]));
+    assert_eq!(of(Reading::Edition2009, 1), Ok(vec![0, 1]));
+    assert_eq!(of(Reading::Edition2015, 2), Ok(vec![0, 2]));
+    assert_eq!(of(Reading::Edition2009, 2), Err(Refusal::NoSuchLayer));
+    assert_eq!(of(Reading::Edition2015, 255), Err(Refusal::NoSuchLayer));
 }
 
 #[test]
 fn short_and_long_loops() {
-    for reading in [Reading::In2009, Reading::In2015] {
+    for reading in [Reading::Edition2009, Reading::Edition2015] {
         assert_eq!(read_loop(reading, &[]), Ok(vec![]));
         assert_eq!(
             closure(reading, &[], LayerIndex(0)),
@@ -205,7 +205,7 @@ fn short_and_long_loops() {
 
 #[test]
 fn the_whole_import() {
-    let import = |last| import(Reading::In2015, &LOOP_A, LayerIndex(1), &table(last));
+    let import = |last| import(Reading::Edition2015, &LOOP_A, LayerIndex(1), &table(last));
     let units = import(12600).unwrap();
     assert_eq!(units.closure, LayerSet(0b11));
     assert_eq!(plainly(&units), [[(0, 0), (1, 0)], [(2, 600), (3, 0)]]);
