@@ -37,13 +37,25 @@ class WorkedExamples(unittest.TestCase):
         self.assertEqual((caught.exception.number, caught.exception.place), (number, place))
 
     def test_loop_a_is_read_with_all_fields(self):
-        self.assertEqual(read_loop(Reading.IN_2015, LOOP_A), ENTRIES_OF_LOOP_A)
+        self.assertEqual(read_loop(Reading.EDITION_2015, LOOP_A), ENTRIES_OF_LOOP_A)
 
     def test_the_2009_reading_knows_no_hevc_stream(self):
-        self.assertEqual(read_loop(Reading.IN_2009, LOOP_A), ENTRIES_OF_LOOP_A[:2] + [Entry(0x28, 258)])
+        self.assertEqual(read_loop(Reading.EDITION_2009, LOOP_A), ENTRIES_OF_LOOP_A[:2] + [Entry(0x28, 258)])
 
     def test_loop_a_is_written(self):
         self.assertEqual(write_loop(ENTRIES_OF_LOOP_A), LOOP_A)
+
+    def test_every_field_has_its_place(self):
+        loop = bytes.fromhex("1FEABCF0060404B3E9E8F2" "2BF234F00C3F0A06FFFEFAC2C3D1FDC0E5" "02E000F000")
+        entries = [
+            Entry(0x1F, 0x0ABC, Hierarchy(no_view=True, no_temporal=False, no_spatial=True, no_quality=True, hierarchy_type=3,
+                                          layer_index=41, tref_present=True, embedded_layer_index=40, channel=50)),
+            Entry(0x2B, 0x1234, Extension(dimension_bits=0xFFFE, layer_index=62, temporal_id=5, nuh_layer_id=33, tref_present=False,
+                                          channel=17, embedded=(61, 0, 37))),
+            Entry(0x02, 0),
+        ]
+        self.assertEqual(read_loop(Reading.EDITION_2015, loop), entries)
+        self.assertEqual(write_loop(entries), loop)
 
     def test_a_list_longer_than_its_count_can_say_is_too_wide(self):
         def with_list(length):
@@ -58,20 +70,20 @@ class WorkedExamples(unittest.TestCase):
         self.refused(Number.TOO_WIDE, 0, write_loop, [Entry(0x1B, 65536 + 256)])
         self.refused(Number.TOO_WIDE, 0, write_loop, [Entry(0x1B + 65536, 256)])
         self.refused(Number.TOO_WIDE, 0, write_times, Times(2**64 + 1, 1, 1))
-        self.refused(Number.NO_SUCH_LAYER, 0, closure, Reading.IN_2015, LOOP_A, 2**64)
+        self.refused(Number.NO_SUCH_LAYER, 0, closure, Reading.EDITION_2015, LOOP_A, 2**64)
         self.refused(Number.OUT_OF_RANGE, 0, join, {0: ()}, 0, [Row(256, 0, 0)])
         self.refused(Number.OUT_OF_RANGE, 0, join, {0: ()}, 0, [Row(0, 2**64, 0)])
         self.refused(Number.OUT_OF_RANGE, 0, join, {0: ()}, 0, [Row(0, 0, 2**64)])
         with self.assertRaises(ValueError):
-            closure(Reading.IN_2015, LOOP_A, -1)
+            closure(Reading.EDITION_2015, LOOP_A, -1)
         with self.assertRaises(ValueError):
             closure(2012, LOOP_A, 1)
 
     def test_closures(self):
-        self.assertEqual(closure(Reading.IN_2015, LOOP_A, 1), (0, 1))
-        self.assertEqual(closure(Reading.IN_2009, LOOP_A, 1), (0, 1))
-        self.assertEqual(closure(Reading.IN_2015, LOOP_A, 2), (0, 2))
-        self.refused(Number.NO_SUCH_LAYER, 0, closure, Reading.IN_2009, LOOP_A, 2)
+        self.assertEqual(closure(Reading.EDITION_2015, LOOP_A, 1), (0, 1))
+        self.assertEqual(closure(Reading.EDITION_2009, LOOP_A, 1), (0, 1))
+        self.assertEqual(closure(Reading.EDITION_2015, LOOP_A, 2), (0, 2))
+        self.refused(Number.NO_SUCH_LAYER, 0, closure, Reading.EDITION_2009, LOOP_A, 2)
 
     def test_short_and_long_loops(self):
         for reading in Reading:
@@ -81,9 +93,9 @@ class WorkedExamples(unittest.TestCase):
             self.refused(Number.LOOP_TOO_LONG, 0, read_loop, reading, bytes(1009))
 
     def test_the_whole_import(self):
-        self.assertEqual(import_(Reading.IN_2015, LOOP_A, 1, table(12600)), UNITS)
-        self.refused(Number.UNPAIRED, 3, import_, Reading.IN_2015, LOOP_A, 1, table(12601))
-        self.refused(Number.USED_TWICE, 3, import_, Reading.IN_2015, LOOP_A, 1, table(9000))
+        self.assertEqual(import_(Reading.EDITION_2015, LOOP_A, 1, table(12600)), UNITS)
+        self.refused(Number.UNPAIRED, 3, import_, Reading.EDITION_2015, LOOP_A, 1, table(12601))
+        self.refused(Number.USED_TWICE, 3, import_, Reading.EDITION_2015, LOOP_A, 1, table(9000))
 
     def test_joining_over_given_layers(self):
         layers = {0: (), 1: (0,), 5: (1, 4)}

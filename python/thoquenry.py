@@ -93,8 +93,8 @@ _ROWS = 512
 class Reading(IntEnum):
     """The amendments by which a loop is read."""
 
-    IN_2009 = 2009
-    IN_2015 = 2015
+    EDITION_2009 = 2009
+    EDITION_2015 = 2015
 
 
 class Number(IntEnum):

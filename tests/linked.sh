@@ -4,26 +4,35 @@
 # implementation on generated inputs, by a fixed seed. It prints a line for each part and fails if anything fails.
 set -eu
 cd "$(dirname "$0")/.."
-log=target/linked.log
+log=target/linked/log
 mkdir -p target/linked
-trap 'rm -f target/linked/running' EXIT
 
-# part NAME COMMAND..: runs a part of the tests. Its words are kept for when it fails, and its last line is shown.
+# part NAME PATTERN COMMAND..: runs a part of the tests and shows the last line that has the pattern; a part that prints none has failed.
+# What it prints else is kept for when it fails. (The part is no condition of an `if`: there the shell would go on after a command that
+# fails.)
 part() {
     name=$1
-    shift
-    if "$@" >"$log" 2>&1; then
-        printf 'linked: %-12s %s\n' "$name" "$(tail -n 1 "$log")"
-    else
+    pattern=$2
+    shift 2
+    set +e
+    (
+        set -e
+        "$@"
+    ) >"$log" 2>&1
+    status=$?
+    set -e
+    if [ "$status" -ne 0 ] || ! grep -q "$pattern" "$log"; then
         cut -c 1-500 "$log" | tail -n 60 >&2
         echo "linked: $name FAILED" >&2
         exit 1
     fi
+    printf 'linked: %-12s %s\n' "$name" "$(grep "$pattern" "$log" | tail -n 1)"
 }
 
 build() {
+    scripts/install-tools
     scripts/build-library
-    echo "$(wc -c <target/lib/libthoquenry.a) bytes of archive, $(wc -c <target/lib/libthoquenry.so) of shared object"
+    echo "archive $(wc -c <target/lib/libthoquenry.a) bytes, shared object $(wc -c <target/lib/libthoquenry.so) bytes"
 }
 
 declarations() {
@@ -41,27 +50,28 @@ called_from_c() {
 }
 
 called_from_rust() {
-    (cd rust && ../scripts/cargo test)
-    (cd rust && ../scripts/cargo run --quiet --example join) >target/linked/rust-example
-    diff tests/example.txt target/linked/rust-example
-    grep '^test result' "$log" | tail -n 1
+    cd rust
+    ../scripts/cargo test
+    ../scripts/cargo run --quiet --example join >../target/linked/rust-example
+    diff ../tests/example.txt ../target/linked/rust-example
 }
 
 called_from_python() {
     scripts/python-x86 -B python/test_thoquenry.py
     scripts/python-x86 -B python/example.py >target/linked/python-example
     diff tests/example.txt target/linked/python-example
-    grep '^Ran' "$log"
 }
 
 compared() {
-    (cd compare && ../scripts/cargo run --quiet --release)
+    cd compare
+    ../scripts/cargo run --quiet --release
 }
 
-part tools scripts/install-tools
-part library build
-part declarations declarations
-part c called_from_c
-part rust called_from_rust
-part python called_from_python
-part compare compared
+part library '^archive' build
+part declarations 'agree' declarations
+part c '^ok' called_from_c
+part rust '^test result: ok. [1-9]' called_from_rust
+part python '^Ran [1-9]' called_from_python
+part compare '^compare: .* agree' compared
+# How often each call answered each number.
+sed '$d' "$log"

@@ -9,7 +9,7 @@ fn main() -> Result<(), Box<dyn std::error::Error>> {
     let sample = concat!(env!("CARGO_MANIFEST_DIR"), "/../samples/loop-a.bin");
     let bytes = fs::read(env::args().nth(1).unwrap_or_else(|| sample.into()))?;
 
-    for entry in read_loop(Reading::In2015, &bytes)? {
+    for entry in read_loop(Reading::Edition2015, &bytes)? {
         let (pid, stream_type) = (entry.elementary_pid, entry.stream_type);
         println!("pid {pid} type {stream_type}");
     }
@@ -25,7 +25,7 @@ fn main() -> Result<(), Box<dyn std::error::Error>> {
         decoding,
         matching,
     });
-    let joined = import(Reading::In2015, &bytes, LayerIndex(1), &rows)?;
+    let joined = import(Reading::Edition2015, &bytes, LayerIndex(1), &rows)?;
     for unit in &joined.units {
         print!("unit");
         for (layer, component) in joined.closure.iter().zip(unit) {

@@ -7,7 +7,7 @@
 //! use thoquenry::{closure, LayerIndex, Reading};
 //!
 //! let bytes = std::fs::read("samples/loop-a.bin").unwrap();
-//! let layers = closure(Reading::In2015, &bytes, LayerIndex(2)).unwrap();
+//! let layers = closure(Reading::Edition2015, &bytes, LayerIndex(2)).unwrap();
 //! assert_eq!(layers.iter().collect::<Vec<_>>(), [LayerIndex(0), LayerIndex(2)]);
 //! ```
 
@@ -29,15 +29,15 @@ use raw::THQ_ENTRY_NUMBERS;
 /// The amendments by which a loop is read.
 #[derive(Clone, Copy, Debug, PartialEq, Eq, Hash)]
 pub enum Reading {
-    In2009,
-    In2015,
+    Edition2009,
+    Edition2015,
 }
 
 impl Reading {
     fn number(self) -> u64 {
         match self {
-            Reading::In2009 => raw::THQ_2009,
-            Reading::In2015 => raw::THQ_2015,
+            Reading::Edition2009 => raw::THQ_2009,
+            Reading::Edition2015 => raw::THQ_2015,
         }
     }
 }

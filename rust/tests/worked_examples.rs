@@ -90,7 +90,7 @@ fn two_rows(first: u64, second: u64) -> Result<Units, Refusal> {
 #[test]
 fn loop_a_is_read_with_all_fields() {
     assert_eq!(
-        read_loop(Reading::In2015, &LOOP_A).unwrap(),
+        read_loop(Reading::Edition2015, &LOOP_A).unwrap(),
         entries_of_loop_a()
     );
 }
@@ -99,12 +99,58 @@ fn loop_a_is_read_with_all_fields() {
 fn the_2009_reading_knows_no_hevc_stream() {
     let mut expected = entries_of_loop_a();
     expected[2].record = Record::None;
-    assert_eq!(read_loop(Reading::In2009, &LOOP_A).unwrap(), expected);
+    assert_eq!(read_loop(Reading::Edition2009, &LOOP_A).unwrap(), expected);
 }
 
 #[test]
 fn loop_a_is_written() {
     assert_eq!(write_loop(&entries_of_loop_a()).unwrap(), LOOP_A);
+}
+
+#[test]
+fn every_field_has_its_place() {
+    let bytes = [
+        0x1F, 0xEA, 0xBC, 0xF0, 0x06, 0x04, 0x04, 0xB3, 0xE9, 0xE8, 0xF2, 0x2B, 0xF2, 0x34, 0xF0,
+        0x0C, 0x3F, 0x0A, 0x06, 0xFF, 0xFE, 0xFA, 0xC2, 0xC3, 0xD1, 0xFD, 0xC0, 0xE5, 0x02, 0xE0,
+        0x00, 0xF0, 0x00,
+    ];
+    let entries = [
+        Entry {
+            stream_type: 0x1F,
+            elementary_pid: 0x0ABC,
+            record: Record::Hierarchy {
+                no_view: true,
+                no_temporal: false,
+                no_spatial: true,
+                no_quality: true,
+                hierarchy_type: 3,
+                layer_index: LayerIndex(41),
+                tref_present: true,
+                embedded_layer_index: LayerIndex(40),
+                channel: Channel(50),
+            },
+        },
+        Entry {
+            stream_type: 0x2B,
+            elementary_pid: 0x1234,
+            record: Record::Extension {
+                dimension_bits: 0xFFFE,
+                layer_index: LayerIndex(62),
+                temporal_id: TemporalId(5),
+                nuh_layer_id: NuhLayerId(33),
+                tref_present: false,
+                channel: Channel(17),
+                embedded: [61, 0, 37].map(LayerIndex).to_vec(),
+            },
+        },
+        Entry {
+            stream_type: 0x02,
+            elementary_pid: 0,
+            record: Record::None,
+        },
+    ];
+    assert_eq!(read_loop(Reading::Edition2015, &bytes).unwrap(), entries);
+    assert_eq!(write_loop(&entries).unwrap(), bytes);
 }
 
 #[test]
@@ -134,16 +180,16 @@ fn closures() {
         let set = closure(reading, &LOOP_A, LayerIndex(target))?;
         Ok(set.iter().map(|index| index.0).collect::<Vec<_>>())
     };
-    assert_eq!(of(Reading::In2015, 1), Ok(vec![0, 1]));
-    assert_eq!(of(Reading::In2009, 1), Ok(vec![0, 1]));
-    assert_eq!(of(Reading::In2015, 2), Ok(vec![0, 2]));
-    assert_eq!(of(Reading::In2009, 2), Err(Refusal::NoSuchLayer));
-    assert_eq!(of(Reading::In2015, 255), Err(Refusal::NoSuchLayer));
+    assert_eq!(of(Reading::Edition2015, 1), Ok(vec![0, 1]));
+    assert_eq!(of(Reading::Edition2009, 1), Ok(vec![0, 1]));
+    assert_eq!(of(Reading::Edition2015, 2), Ok(vec![0, 2]));
+    assert_eq!(of(Reading::Edition2009, 2), Err(Refusal::NoSuchLayer));
+    assert_eq!(of(Reading::Edition2015, 255), Err(Refusal::NoSuchLayer));
 }
 
 #[test]
 fn short_and_long_loops() {
-    for reading in [Reading::In2009, Reading::In2015] {
+    for reading in [Reading::Edition2009, Reading::Edition2015] {
         assert_eq!(read_loop(reading, &[]), Ok(vec![]));
         assert_eq!(
             closure(reading, &[], LayerIndex(0)),
@@ -159,7 +205,7 @@ fn short_and_long_loops() {
 
 #[test]
 fn the_whole_import() {
-    let import = |last| import(Reading::In2015, &LOOP_A, LayerIndex(1), &table(last));
+    let import = |last| import(Reading::Edition2015, &LOOP_A, LayerIndex(1), &table(last));
     let units = import(12600).unwrap();
     assert_eq!(units.closure, LayerSet(0b11));
     assert_eq!(plainly(&units), [[(0, 0), (1, 0)], [(2, 600), (3, 0)]]);

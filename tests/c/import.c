@@ -4,7 +4,6 @@
  */
 #include "thoquenry.h"
 
-#include <inttypes.h>
 #include <stdio.h>
 #include <string.h>
 
@@ -94,6 +93,51 @@ static void in_steps(void)
     EXPECT(thq_join(3, embedded, 0, 1, indices, 4, decodings, 4, matches, 4, numbers, 4, lags, 4, summary, 3) == 2 * 256);
 }
 
+/* Every field of the struct, by values that tell the fields apart. */
+static void fields(void)
+{
+    const uint8_t loop[] = {
+        0x1F, 0xEA, 0xBC, 0xF0, 0x06, 0x04, 0x04, 0xB3, 0xE9, 0xE8, 0xF2, 0x2B, 0xF2, 0x34,
+        0xF0, 0x0C, 0x3F, 0x0A, 0x06, 0xFF, 0xFE, 0xFA, 0xC2, 0xC3, 0xD1, 0xFD, 0xC0, 0xE5,
+    };
+    const thq_entry expected[] = {
+        {
+            .stream_type = 0x1F,
+            .elementary_pid = 0x0ABC,
+            .record = THQ_HIERARCHY,
+            .no_view_scalability_flag = 1,
+            .no_temporal_scalability_flag = 0,
+            .no_spatial_scalability_flag = 1,
+            .no_quality_scalability_flag = 1,
+            .hierarchy_type = 3,
+            .hierarchy_layer_index = 41,
+            .tref_present_flag = 1,
+            .hierarchy_embedded_layer_index = 40,
+            .hierarchy_channel = 50,
+        },
+        {
+            .stream_type = 0x2B,
+            .elementary_pid = 0x1234,
+            .record = THQ_EXTENSION,
+            .hierarchy_layer_index = 62,
+            .tref_present_flag = 0,
+            .hierarchy_channel = 17,
+            .extension_dimension_bits = 0xFFFE,
+            .temporal_id = 5,
+            .nuh_layer_id = 33,
+            .num_embedded_layers = 3,
+            .embedded = {61, 0, 37},
+        },
+    };
+    thq_entry read[2];
+    uint8_t written[sizeof loop];
+
+    EXPECT(thq_read_loop(THQ_2015, loop, sizeof loop, (uint16_t *)read, 2 * THQ_ENTRY_NUMBERS) == 2 * 256);
+    EXPECT(memcmp(read, expected, sizeof expected) == 0);
+    EXPECT(thq_write_loop((const uint16_t *)expected, 2 * THQ_ENTRY_NUMBERS, written, sizeof written) == 256 * sizeof loop);
+    EXPECT(memcmp(written, loop, sizeof loop) == 0);
+}
+
 static void times(void)
 {
     const uint8_t with_tref[] = {
@@ -115,6 +159,7 @@ int main(void)
 {
     whole_import();
     in_steps();
+    fields();
     times();
     return failures != 0;
 }
