@@ -1,0 +1,165 @@
+/*
+ * The library called from C: document 01's worked example of a whole import, the same in steps, and what only C can hand over: unknown
+ * readings, columns of unequal length, and rooms that are too small. Ends with status 0 when all is as it should be.
+ */
+#include "thoquenry.h"
+
+#include <stdio.h>
+#include <string.h>
+
+/* The struct lies over the 80 numbers. */
+_Static_assert(sizeof(thq_entry) == 2 * THQ_ENTRY_NUMBERS, "an entry is 80 numbers of 16 bits");
+_Static_assert(offsetof(thq_entry, hierarchy_layer_index) == 2 * 8, "hierarchy_layer_index is number 8");
+_Static_assert(offsetof(thq_entry, num_embedded_layers) == 2 * 15, "num_embedded_layers is number 15");
+_Static_assert(offsetof(thq_entry, zero) == 2 * 79, "the last number is 79");
+
+static int failures;
+
+#define EXPECT(fact) \
+    do { \
+        if (!(fact)) { \
+            fprintf(stderr, "%s:%d: not so: %s\n", __FILE__, __LINE__, #fact); \
+            failures++; \
+        } \
+    } while (0)
+
+#define LENGTH(list) (sizeof(list) / sizeof((list)[0]))
+
+static const uint8_t loop_a[] = {
+    0x1B, 0xE1, 0x00, 0xF0, 0x06, 0x04, 0x04, 0xFF, 0xC0, 0xFF, 0xC0, 0x1F, 0xE1, 0x01, 0xF0, 0x06, 0x04, 0x04, 0xD1,
+    0xC1, 0x40, 0xC1, 0x28, 0xE1, 0x02, 0xF0, 0x0A, 0x3F, 0x08, 0x06, 0x00, 0x02, 0x08, 0x03, 0xC1, 0xC2, 0xC0,
+};
+
+static const uint8_t indices[] = {0, 1, 0, 1};
+static const uint64_t decodings[] = {9000, 9000, 12600, 12000};
+static const uint64_t matches[] = {9000, 9000, 12600, 12600};
+
+/* The import of the first `rows` rows of each column, with so many places in each list. */
+static uint64_t import(uint64_t reading, uint64_t target, size_t rows, size_t last_column, uint64_t *numbers, int64_t *lags,
+                       size_t places, uint64_t *summary, size_t summary_length)
+{
+    return thq_import(reading, loop_a, sizeof loop_a, target, indices, rows, decodings, rows, matches, last_column, numbers,
+                      places, lags, places, summary, summary_length);
+}
+
+static void whole_import(void)
+{
+    const uint64_t expected_numbers[] = {0, 1, 2, 3, 77};
+    const int64_t expected_lags[] = {0, 0, 600, 0, -77};
+    const uint64_t expected_summary[] = {3, 2, 0, 77};
+    uint64_t numbers[] = {77, 77, 77, 77, 77};
+    int64_t lags[] = {-77, -77, -77, -77, -77};
+    uint64_t summary[] = {77, 77, 77, 77};
+
+    /* Refusals first: each leaves the lists as they are, so the acceptance after them finds them so. */
+    EXPECT(import(2012, 1, 4, 4, numbers, lags, 5, summary, 4) == THQ_NOT_A_CALL);
+    EXPECT(import(THQ_2009, 2, 4, 3, numbers, lags, 5, summary, 4) == 11);
+    EXPECT(import(THQ_2015, UINT64_MAX, 4, 4, numbers, lags, 5, summary, 4) == 11);
+    EXPECT(import(THQ_2015, 1, 4, 3, numbers, lags, 5, summary, 4) == 13);
+    EXPECT(import(THQ_2015, 1, 4, 4, numbers, lags, 3, summary, 4) == 17);
+    EXPECT(import(THQ_2015, 1, 4, 4, numbers, lags, 5, summary, 2) == 17);
+    EXPECT(numbers[0] == 77 && lags[0] == -77 && summary[0] == 77);
+
+    uint64_t answer = import(THQ_2015, 1, 4, 4, numbers, lags, 5, summary, 4);
+    EXPECT(THQ_NUMBER(answer) == 0);
+    EXPECT(THQ_VALUE(answer) == 4);
+    EXPECT(memcmp(numbers, expected_numbers, sizeof numbers) == 0);
+    EXPECT(memcmp(lags, expected_lags, sizeof lags) == 0);
+    EXPECT(memcmp(summary, expected_summary, sizeof summary) == 0);
+}
+
+static void in_steps(void)
+{
+    thq_entry entries[3];
+    uint8_t again[sizeof loop_a];
+    uint64_t set = 0;
+    const uint64_t embedded[] = {0, 1};
+    uint64_t numbers[4], summary[3];
+    int64_t lags[4];
+
+    EXPECT(thq_read_loop(THQ_2015, loop_a, sizeof loop_a, (uint16_t *)entries, 3 * THQ_ENTRY_NUMBERS) == 3 * 256);
+    EXPECT(entries[2].record == THQ_EXTENSION && entries[2].hierarchy_layer_index == 2 && entries[2].nuh_layer_id == 1);
+    EXPECT(thq_read_loop(THQ_2015, loop_a, sizeof loop_a, (uint16_t *)entries, 3 * THQ_ENTRY_NUMBERS - 1) == 17);
+    EXPECT(thq_write_loop((const uint16_t *)entries, 3 * THQ_ENTRY_NUMBERS, again, sizeof again - 1) == 17);
+    EXPECT(thq_write_loop((const uint16_t *)entries, 3 * THQ_ENTRY_NUMBERS, again, sizeof again) == 256 * sizeof loop_a);
+    EXPECT(memcmp(again, loop_a, sizeof loop_a) == 0);
+
+    EXPECT(thq_closure(THQ_2015, loop_a, sizeof loop_a, 2, &set, 0) == 17);
+    EXPECT(thq_closure(THQ_2015, loop_a, sizeof loop_a, 2, &set, 1) == 2 * 256 && set == 5);
+
+    EXPECT(thq_join(3, embedded, LENGTH(embedded), 1, indices, 4, decodings, 4, matches, 4, numbers, 4, lags, 4, summary, 3) == 4 * 256);
+    EXPECT(numbers[2] == 2 && lags[2] == 600 && summary[1] == 2);
+    /* A set that is not there is empty. */
+    EXPECT(thq_join(3, embedded, 0, 1, indices, 4, decodings, 4, matches, 4, numbers, 4, lags, 4, summary, 3) == 2 * 256);
+}
+
+/* Every field of the struct, by values that tell the fields apart. */
+static void fields(void)
+{
+    const uint8_t loop[] = {
+        0x1F, 0xEA, 0xBC, 0xF0, 0x06, 0x04, 0x04, 0xB3, 0xE9, 0xE8, 0xF2, 0x2B, 0xF2, 0x34,
+        0xF0, 0x0C, 0x3F, 0x0A, 0x06, 0xFF, 0xFE, 0xFA, 0xC2, 0xC3, 0xD1, 0xFD, 0xC0, 0xE5,
+    };
+    const thq_entry expected[] = {
+        {
+            .stream_type = 0x1F,
+            .elementary_pid = 0x0ABC,
+            .record = THQ_HIERARCHY,
+            .no_view_scalability_flag = 1,
+            .no_temporal_scalability_flag = 0,
+            .no_spatial_scalability_flag = 1,
+            .no_quality_scalability_flag = 1,
+            .hierarchy_type = 3,
+            .hierarchy_layer_index = 41,
+            .tref_present_flag = 1,
+            .hierarchy_embedded_layer_index = 40,
+            .hierarchy_channel = 50,
+        },
+        {
+            .stream_type = 0x2B,
+            .elementary_pid = 0x1234,
+            .record = THQ_EXTENSION,
+            .hierarchy_layer_index = 62,
+            .tref_present_flag = 0,
+            .hierarchy_channel = 17,
+            .extension_dimension_bits = 0xFFFE,
+            .temporal_id = 5,
+            .nuh_layer_id = 33,
+            .num_embedded_layers = 3,
+            .embedded = {61, 0, 37},
+        },
+    };
+    thq_entry read[2];
+    uint8_t written[sizeof loop];
+
+    EXPECT(thq_read_loop(THQ_2015, loop, sizeof loop, (uint16_t *)read, 2 * THQ_ENTRY_NUMBERS) == 2 * 256);
+    EXPECT(memcmp(read, expected, sizeof expected) == 0);
+    EXPECT(thq_write_loop((const uint16_t *)expected, 2 * THQ_ENTRY_NUMBERS, written, sizeof written) == 256 * sizeof loop);
+    EXPECT(memcmp(written, loop, sizeof loop) == 0);
+}
+
+static void times(void)
+{
+    const uint8_t with_tref[] = {
+        0x00, 0x00, 0x01, 0xE0, 0x00, 0x00, 0x84, 0x81, 0x0D, 0x21, 0x00, 0x01, 0x5D, 0xC1, 0x0F, 0x86, 0xFE, 0xF1, 0x00, 0x01, 0x62, 0x71,
+    };
+    uint64_t read[3];
+    uint8_t written[sizeof with_tref];
+
+    EXPECT(thq_read_times(with_tref, sizeof with_tref, read, 2) == 17);
+    EXPECT(thq_read_times(with_tref, sizeof with_tref, read, 3) == 3 * 256);
+    EXPECT(read[0] == 12000 && read[1] == 12000 && read[2] == 12600);
+    EXPECT(thq_write_times(12000, 12000, 12600, written, sizeof written - 1) == 17);
+    EXPECT(thq_write_times(12000, 12000, 12600, written, sizeof written) == 256 * sizeof written);
+    EXPECT(memcmp(written, with_tref, sizeof written) == 0);
+    EXPECT(thq_write_times(12000, 12000, UINT64_MAX, written, 0) == 25);
+}
+
+int main(void)
+{
+    whole_import();
+    in_steps();
+    fields();
+    times();
+    return failures != 0;
+}

@@ -1,0 +1,77 @@
+#!/bin/sh
+# linked.sh: the tests of the library that others link. The four declarations agree; the archive and the shared object are built; C, Rust
+# and Python call them on document 01's worked examples and run their own examples; and every call is compared with the independent
+# implementation on generated inputs, by a fixed seed. It prints a line for each part and fails if anything fails.
+set -eu
+cd "$(dirname "$0")/.."
+log=target/linked/log
+mkdir -p target/linked
+
+# part NAME PATTERN COMMAND..: runs a part of the tests and shows the last line that has the pattern; a part that prints none has failed.
+# What it prints else is kept for when it fails. (The part is no condition of an `if`: there the shell would go on after a command that
+# fails.)
+part() {
+    name=$1
+    pattern=$2
+    shift 2
+    set +e
+    (
+        set -e
+        "$@"
+    ) >"$log" 2>&1
+    status=$?
+    set -e
+    if [ "$status" -ne 0 ] || ! grep -q "$pattern" "$log"; then
+        cut -c 1-500 "$log" | tail -n 60 >&2
+        echo "linked: $name FAILED" >&2
+        exit 1
+    fi
+    printf 'linked: %-12s %s\n' "$name" "$(grep "$pattern" "$log" | tail -n 1)"
+}
+
+build() {
+    scripts/install-tools
+    scripts/build-library
+    echo "archive $(wc -c <target/lib/libthoquenry.a) bytes, shared object $(wc -c <target/lib/libthoquenry.so) bytes"
+}
+
+declarations() {
+    x86_64-linux-gnu-nm -D --defined-only target/lib/libthoquenry.so | awk '$2 == "T" { print $3 }' >target/linked/offered
+    python3 -B tests/declarations.py target/linked/offered
+}
+
+called_from_c() {
+    for way in target/lib/libthoquenry.a "-Ltarget/lib -lthoquenry"; do
+        # shellcheck disable=SC2086  # a list of words
+        x86_64-linux-gnu-gcc -std=c11 -O2 -Wall -Wextra -Werror -pedantic -Iinclude tests/c/import.c $way -o target/linked/import
+        THOQUENRY_LIBRARIES=$PWD/target/lib LD_LIBRARY_PATH=$PWD/target/lib scripts/x86 target/linked/import
+    done
+    echo "ok, with the archive and with the shared object"
+}
+
+called_from_rust() {
+    cd rust
+    ../scripts/cargo test
+    ../scripts/cargo run --quiet --example join >../target/linked/rust-example
+    diff ../tests/example.txt ../target/linked/rust-example
+}
+
+called_from_python() {
+    scripts/python-x86 -B python/test_thoquenry.py
+    scripts/python-x86 -B python/example.py >target/linked/python-example
+    diff tests/example.txt target/linked/python-example
+}
+
+compared() {
+    cd compare
+    ../scripts/cargo run --quiet --release
+}
+
+part library '^archive' build
+part declarations 'agree' declarations
+part c '^ok' called_from_c
+part rust '^test result: ok. [1-9]' called_from_rust
+part python '^Ran [1-9]' called_from_python
+part compare '^compare: .* agree' compared
+# How often each call answered each number.
+sed '$d' "$log"
