@@ -1,6 +1,6 @@
 -- The assembly that is found is one, and there is no other: `found` and `only`.
 -- Assumes nothing.
-use Prim.Native.Nat.{ℕ, zero, suc, _≤_, _<_}
+use Prim.Native.Nat.{ℕ, zero, suc, _<_}
 use mathlib.Core.Path.{_≡_, refl, sym, _∙_, ap, ap₂, subst}
 use mathlib.Core.Bool.{Bool, true, false, not, cond, _&&_, true≢false}
 use mathlib.Core.List.{List, [], _∷_}
@@ -8,11 +8,11 @@ use mathlib.Core.Logic.{_⊎_, inl, inr}
 use native.Mathlib.Omega.{arith}
 use native.Mathlib.Decide.{decLt, ℕ-discrete}
 use borrow.Author.Tests.{lt-ltb, le-ltb, eq-eqb, eqb-true, not-true}
-use lib.Dec.{eqb, ltb}
+use lib.Dec.{eqb}
 use lib.ListN.{length, getD, set, length-set}
 use lib.Seq.{getD-set-same, getD-set-other}
 use Rattle.closure.specs.declared.Layers.{Layers}
-use Rattle.closure.specs.Meaning.{Names, RestsOn, itself, by}
+use Rattle.closure.specs.Meaning.{RestsOn, by}
 use Rattle.clock.specs.Clock.{distanceOf}
 use Rattle.combinators.specs.Below.{seek-here}
 use Rattle.combinators.specs.Bools.{both-left, both-right}
@@ -20,8 +20,8 @@ use Rattle.joining.specs.declared.assembly.Assembly.{Assembly}
 use Rattle.joining.specs.Table.{Table, rowsIn, layerOf, decodingOf, matchOf, firstRow, ahead}
 use Rattle.joining.specs.Index.{Rising}
 use Rattle.joining.specs.Assemblies.{upperOf, lowerOf, rowAt, pairedRow, partner, edgesOf, assembledFrom, assembled}
-use Rattle.joining.specs.Assembled.{Met, OfLayers, all-met, all-own, heads, begin-long, begin-target, begin-other, begin-own, lower-below}
-use Rattle.joining.specs.Frames.{frameOf, Listed, edge-names, edge-listed, led-before, row-for-each, rests-below, target-below}
+use Rattle.joining.specs.Assembled.{all-met, all-own, heads, begin-long, begin-target, begin-other, begin-own, lower-below}
+use Rattle.joining.specs.Frames.{frameOf, edge-names, edge-listed, led-before, row-for-each, rests-below, target-below}
 use Rattle.joining.specs.Orderly.{Orderly, rises}
 use Rattle.joining.specs.Meaning.{Assembles, NoAssembly}
 use Rattle.joining.specs.Units.{unpaired}

@@ -1,16 +1,13 @@
 -- The frame of a closure: its edges are 'each layer and each of its embedded layers', in an order in which every layer but the target
 -- has been led to before it leads on; and a complete assembly has a row for each of its layers.
 -- Assumes nothing.
-use Prim.Native.Nat.{ℕ, zero, suc, _+_, _-_, _*_, _/_, _%_, _≤_, _<_}
+use Prim.Native.Nat.{ℕ, _+_, _-_, _*_, _<_}
 use mathlib.Core.Path.{_≡_, refl, sym, _∙_, ap, subst}
-use mathlib.Core.Bool.{Bool, true, false, _&&_}
-use mathlib.Core.List.{List}
+use mathlib.Core.Bool.{Bool, true, _&&_}
 use mathlib.Core.Logic.{_⊎_, inl, inr}
 use native.Mathlib.Omega.{arith}
-use native.Mathlib.Decide.{decLt}
-use native.Mathlib.Nat.{lt-of-le-of-lt}
-use borrow.Author.Tests.{lt-ltb, ltb-true, leb-false, eqb-true}
-use lib.Dec.{ltb, leb, eqb}
+use borrow.Author.Tests.{lt-ltb, ltb-true}
+use lib.Dec.{ltb}
 use lib.ListN.{length, getD}
 use Rattle.closure.specs.declared.Layers.{Layers}
 use Rattle.closure.specs.Closures.{isLayer}
@@ -19,10 +16,10 @@ use Rattle.closure.specs.Laws.{below-64}
 use Rattle.combinators.specs.Bools.{both-left, both-right}
 use Rattle.combinators.specs.Those.{those-at, those-which, those-earlier}
 use Rattle.sets.specs.Sets.{has}
-use Rattle.joining.specs.Table.{Table, rowsIn, layerOf}
+use Rattle.joining.specs.Table.{Table, rowsIn}
 use Rattle.joining.specs.Assemblies.{upperOf, lowerOf, joins, isEdge, edgesOf, membersOf, assembled}
-use Rattle.joining.specs.Assembled.{Met, all-met, heads, begin-long}
-use Rattle.joining.specs.Units.{Frame, frame, assemblyOf}
+use Rattle.joining.specs.Assembled.{all-met, heads, begin-long}
+use Rattle.joining.specs.Units.{Frame, frame}
 use Rattle.joining.specs.Judging.{Whole}
 
 abbrev pub frameOf : Layers → ℕ → ℕ → Frame

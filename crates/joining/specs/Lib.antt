@@ -9,6 +9,12 @@ pub mod Frames
 pub mod Orderly
 pub mod Joining
 pub mod Examples
+pub mod Ascending
 pub mod Meaning
+pub mod FirstRows
+pub mod Ordering
 pub mod Chosen
 pub mod Shared
+pub mod Cases
+pub mod Contents
+pub mod Laws

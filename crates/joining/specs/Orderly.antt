@@ -1,27 +1,23 @@
 -- What refusals 11 to 14 leave: a whole closure, and a table of the right shape in range and in time order.
 -- Assumes nothing.
 use Prim.Native.Nat.{ℕ, _≤_, _<_}
-use mathlib.Core.Bool.{Bool, true, false, _&&_, _||_}
+use mathlib.Core.Bool.{true, false}
 use mathlib.Core.List.{List}
-use mathlib.Core.Path.{_≡_, refl, sym, _∙_, ap, subst}
+use mathlib.Core.Path.{_≡_, sym, _∙_, ap, subst}
 use native.Mathlib.Omega.{arith}
-use borrow.Author.Tests.{eq-eqb, leb-false}
-use lib.Dec.{eqb, leb}
 use lib.ListN.{length, getD}
 use Rattle.closure.specs.declared.Layers.{Layers}
 use Rattle.closure.specs.declared.Closure.{Closure}
 use Rattle.closure.specs.declared.Closure.the-variants.{Complete}
 use Rattle.closure.specs.Closures.{isLayer, closureOf}
-use Rattle.closure.specs.Meaning.{RestsOn, by, WholeClosure, Answers, no-such-layer, absent, complete}
+use Rattle.closure.specs.Meaning.{by, WholeClosure, Answers, no-such-layer, absent, complete}
 use Rattle.closure.specs.Laws.{meets}
-use Rattle.clock.specs.Clock.{half}
-use Rattle.combinators.specs.Below.{some, none-at}
-use Rattle.combinators.specs.Bools.{neither-left, neither-right}
 use Rattle.sets.specs.Sets.{has}
-use Rattle.joining.specs.Table.{Table, rowsIn, layerOf, ahead, passed, breaksOrder}
+use Rattle.joining.specs.Table.{Table, rowsIn, breaksOrder}
 use Rattle.joining.specs.Index.{Within, Starts, Order, Rising, Ready}
-use Rattle.joining.specs.Assemblies.{upperOf, lowerOf, edgesOf}
+use Rattle.joining.specs.Assemblies.{lowerOf, edgesOf}
 use Rattle.joining.specs.Frames.{edge-names}
+use Rattle.joining.specs.Ordering.{farther}
 
 -- the target is a layer of the loop, and the set its whole closure
 pub record Closed (layers : Layers) (target closure : ℕ) : Type 0 where
@@ -47,17 +43,7 @@ pub record Orderly (layers : Layers) (target closure : ℕ) (t : Table) : Type 0
 module _ (layers : Layers) (target closure : ℕ) (t : Table) (orderly : Orderly layers target closure t) where
   -- the rows of a closure layer lie farther and farther ahead of its first
   pub rises : (layer : ℕ) → has closure layer ≡ true → Rising t layer
-  rises layer m j k h l p q = leb-false (ahead t k) (ahead t j) (go (layerOf t k) q none)
-    where
-      none : (leb half (ahead t k) || passed t (layerOf t k) (ahead t k) k) ≡ false
-      none =
-          sym (ap (λ (b : Bool). b && (leb half (ahead t k) || passed t (layerOf t k) (ahead t k) k)) (ap (has closure) q ∙ m))
-          ∙ orderly .unbroken k l
-
-      go : (own : ℕ) → own ≡ layer → (leb half (ahead t k) || passed t own (ahead t k) k) ≡ false → leb (ahead t k) (ahead t j) ≡ false
-      go own e n =
-          sym (ap (λ (b : Bool). b && leb (ahead t k) (ahead t j)) (eq-eqb (layerOf t j) own (p ∙ sym e)))
-          ∙ none-at (λ i. eqb (layerOf t i) own && leb (ahead t k) (ahead t i)) k (neither-right (leb half (ahead t k)) (passed t own (ahead t k) k) n) j h
+  rises layer m j k h l p q = farther t closure j k (ap (has closure) q ∙ m) (orderly .unbroken k l) h (p ∙ sym q)
 
   pub ready : (starts order : List ℕ) → Starts (t .indices) starts → Order (t .indices) order → Ready t starts order (edgesOf layers closure)
   ready starts order s o =

@@ -12,16 +12,16 @@ use lib.ListN.{length, getD, length-map}
 use Rattle.closure.specs.declared.Layers.{Layers}
 use Rattle.closure.specs.Meaning.{RestsOn}
 use Rattle.combinators.specs.Bools.{both-left, both-right, either-left, either-right}
-use Rattle.combinators.specs.Lists.{any, gather, Nth, here, there, any-true, any-which, nth-getD, getD-nth, nth-inside}
+use Rattle.combinators.specs.Lists.{any, gather, Nth, here, any-true, any-which, nth-getD, getD-nth, nth-inside}
 use Rattle.combinators.specs.Members.{member, member-at, member-which}
 use Rattle.combinators.specs.Those.{those, those-at, those-which}
 use Rattle.sets.specs.Sets.{has}
 use Rattle.joining.specs.Table.{Table, rowsIn, layerOf}
-use Rattle.joining.specs.Assemblies.{membersOf, edgesOf, assembled}
+use Rattle.joining.specs.Assemblies.{membersOf}
 use Rattle.joining.specs.Units.{Frame, isTarget, assemblyOf, unitFrom, unitOf, rowsBelow, unpaired, shares}
 use Rattle.joining.specs.Frames.{frameOf, rests-below}
 use Rattle.joining.specs.Orderly.{Orderly}
-use Rattle.joining.specs.Meaning.{Assembles, SharesRow}
+use Rattle.joining.specs.Meaning.{SharesRow}
 use Rattle.joining.specs.Chosen.{found, only}
 
 -- ---- members of what is gathered
@@ -34,7 +34,7 @@ or-which : (a b : Bool) → a || b ≡ true → (a ≡ true) ⊎ (b ≡ true)
 or-which true b e = inl refl
 or-which false b e = inr e
 
-gathered-from : (g : ℕ → List ℕ) (x : ℕ) (l : List ℕ) → member x (gather g l) ≡ true → (i : ℕ) × (i < length l) × (member x (g (getD l i 0)) ≡ true)
+pub gathered-from : (g : ℕ → List ℕ) (x : ℕ) (l : List ℕ) → member x (gather g l) ≡ true → (i : ℕ) × (i < length l) × (member x (g (getD l i 0)) ≡ true)
 gathered-from g x [] e = absurd (true≢false (sym e))
 gathered-from g x (k ∷ l) e = go (or-which (member x (g k)) (member x (gather g l)) (sym (member-either x (g k) (gather g l)) ∙ e)) (gathered-from g x l)
   where
@@ -44,7 +44,7 @@ gathered-from g x (k ∷ l) e = go (or-which (member x (g k)) (member x (gather 
     go (inl h) later = (0, omega arith, h)
     go (inr h) later = let w = later h in (suc (w .0), omega (arith, w .1), w .2)
 
-gathered-in : (g : ℕ → List ℕ) (x : ℕ) (l : List ℕ) (i : ℕ) → i < length l → member x (g (getD l i 0)) ≡ true → member x (gather g l) ≡ true
+pub gathered-in : (g : ℕ → List ℕ) (x : ℕ) (l : List ℕ) (i : ℕ) → i < length l → member x (g (getD l i 0)) ≡ true → member x (gather g l) ≡ true
 gathered-in g x [] i h e = absurd (omega arith)
 gathered-in g x (k ∷ l) zero h e = member-either x (g k) (gather g l) ∙ either-left (member x (g k)) (member x (gather g l)) e
 gathered-in g x (k ∷ l) (suc i) h e =
@@ -52,12 +52,12 @@ gathered-in g x (k ∷ l) (suc i) h e =
 
 -- ---- the rows of a unit
 
-unit-at : (members rows : List ℕ) (p : ℕ) → p < length members → getD (unitFrom members rows) p 0 ≡ getD rows (getD members p 0) 0
+pub unit-at : (members rows : List ℕ) (p : ℕ) → p < length members → getD (unitFrom members rows) p 0 ≡ getD rows (getD members p 0) 0
 unit-at [] rows p h = absurd (omega arith)
 unit-at (x ∷ members) rows zero h = refl
 unit-at (x ∷ members) rows (suc p) h = unit-at members rows p (omega arith)
 
-unit-long : (members rows : List ℕ) → length (unitFrom members rows) ≡ length members
+pub unit-long : (members rows : List ℕ) → length (unitFrom members rows) ≡ length members
 unit-long members rows = length-map members (λ layer. getD rows layer 0)
 
 module _ (layers : Layers) (target closure : ℕ) (t : Table) (orderly : Orderly layers target closure t) where
@@ -65,7 +65,7 @@ module _ (layers : Layers) (target closure : ℕ) (t : Table) (orderly : Orderly
   f = frameOf layers closure target
 
   -- a row of the unit of a target row is that of a closure layer, and the other way round
-  unit-row : (k row : ℕ) → member row (unitOf t f k) ≡ true
+  pub unit-row : (k row : ℕ) → member row (unitOf t f k) ≡ true
       → (layer : ℕ) × RestsOn layers target layer × (getD (assemblyOf t f k .rows) layer 0 ≡ row)
   unfolding membersOf
   unit-row k row e =
@@ -77,7 +77,7 @@ module _ (layers : Layers) (target closure : ℕ) (t : Table) (orderly : Orderly
         sym (unit-at (membersOf closure) (assemblyOf t f k .rows) (w .0) inside) ∙ w .2,
       )
 
-  row-place : (k layer : ℕ) → RestsOn layers target layer
+  pub row-place : (k layer : ℕ) → RestsOn layers target layer
       → (p : ℕ) × (p < length (unitOf t f k)) × (getD (unitOf t f k) p 0 ≡ getD (assemblyOf t f k .rows) layer 0)
   unfolding membersOf
   row-place k layer r =
@@ -106,18 +106,24 @@ module _ (layers : Layers) (target closure : ℕ) (t : Table) (orderly : Orderly
         let theirs = unit-row j row (from .2) in
         record {
           target-row = own;
-          choice = λ layer. getD (assemblyOf t f k .rows) layer 0;
-          assembles = found layers target closure t orderly k inside own (complete k is-target (paired k (omega arith)));
           earlier = j;
           before = before;
           earlier-row = own-j;
-          other = λ layer. getD (assemblyOf t f j .rows) layer 0;
-          assembles-earlier = found layers target closure t orderly j (omega arith) own-j (complete j (passing .passes) (paired j (omega arith)));
-          layer = mine .0;
-          in-closure = mine .1;
-          other-layer = theirs .0;
-          other-in-closure = theirs .1;
-          shared = mine .2 ∙ sym (theirs .2);
+          row = row;
+          in-unit = record {
+            choice = λ layer. getD (assemblyOf t f k .rows) layer 0;
+            assembles = found layers target closure t orderly k inside own (complete k is-target (paired k (omega arith)));
+            layer = mine .0;
+            in-closure = mine .1;
+            chosen = mine .2;
+          };
+          in-earlier-unit = record {
+            choice = λ layer. getD (assemblyOf t f j .rows) layer 0;
+            assembles = found layers target closure t orderly j (omega arith) own-j (complete j (passing .passes) (paired j (omega arith)));
+            layer = theirs .0;
+            in-closure = theirs .1;
+            chosen = theirs .2;
+          };
         }
       where
         complete : (j : ℕ) → isTarget t f j ≡ true → unpaired t f j ≡ false → assemblyOf t f j .complete ≡ true
@@ -129,12 +135,19 @@ module _ (layers : Layers) (target closure : ℕ) (t : Table) (orderly : Orderly
 
     pub means-shares : SharesRow layers target t k → shares t f k ≡ true
     means-shares s =
-        let mine = only layers target closure t orderly k inside (s .target-row) (s .choice) (s .assembles) in
-        let theirs = only layers target closure t orderly (s .earlier) (let b = s .before in omega arith) (s .earlier-row) (s .other) (s .assembles-earlier) in
-        let place = row-place k (s .layer) (s .in-closure) in
-        let other-place = row-place (s .earlier) (s .other-layer) (s .other-in-closure) in
+        let u = s .in-unit in
+        let v = s .in-earlier-unit in
+        let mine = only layers target closure t orderly k inside (s .target-row) (u .choice) (u .assembles) in
+        let theirs = only layers target closure t orderly (s .earlier) (let b = s .before in omega arith) (s .earlier-row) (v .choice) (v .assembles) in
+        let place = row-place k (u .layer) (u .in-closure) in
+        let other-place = row-place (s .earlier) (v .layer) (v .in-closure) in
         let same : getD (unitOf t f k) (place .0) 0 ≡ getD (unitOf t f (s .earlier)) (other-place .0) 0 =
-        place .2 ∙ mine .1 (s .layer) (s .in-closure) ∙ s .shared ∙ sym (theirs .1 (s .other-layer) (s .other-in-closure)) ∙ sym (other-place .2) in
+        place .2
+        ∙ mine .1 (u .layer) (u .in-closure)
+        ∙ u .chosen
+        ∙ sym (v .chosen)
+        ∙ sym (theirs .1 (v .layer) (v .in-closure))
+        ∙ sym (other-place .2) in
         let listed = those-which (isTarget t f) k (s .earlier) (s .before) (eq-eqb (layerOf t (s .earlier)) target (s .earlier-row)) in
         let used : member (getD (unitOf t f k) (place .0) 0) (rowsBelow t f k) ≡ true =
         gathered-in (unitOf t f) (getD (unitOf t f k) (place .0) 0) (those (isTarget t f) k) (listed .0) (listed .1)

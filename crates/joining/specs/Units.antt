@@ -1,11 +1,11 @@
 -- Units: one for each target row, in the rows' order, and what is judged of them together: refusals 15 and 16.
 -- Assumes nothing.
-use Prim.Native.Nat.{ℕ, _*_}
+use Prim.Native.Nat.{ℕ}
 use mathlib.Core.Bool.{Bool, not, cond, _&&_}
 use mathlib.Core.List.{List, map}
 use lib.Dec.{eqb, ltb}
 use lib.IntN.{ℤ}
-use lib.ListN.{length, getD}
+use lib.ListN.{getD}
 use Rattle.clock.specs.Clock.{lagOf}
 use Rattle.combinators.specs.Below.{seek, count}
 use Rattle.combinators.specs.Lists.{any, gather}

@@ -1,9 +1,9 @@
 -- Lists laid over the front of a buffer, as stores one after another leave them.
 -- Assumes nothing.
-use Prim.Native.Nat.{ℕ, zero, suc, _+_, _*_, _≤_, _<_}
+use Prim.Native.Nat.{ℕ, suc, _+_, _*_, _≤_, _<_}
 use mathlib.Core.Bool.{false}
 use mathlib.Core.List.{List, [], _∷_, _++_}
-use mathlib.Core.Path.{_≡_, refl, sym, _∙_, ap}
+use mathlib.Core.Path.{_≡_, sym, _∙_, ap}
 use native.Mathlib.Nat.{zero-add, add-suc, suc-add, add-zero}
 use native.Mathlib.Omega.{arith}
 use lib.IntN.{ℤ}

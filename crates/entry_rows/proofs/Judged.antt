@@ -1,0 +1,121 @@
+-- Whether a row has a value that is too wide, from the tests that the code makes in turn; and what follows where it has none.
+-- Assumes nothing.
+use Prim.Native.Nat.{ℕ, zero, suc, _≤_, _<_, _+_, _-_, _*_}
+use mathlib.Core.Path.{_≡_, refl, sym, _∙_, ap, subst}
+use mathlib.Core.Logic.{_≢_}
+use mathlib.Core.Bool.{Bool, true, false, not, _&&_, _||_, and-false, or-false}
+use mathlib.Core.List.{List, [], _∷_, _++_, map}
+use native.Mathlib.Numerals.{add-one}
+use native.Mathlib.Omega.{arith}
+use borrow.Author.Tests.{not-false, lt-ltb, le-ltb, ltb-false}
+use lib.Dec.{eqb, ltb}
+use lib.ListN.{length, getD, set, take, drop, length-append}
+use Rattle.combinators.specs.Bools.{both-right, neither-left, neither-right, either-left, either-right}
+use Rattle.combinators.specs.Lists.{any}
+use Rattle.combinators.specs.Padding.{padTo, store-padTo}
+use Rattle.syntax.specs.Table.{Table, fits}
+use Rattle.syntax.specs.Laws.{fits-fit}
+use Rattle.syntax.specs.Equations.{bounds}
+use Rattle.vocabulary.specs.declared.stream_types.Reading.the-variants.{Edition2015}
+use Rattle.descriptors.specs.declared.records.Record.the-variants.{NoRecord, Hierarchy, Extension}
+use Rattle.descriptors.specs.Tables.{hierarchyDescriptor, extensionHead}
+use Rattle.descriptors.specs.Records.{noLayer, hierarchyFrom, extensionFrom}
+use Rattle.es_loop.specs.Entries.{blankEntry}
+use Rattle.entry_rows.specs.Rows.{kindIn, fieldsIn, listIn, recordTable, entryTable, tooWideFor, layerTooWide, rowTooWide, layerOf, entryIn, rowAt, entriesBelow}
+
+module _ (row : List ℕ) where
+  abbrev listed : Bool
+  listed = eqb (kindIn row) 2 && any layerTooWide (listIn row)
+
+  pub kind-wide : 2 < getD row 2 0 → true ≡ rowTooWide row
+  unfolding rowTooWide
+  kind-wide h = rw (lt-ltb 2 (getD row 2 0) h)
+
+  pub type-wide : 255 < getD row 0 0 → true ≡ rowTooWide row
+  unfolding rowTooWide
+  type-wide h =
+      sym (either-right (ltb 2 (kindIn row)) _ (either-left (tooWideFor (entryTable (kindIn row)) row) listed (rw (le-ltb (getD row 0 0) 256 h))))
+
+  pub pid-wide : 8191 < getD row 1 0 → true ≡ rowTooWide row
+  unfolding rowTooWide
+  pid-wide h =
+      sym (either-right (ltb 2 (kindIn row)) _
+      (either-left (tooWideFor (entryTable (kindIn row)) row) listed (rw (le-ltb (getD row 1 0) 8192 h, and-false (ltb (getD row 0 0) 256)))))
+
+  module _ (type-fine : getD row 0 0 < 256) (pid-fine : getD row 1 0 < 8192) where
+    pub hierarchy-decides : getD row 2 0 ≡ 1 → tooWideFor (hierarchyDescriptor Edition2015) row ≡ rowTooWide row
+    unfolding rowTooWide
+    hierarchy-decides e =
+        rw (e, lt-ltb (getD row 0 0) 256 type-fine, lt-ltb (getD row 1 0) 8192 pid-fine)
+        (sym (or-false (tooWideFor (hierarchyDescriptor Edition2015) row)))
+
+    pub extension-decides : getD row 2 0 ≡ 2 → tooWideFor extensionHead row || any layerTooWide (listIn row) ≡ rowTooWide row
+    unfolding rowTooWide
+    extension-decides e = rw (e, lt-ltb (getD row 0 0) 256 type-fine, lt-ltb (getD row 1 0) 8192 pid-fine)
+
+    pub no-record-fine : getD row 2 0 ≡ 0 → false ≡ rowTooWide row
+    unfolding rowTooWide
+    no-record-fine e = rw (e, lt-ltb (getD row 0 0) 256 type-fine, lt-ltb (getD row 1 0) 8192 pid-fine)
+
+  module _ (fine : rowTooWide row ≡ false) where
+    within-tables : fits (entryTable (kindIn row)) (fieldsIn (entryTable (kindIn row)) row) ≡ true
+    unfolding rowTooWide
+    within-tables =
+        not-false _ (neither-left (tooWideFor (entryTable (kindIn row)) row) listed (neither-right (ltb 2 (kindIn row)) _ fine))
+
+    pub kind-fine : getD row 2 0 ≤ 2
+    unfolding rowTooWide
+    kind-fine = ltb-false 2 (getD row 2 0) (neither-left (ltb 2 (kindIn row)) (tooWideFor (entryTable (kindIn row)) row || listed) fine)
+
+    pub type-bound : getD row 0 0 < 256
+    type-bound = (bounds (fits-fit (entryTable (kindIn row)) (fieldsIn (entryTable (kindIn row)) row) within-tables)) .0
+
+    pub pid-bound : getD row 1 0 < 8192
+    pid-bound = (bounds (fits-fit (entryTable (kindIn row)) (fieldsIn (entryTable (kindIn row)) row) within-tables)) .1 .0
+
+    pub hierarchy-fine : getD row 2 0 ≡ 1 → tooWideFor (hierarchyDescriptor Edition2015) row ≡ false
+    hierarchy-fine e = hierarchy-decides type-bound pid-bound e ∙ fine
+
+    pub extension-fine : getD row 2 0 ≡ 2 → tooWideFor extensionHead row ≡ false
+    extension-fine e =
+        neither-left (tooWideFor extensionHead row) (any layerTooWide (listIn row)) (extension-decides type-bound pid-bound e ∙ fine)
+
+    pub list-fine : getD row 2 0 ≡ 2 → any layerTooWide (listIn row) ≡ false
+    list-fine e =
+        neither-right (tooWideFor extensionHead row) (any layerTooWide (listIn row)) (extension-decides type-bound pid-bound e ∙ fine)
+
+-- a row as the code cuts it out
+pub row-part : (numbers : List ℕ) (k : ℕ) → take (k * 80 + 80 - k * 80) (drop (k * 80) numbers) ≡ rowAt numbers k
+row-part numbers k = let e : k * 80 + 80 - k * 80 ≡ 80 = omega arith in ap (λ (n : ℕ). take n (drop (k * 80) numbers)) e
+
+-- the entry of a row, for each kind of record
+module _ (row : List ℕ) where
+  pub hierarchy-entry : getD row 2 0 ≡ 1
+      → record { «stream_type» = getD row 0 0; pid = getD row 1 0; «record» = Hierarchy (hierarchyFrom (fieldsIn (hierarchyDescriptor Edition2015) row)); embedded = padTo 63 noLayer [] }
+      ≡ entryIn row
+  unfolding entryIn
+  hierarchy-entry e = rw e
+
+  pub extension-entry : getD row 2 0 ≡ 2
+      → record { «stream_type» = getD row 0 0; pid = getD row 1 0; «record» = Extension (extensionFrom (fieldsIn extensionHead row)); embedded = padTo 63 noLayer (map layerOf (listIn row)) }
+      ≡ entryIn row
+  unfolding entryIn
+  extension-entry e = rw e
+
+  pub no-record-entry : getD row 2 0 ≡ 0
+      → record { «stream_type» = getD row 0 0; pid = getD row 1 0; «record» = NoRecord; embedded = padTo 63 noLayer [] } ≡ entryIn row
+  unfolding entryIn
+  no-record-entry e = rw e
+
+-- as many entries as rows
+pub length-entries : (numbers : List ℕ) (n : ℕ) → length (entriesBelow numbers n) ≡ n
+length-entries numbers zero = refl
+length-entries numbers (suc n) =
+    length-append (entriesBelow numbers n) (entryIn (rowAt numbers n) ∷ []) ∙ ap (λ (k : ℕ). k + 1) (length-entries numbers n) ∙ add-one n
+
+-- one entry more
+pub store-entry : (numbers : List ℕ) (i : ℕ) → i < 201
+    → set (padTo 201 blankEntry (entriesBelow numbers i)) i (entryIn (rowAt numbers i)) ≡ padTo 201 blankEntry (entriesBelow numbers (i + 1))
+store-entry numbers i h =
+    store-padTo 201 blankEntry (entryIn (rowAt numbers i)) (entriesBelow numbers i) i (length-entries numbers i) h
+    ∙ ap (λ (n : ℕ). padTo 201 blankEntry (entriesBelow numbers n)) (sym (add-one i))

@@ -1,0 +1,56 @@
+-- `laying::head_of` meets its contract: which arm was taken says which record it is.
+-- Assumes nothing.
+use mathlib.Core.Path.{sym, _∙_, ap}
+use Rattle.descriptors.specs.declared.records.Record.{Record}
+use Rattle.entry_rows.specs.Rows.{headOf}
+use native.Mathlib.Omega.{arith}
+use borrow.Author.Needs.{needs}
+use Rattle.entry_rows.proofs.laying.head_of.Statement.{statement}
+use Rattle.entry_rows.proofs.laying.head_of.Tie as tie
+
+enum-told : tie.Need-enum-told
+enum-told c = search needs
+
+head-without-record-requires : tie.Need-head-without-record-requires
+head-without-record-requires c κs = search needs
+
+enum-known-record : tie.Need-enum-known-record
+enum-known-record c = search needs
+
+head-with-hierarchy-requires : tie.Need-head-with-hierarchy-requires
+head-with-hierarchy-requires c κs = search needs
+
+enum-known-record-2 : tie.Need-enum-known-record-2
+enum-known-record-2 c = search needs
+
+head-with-extension-requires : tie.Need-head-with-extension-requires
+head-with-extension-requires c κs = search needs
+
+returns : tie.Need-returns
+returns c =
+    let e = c .before .before .before .args .entry in
+    c .head-without-record .ensures ∙ sym (ap (headOf (e .«stream_type») (e .pid)) (c .before .enum-told .given .1))
+
+returns-2 : tie.Need-returns-2
+returns-2 c =
+    let e = c .before .before .before .before .args .entry in
+    c .head-with-hierarchy .ensures ∙ sym (ap (headOf (e .«stream_type») (e .pid)) (c .before .before .«record» .given .1))
+
+returns-3 : tie.Need-returns-3
+returns-3 c =
+    let e = c .before .before .before .before .args .entry in
+    c .head-with-extension .ensures ∙ sym (ap (headOf (e .«stream_type») (e .pid)) (c .before .before .record2 .given .1))
+
+pub head-of-spec : {M : Type 1} → statement M
+head-of-spec =
+    tie.close
+    (tie.spec
+    enum-told
+    head-without-record-requires
+    enum-known-record
+    head-with-hierarchy-requires
+    enum-known-record-2
+    head-with-extension-requires
+    returns
+    returns-2
+    returns-3)

@@ -1,0 +1,44 @@
+-- `laying::put_entry` meets its contract: the head, and after it the rest of the row.
+-- Assumes nothing.
+use Rattle.text.specs.Laws.{laid-then, laid-as}
+use native.Mathlib.Omega.{arith}
+use borrow.Author.Needs.{needs}
+use Rattle.entry_rows.proofs.laying.put_entry.Statement.{statement}
+use Rattle.entry_rows.proofs.laying.put_entry.Tie as tie
+
+head-of-requires : tie.Need-head-of-requires
+head-of-requires c κs = search needs
+
+tail-of-requires : tie.Need-tail-of-requires
+tail-of-requires c κs = search needs
+
+slice-aggregate-put : tie.Need-slice-aggregate-put
+slice-aggregate-put c = search needs
+
+put-requires : tie.Need-put-requires
+put-requires c κs = search needs
+
+slice-aggregate-put-2 : tie.Need-slice-aggregate-put-2
+slice-aggregate-put-2 c = search needs
+
+put-requires-2 : tie.Need-put-requires-2
+put-requires-2 c κs = search needs
+
+same-length : tie.Need-same-length
+same-length c = search needs
+
+returns : tie.Need-returns
+returns c = laid-then (laid-as (c .before .before .before .before .before .before .before .before .before .before .before .head-of .ensures) (c .before .before .before .before .before .before .before .put .ensures)) (laid-as (c .before .before .before .before .before .before .before .before .before .before .tail-of .ensures) (c .before .before .put2 .ensures))
+
+pub put-entry-spec : {M : Type 1} → statement M
+put-entry-spec =
+    tie.close
+    (tie.spec
+    head-of-requires
+    tail-of-requires
+    slice-aggregate-put
+    put-requires
+    slice-aggregate-put-2
+    put-requires-2
+    same-length
+    returns)

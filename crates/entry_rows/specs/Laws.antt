@@ -1,0 +1,46 @@
+-- How long rows are: 80 numbers each; and a count beyond a list.
+-- Assumes nothing.
+use Prim.Native.Nat.{ℕ, zero, suc, _+_, _*_, _≤_, _<_, min}
+use mathlib.Core.Path.{_≡_, refl, sym, _∙_, ap, ap₂}
+use mathlib.Core.List.{List, [], _∷_, map}
+use native.Mathlib.Decide.{decLt}
+use native.Mathlib.Omega.{arith}
+use lib.ListN.{length, take, length-append, length-map, length-take}
+use lib.Seq.{take-all}
+use Rattle.combinators.specs.Padding.{length-padTo}
+use Rattle.vocabulary.specs.declared.LayerIndex.{LayerIndex}
+use Rattle.descriptors.specs.declared.records.Record.{Record}
+use Rattle.descriptors.specs.declared.records.Record.the-variants.{NoRecord, Hierarchy, Extension}
+use Rattle.es_loop.specs.declared.entries.Entry.{Entry}
+use Rattle.entry_rows.specs.Rows.{layerNumber, headOf, listOf, tailOf, rowOf, rowsOf}
+
+-- a count beyond a list takes all of it
+pub within : {A : Type 0} (l : List A) (count given size : ℕ) → length l ≡ size → given ≡ min count size → take given l ≡ take count l
+within l count given size long e = go (decLt count size)
+  where
+    go : Dec (count < size) → take given l ≡ take count l
+    go (yes h) = let same : given ≡ count = omega arith in rw same
+    go (no h) = take-all given l (omega arith) ∙ sym (take-all count l (omega arith))
+
+head-length : (streamType pid : ℕ) («record» : Record) → length (headOf streamType pid «record») ≡ 16
+unfolding headOf
+head-length streamType pid «record» = refl
+
+list-short : («record» : Record) (layers : List LayerIndex) → length (listOf «record» layers) ≤ 64
+list-short NoRecord layers = omega arith
+list-short (Hierarchy h) layers = omega arith
+list-short (Extension x) layers = simp (length-map, length-take) (omega arith)
+
+tail-length : («record» : Record) (layers : List LayerIndex) → length (tailOf «record» layers) ≡ 64
+unfolding tailOf
+tail-length «record» layers = length-padTo 64 0 (listOf «record» layers) (list-short «record» layers)
+
+pub row-length : (entry : Entry) → length (rowOf entry) ≡ 80
+row-length e =
+    length-append (headOf (e .«stream_type») (e .pid) (e .«record»)) (tailOf (e .«record») (e .embedded))
+    ∙ ap₂ _+_ (head-length (e .«stream_type») (e .pid) (e .«record»)) (tail-length (e .«record») (e .embedded))
+
+pub rows-length : (entries : List Entry) → length (rowsOf entries) ≡ length entries * 80
+rows-length [] = refl
+rows-length (e ∷ entries) =
+    length-append (rowOf e) (rowsOf entries) ∙ omega (arith, row-length e, rows-length entries)

@@ -1,0 +1,207 @@
+// From rows to entries: whether a row has a value that is too wide (25), and the entry of a row that has none.
+ghost use mathlib.Core.Path.{_≡_};
+ghost use mathlib.Core.Bool.{false};
+ghost use mathlib.Core.List.{map};
+ghost use Prim.Native.Nat.{_≤_};
+ghost use lib.ListN.{length, take};
+ghost use Rattle.combinators.specs.Lists.{any};
+ghost use Rattle.combinators.specs.Padding.{padTo};
+ghost use Rattle.vocabulary.specs.declared.stream_types.Reading.the-variants.{Edition2015};
+ghost use Rattle.descriptors.specs.Tables.{hierarchyDescriptor, extensionHead};
+ghost use Rattle.descriptors.specs.Records.{noLayer, hierarchyFrom, extensionFrom};
+ghost use Rattle.entry_rows.specs.Rows.{fieldsIn, tooWideFor, layerTooWide, rowTooWide, layerOf, entryIn, someTooWide, entriesIn};
+use super::laying::lesser;
+use descriptors::ExtensionRecord;
+use descriptors::HierarchyRecord;
+use descriptors::Record;
+use es_loop::Entry;
+use vocabulary::HierarchyChannel;
+use vocabulary::LayerIndex;
+use vocabulary::NuhLayerId;
+use vocabulary::TemporalId;
+
+// Flags of 1 bit, type of 4 bits, the indices and the channel of 6 bits each.
+fn hierarchy_too_wide(row: &[u16]) -> bool
+    requires { ⌜ 80 ≤ length (now row) ⌝ }
+    ensures { λ r. ⌜ r ≡ tooWideFor (hierarchyDescriptor Edition2015) (now (row .entry)) ⌝ }
+{
+    !((row[3] < 2)
+        & (row[4] < 2)
+        & (row[5] < 2)
+        & (row[6] < 2)
+        & (row[7] < 16)
+        & (row[8] < 64)
+        & (row[9] < 2)
+        & (row[10] < 64)
+        & (row[11] < 64))
+}
+
+// The index of 6 bits, temporal_id of 3, nuh_layer_id of 6, the flag of 1, the count and the channel of 6 bits each.
+fn extension_too_wide(row: &[u16]) -> bool
+    requires { ⌜ 80 ≤ length (now row) ⌝ }
+    ensures { λ r. ⌜ r ≡ tooWideFor extensionHead (now (row .entry)) ⌝ }
+{
+    !((row[8] < 64)
+        & (row[13] < 8)
+        & (row[14] < 64)
+        & (row[9] < 2)
+        & (row[15] < 64)
+        & (row[11] < 64))
+}
+
+// Whether one of the first `count` embedded layers is too wide.
+fn list_too_wide(list: &[u16], count: usize) -> bool
+    requires { ⌜ count ≤ length (now list) ⌝ }
+    ensures { λ r. ⌜ r ≡ any layerTooWide (take count (now (list .entry))) ⌝ }
+{
+    let mut i = 0;
+    while i < count {
+        if 63 < list[i] {
+            return true;
+        }
+        i += 1;
+    }
+    false
+}
+
+// All that refusal 25 asks of a row.
+fn row_too_wide(row: &[u16]) -> bool
+    requires { ⌜ 80 ≤ length (now row) ⌝ }
+    ensures { λ r. ⌜ r ≡ rowTooWide (now (row .entry)) ⌝ }
+{
+    let kind = row[2];
+    if 2 < kind {
+        return true;
+    }
+    if 255 < row[0] {
+        return true;
+    }
+    if 8191 < row[1] {
+        return true;
+    }
+    if kind == 1 {
+        return hierarchy_too_wide(row);
+    }
+    if kind == 2 {
+        if extension_too_wide(row) {
+            return true;
+        }
+        return list_too_wide(&row[16..], row[15] as usize);
+    }
+    false
+}
+
+fn hierarchy_in(row: &[u16]) -> HierarchyRecord
+    requires { ⌜ (80 ≤ length (now row)) × (tooWideFor (hierarchyDescriptor Edition2015) (now row) ≡ false) ⌝ }
+    ensures { λ r. ⌜ r ≡ hierarchyFrom (fieldsIn (hierarchyDescriptor Edition2015) (now (row .entry))) ⌝ }
+{
+    HierarchyRecord {
+        no_view: row[3] == 1,
+        no_temporal: row[4] == 1,
+        no_spatial: row[5] == 1,
+        no_quality: row[6] == 1,
+        hierarchy_type: row[7] as u8,
+        layer_index: LayerIndex(row[8] as u8),
+        tref_present_flag: row[9] == 1,
+        embedded_layer_index: LayerIndex(row[10] as u8),
+        channel: HierarchyChannel(row[11] as u8),
+    }
+}
+
+fn extension_in(row: &[u16]) -> ExtensionRecord
+    requires { ⌜ (80 ≤ length (now row)) × (tooWideFor extensionHead (now row) ≡ false) ⌝ }
+    ensures { λ r. ⌜ r ≡ extensionFrom (fieldsIn extensionHead (now (row .entry))) ⌝ }
+{
+    ExtensionRecord {
+        dimension_bits: row[12],
+        layer_index: LayerIndex(row[8] as u8),
+        temporal_id: TemporalId(row[13] as u8),
+        nuh_layer_id: NuhLayerId(row[14] as u8),
+        tref_present_flag: row[9] == 1,
+        num_embedded_layers: row[15] as u8,
+        channel: HierarchyChannel(row[11] as u8),
+    }
+}
+
+// The first `count` embedded layers, in their array.
+fn list_in(list: &[u16], count: usize) -> [LayerIndex; 63]
+    requires { ⌜ (count ≤ 63) × (count ≤ length (now list)) × (any layerTooWide (take count (now list)) ≡ false) ⌝ }
+    ensures { λ r. ⌜ r ≡ padTo 63 noLayer (map layerOf (take count (now (list .entry)))) ⌝ }
+{
+    let mut layers = descriptors::no_layers();
+    let mut i = 0;
+    while i < count {
+        layers[i] = LayerIndex(list[i] as u8);
+        i += 1;
+    }
+    layers
+}
+
+// The entry of a row.
+fn entry_in(row: &[u16]) -> Entry
+    requires { ⌜ (80 ≤ length (now row)) × (rowTooWide (now row) ≡ false) ⌝ }
+    ensures { λ r. ⌜ r ≡ entryIn (now (row .entry)) ⌝ }
+{
+    let stream_type = row[0] as u8;
+    let pid = row[1];
+    let kind = row[2];
+    if kind == 1 {
+        let hierarchy = hierarchy_in(row);
+        return Entry {
+            stream_type,
+            pid,
+            record: Record::Hierarchy(hierarchy),
+            embedded: descriptors::no_layers(),
+        };
+    }
+    if kind == 2 {
+        let extension = extension_in(row);
+        let embedded = list_in(&row[16..], row[15] as usize);
+        return Entry {
+            stream_type,
+            pid,
+            record: Record::Extension(extension),
+            embedded,
+        };
+    }
+    Entry {
+        stream_type,
+        pid,
+        record: Record::NoRecord,
+        embedded: descriptors::no_layers(),
+    }
+}
+
+// Whether some row has a value that is too wide. Every row is judged, also those past the 201 entries that a loop can have.
+pub fn some_too_wide(numbers: &[u16]) -> bool
+    ensures { λ r. ⌜ r ≡ someTooWide (now (numbers .entry)) ⌝ }
+{
+    let count = numbers.len() / 80;
+    let mut i = 0;
+    while i < count {
+        let start = i * 80;
+        let end = start + 80;
+        if row_too_wide(&numbers[start..end]) {
+            return true;
+        }
+        i += 1;
+    }
+    false
+}
+
+// The entries of the rows, as many as their array has room for.
+pub fn entries_of(numbers: &[u16]) -> [Entry; 201]
+    requires { ⌜ someTooWide (now numbers) ≡ false ⌝ }
+    ensures { λ r. ⌜ r ≡ entriesIn (now (numbers .entry)) ⌝ }
+{
+    let mut entries = es_loop::blank_entries();
+    let count = lesser(numbers.len() / 80, 201);
+    let mut i = 0;
+    while i < count {
+        let start = i * 80;
+        let end = start + 80;
+        entries[i] = entry_in(&numbers[start..end]);
+        i += 1;
+    }
+    entries
+}

@@ -1,0 +1,85 @@
+-- `importing::import` meets its contract: what reading answered says which of the two cases it is, and an accepted loop's layers are those that
+-- the rows are joined over.
+-- Assumes nothing.
+use mathlib.Core.Path.{refl, sym, _∙_, ap}
+use borrow.Author.Needs.{needs}
+use lib.ListN.{length}
+use Rattle.closure.specs.declared.Layers.{Layers}
+use Rattle.es_loop.specs.declared.reader.Outcome.{Outcome}
+use Rattle.es_loop.specs.declared.reader.LoopRead.{LoopRead}
+use Rattle.joining.specs.Table.{table}
+use Rattle.joining.specs.Joining.{joinedOf, numbersAfter, lagsAfter}
+use Rattle.importing.specs.Importing.{layersRead, importFor, importIn}
+use Rattle.importing.proofs.import.Statement.{statement}
+use Rattle.importing.proofs.import.Tie as tie
+
+read-loop-requires : tie.Need-read-loop-requires
+read-loop-requires c κs = search needs
+
+enum-told : tie.Need-enum-told
+enum-told c = search needs
+
+layers-of-requires : tie.Need-layers-of-requires
+layers-of-requires c κs = search needs
+
+join-requires : tie.Need-join-requires
+join-requires c κs = search needs
+
+enum-known-outcome : tie.Need-enum-known-outcome
+enum-known-outcome c = search needs
+
+same-length : tie.Need-same-length
+same-length c = search needs
+
+same-length-2 : tie.Need-same-length-2
+same-length-2 c = search needs
+
+returns : tie.Need-returns
+returns c =
+    let a = c .before .before .before .before .before .before .before .before .before .before .before .before .before .before .before .before .args in
+    let t = table (a .indices .now) (a .decodings .now) (a .matches .now) in
+    let numberRoom = length (a .numbers .now) in
+    let lagRoom = length (a .lags .now) in
+    let read = c .before .before .before .before .before .before .before .before .before .before .read-loop in
+    let layers = c .before .before .before .before .before .before .layers-of .ensures in
+    let joined = c .before .before .before .join in
+    let accepted = c .before .before .before .before .before .before .before .enum-told .given .1 in (
+      joined .ensures .0
+          ∙ ap (λ (l : Layers). joinedOf l (a .target) t numberRoom lagRoom) layers
+          ∙ sym (ap (λ (o : Outcome). importFor o (layersRead (read .result)) (a .target) t numberRoom lagRoom) accepted)
+          ∙ ap (λ (r : LoopRead). importIn r (a .target) t numberRoom lagRoom) (read .ensures),
+      (
+        joined .ensures .1 .0
+            ∙ ap (λ (l : Layers). numbersAfter l (a .target) t (joined .result) (a .numbers .now)) layers
+            ∙ ap (λ (r : LoopRead). numbersAfter (layersRead r) (a .target) t (joined .result) (a .numbers .now)) (read .ensures),
+        joined .ensures .1 .1
+            ∙ ap (λ (l : Layers). lagsAfter l (a .target) t (joined .result) (a .lags .now)) layers
+            ∙ ap (λ (r : LoopRead). lagsAfter (layersRead r) (a .target) t (joined .result) (a .lags .now)) (read .ensures),
+      ),
+    )
+
+returns-2 : tie.Need-returns-2
+returns-2 c =
+    let a = c .before .before .before .before .before .before .before .before .before .before .args in
+    let t = table (a .indices .now) (a .decodings .now) (a .matches .now) in
+    let numberRoom = length (a .numbers .now) in
+    let lagRoom = length (a .lags .now) in
+    let read = c .before .before .before .before .read-loop in (
+      sym (ap (λ (o : Outcome). importFor o (layersRead (read .result)) (a .target) t numberRoom lagRoom) (c .before .outcome .given .1))
+          ∙ ap (λ (r : LoopRead). importIn r (a .target) t numberRoom lagRoom) (read .ensures),
+      (refl, refl),
+    )
+
+pub import-spec : {M : Type 1} → statement M
+import-spec =
+    tie.close
+    (tie.spec
+    read-loop-requires
+    enum-told
+    layers-of-requires
+    join-requires
+    enum-known-outcome
+    same-length
+    same-length-2
+    returns
+    returns-2)

@@ -1,0 +1,44 @@
+// The whole import in one call: the loop is read, its layers are taken, and the rows of a table are joined to units over the target's closure.
+// specs/Importing.antt has the answer as a definition that computes, specs/Meaning.antt what is right in the document's words, and
+// specs/Meant.antt the proof that the two are one.
+ghost use mathlib.Core.Path.{_≡_};
+ghost use lib.ListN.{length};
+ghost use Rattle.joining.specs.Table.{table};
+ghost use Rattle.importing.specs.Importing.{importOf, importedNumbers, importedLags};
+use es_loop::Outcome;
+use joining::Joined;
+use vocabulary::Reading;
+
+// THE CALL. A reading, the bytes of a loop, the index of a target layer, the three columns of the row table, and the two lists for the
+// answer, of any lengths: the row numbers of the units and the lag beside each. The answer is the closure with the answer of joining, or the
+// refusal, 1 to 17, with its place. After a refusal both lists are as they were.
+pub fn import(
+    reading: Reading,
+    bytes: &[u8],
+    target: u64,
+    indices: &[u8],
+    decodings: &[u64],
+    matches: &[u64],
+    numbers: &mut [u64],
+    lags: &mut [i64],
+) -> Joined
+    ensures answer { λ r. ⌜ r ≡ importOf reading (now (bytes .entry)) target (table (now (indices .entry)) (now (decodings .entry)) (now (matches .entry))) (length (now (numbers .entry))) (length (now (lags .entry))) ⌝ }
+    ensures content { λ r. ⌜ now (numbers .exit) ≡ importedNumbers reading (now (bytes .entry)) target (table (now (indices .entry)) (now (decodings .entry)) (now (matches .entry))) r (now (numbers .entry)) ⌝ }
+    ensures beside { λ r. ⌜ now (lags .exit) ≡ importedLags reading (now (bytes .entry)) target (table (now (indices .entry)) (now (decodings .entry)) (now (matches .entry))) r (now (lags .entry)) ⌝ }
+{
+    let read = es_loop::read_loop(reading, bytes);
+    let outcome = read.outcome;
+    let entries = read.entries;
+    match outcome {
+        Outcome::Accepted => joining::join(
+            loop_layers::layers_of(read.count, entries),
+            target,
+            indices,
+            decodings,
+            matches,
+            numbers,
+            lags,
+        ),
+        Outcome::Refused(refusal) => Joined::Refused(refusal),
+    }
+}

@@ -1,0 +1,536 @@
+-- What Joining computes is what Meaning says, and nothing else is: `meets` and `nothing-else`; and number by number, `given-13` to `given-17`.
+-- Assumes nothing.
+use Prim.Native.Nat.{ℕ, _*_, _≤_, _<_}
+use mathlib.Core.Bool.{Bool, true, false, not, _||_, true≢false}
+use mathlib.Core.List.{List}
+use mathlib.Core.Logic.{_⊎_, inl, inr, _↔_}
+use mathlib.Core.Path.{_≡_, refl, sym, _∙_, ap, ap₂, subst}
+use native.Mathlib.Decide.{decLt}
+use native.Mathlib.Omega.{arith}
+use borrow.Author.Tests.{lt-ltb, ltb-true, le-leb, leb-true, eqb-false, ne-eqb}
+use lib.Dec.{eqb, leb, ltb}
+use lib.IntN.{ℤ}
+use lib.ListN.{length}
+use Rattle.clock.specs.Clock.{ticks}
+use Rattle.closure.specs.declared.Layers.{Layers}
+use Rattle.closure.specs.declared.Closure.{Closure}
+use Rattle.closure.specs.declared.Closure.the-variants.{Complete, Refused as NoClosure}
+use Rattle.closure.specs.Closures.{isLayer, closureOf}
+use Rattle.closure.specs.Meaning.{RestsOn, LowestMissing, no-such-layer, absent, Answers as ClosureAnswers}
+use Rattle.closure.specs.Laws.{meets as closure-meets, nothing-else as closure-nothing-else}
+use Rattle.combinators.specs.Below.{seek-first}
+use Rattle.combinators.specs.Bools.{either-left, either-right}
+use Rattle.combinators.specs.Those.{length-those}
+use Rattle.vocabulary.specs.declared.LayerIndex.{LayerIndex}
+use Rattle.vocabulary.specs.declared.refusal.Refusal.the-variants.{LoopTooLong, DoesNotFit, RepeatedPid, WrongLength, SecondRecord, TypeNotAllowed, WrongFlags, RepeatedLayerIndex, WrongEmbeddedIndex, TooManyEmbedded, NotVideoHeader, NoPts, FieldsDoNotFit, WrongMarker, PtsBeforeDts, TooWide, NoSuchLayer, EmbeddedLayerAbsent, OutOfRange, TimeOrderBroken, Unpaired, UsedTwice, NoRoom}
+use Rattle.joining.specs.declared.answer.Joined.{Joined}
+use Rattle.joining.specs.declared.answer.Joined.the-variants.{Units, Refused}
+use Rattle.joining.specs.Table.{Table, rowsIn, layerOf, decodingOf, matchOf, wrongShape, outOfRange, firstOutOfRange, breaksOrder, firstBroken}
+use Rattle.joining.specs.Assemblies.{membersOf}
+use Rattle.joining.specs.Units.{Frame, isTarget, unpaired, shares, firstUnpaired, firstShared}
+use Rattle.joining.specs.Frames.{frameOf}
+use Rattle.joining.specs.Orderly.{Closed, closed, Orderly}
+use Rattle.joining.specs.Joining.{places, unitsJoined, tableJoined, joinedIn, joinedOf, numbersAfter, lagsAfter}
+use Rattle.joining.specs.Meaning.{Assembles, NoAssembly, SharesRow, FirstRow, NoRow, WrongShape, unequal-decodings, unequal-matches, too-many-rows, RowOutOfRange, index-above-63, decoding-time, match-time, BreaksOrder, InOrder, TargetRow, Extent, TooSmall, for-numbers, for-lags, Accepted, Answers, no-closure, wrong-shape, out-of-range, order-broken, no-assembly, in-two-units, no-room, joined}
+use Rattle.joining.specs.Chosen.{unpaired-means, means-unpaired}
+use Rattle.joining.specs.Shared.{shares-means, means-shares}
+use Rattle.joining.specs.FirstRows.{found, none, is-first, is-none}
+use Rattle.joining.specs.Ordering.{means-breaks, breaks-means}
+use Rattle.joining.specs.Contents.{headsOf, extent-is, extent-only, accepted, accepted-one, one-assembly}
+use Rattle.joining.specs.Cases.{is-unpaired, is-shared, no-number-room, no-lag-room, are-units, bad-shape, is-outside, is-broken, after-order, orderly}
+
+-- ---- 13
+
+module _ (t : Table) where
+  shape-means : wrongShape t ≡ true → WrongShape t
+  shape-means e = go (eqb (length (t .decodings)) (rowsIn t)) refl (eqb (length (t .matches)) (rowsIn t)) refl e
+    where
+      go : (d : Bool) → eqb (length (t .decodings)) (rowsIn t) ≡ d → (m : Bool) → eqb (length (t .matches)) (rowsIn t) ≡ m
+          → (not d || (not m || ltb 512 (rowsIn t))) ≡ true → WrongShape t
+      go false p m q e = unequal-decodings (eqb-false (length (t .decodings)) (rowsIn t) p)
+      go true p false q e = unequal-matches (eqb-false (length (t .matches)) (rowsIn t) q)
+      go true p true q e = too-many-rows (ltb-true 512 (rowsIn t) e)
+
+  means-shape : WrongShape t → wrongShape t ≡ true
+  means-shape (unequal-decodings n) =
+      ap (λ (b : Bool). not b || (not (eqb (length (t .matches)) (rowsIn t)) || ltb 512 (rowsIn t))) (ne-eqb (length (t .decodings)) (rowsIn t) n)
+  means-shape (unequal-matches n) =
+      either-right (not (eqb (length (t .decodings)) (rowsIn t))) (not (eqb (length (t .matches)) (rowsIn t)) || ltb 512 (rowsIn t))
+      (ap (λ (b : Bool). not b || ltb 512 (rowsIn t)) (ne-eqb (length (t .matches)) (rowsIn t) n))
+  means-shape (too-many-rows h) =
+      either-right (not (eqb (length (t .decodings)) (rowsIn t))) (not (eqb (length (t .matches)) (rowsIn t)) || ltb 512 (rowsIn t))
+      (either-right (not (eqb (length (t .matches)) (rowsIn t))) (ltb 512 (rowsIn t)) (lt-ltb 512 (rowsIn t) h))
+
+  right-shape : (WrongShape t → ⊥) → wrongShape t ≡ false
+  right-shape n = go (wrongShape t) refl
+    where
+      go : (b : Bool) → wrongShape t ≡ b → wrongShape t ≡ false
+      go true e = absurd (n (shape-means e))
+      go false e = e
+
+  range-means : (k : ℕ) → k < rowsIn t → ((j : ℕ) → j < k → outOfRange t j ≡ false) → outOfRange t k ≡ true → RowOutOfRange t k
+  range-means k h b e = go (ltb 63 (layerOf t k)) refl (leb ticks (decodingOf t k)) refl e
+    where
+      go : (i : Bool) → ltb 63 (layerOf t k) ≡ i → (d : Bool) → leb ticks (decodingOf t k) ≡ d → (i || (d || leb ticks (matchOf t k))) ≡ true
+          → RowOutOfRange t k
+      go true p d q e = index-above-63 (ltb-true 63 (layerOf t k) p)
+      go false p true q e = decoding-time (leb-true ticks (decodingOf t k) q)
+      go false p false q e = match-time (leb-true ticks (matchOf t k) e)
+
+  means-range : (k : ℕ) → k < rowsIn t → RowOutOfRange t k → outOfRange t k ≡ true
+  means-range k h (index-above-63 l) =
+      either-left (ltb 63 (layerOf t k)) (leb ticks (decodingOf t k) || leb ticks (matchOf t k)) (lt-ltb 63 (layerOf t k) l)
+  means-range k h (decoding-time l) =
+      either-right (ltb 63 (layerOf t k)) (leb ticks (decodingOf t k) || leb ticks (matchOf t k))
+      (either-left (leb ticks (decodingOf t k)) (leb ticks (matchOf t k)) (le-leb ticks (decodingOf t k) l))
+  means-range k h (match-time l) =
+      either-right (ltb 63 (layerOf t k)) (leb ticks (decodingOf t k) || leb ticks (matchOf t k))
+      (either-right (leb ticks (decodingOf t k)) (leb ticks (matchOf t k)) (le-leb ticks (matchOf t k) l))
+
+  none-outside : NoRow t (RowOutOfRange t) → rowsIn t ≤ firstOutOfRange t
+  none-outside n = is-none t (RowOutOfRange t) (outOfRange t) range-means means-range n
+
+-- ---- 14, 15 and 16, over a whole closure
+
+module _ (layers : Layers) (target closure : ℕ) (t : Table) (whole : Closed layers target closure) where
+  none-broken : NoRow t (BreaksOrder layers target t) → rowsIn t ≤ firstBroken t closure
+  none-broken n =
+      is-none t (BreaksOrder layers target t) (breaksOrder t closure) (breaks-means t layers target closure (whole .whole))
+      (means-breaks t layers target closure (whole .whole)) n
+
+module _ (layers : Layers) (target closure : ℕ) (t : Table) (ordered : Orderly layers target closure t) where
+  abbrev frame : Frame
+  frame = frameOf layers closure target
+
+  unpaired-sound : (k : ℕ) → k < rowsIn t → ((j : ℕ) → j < k → unpaired t frame j ≡ false) → unpaired t frame k ≡ true → NoAssembly layers target t k
+  unpaired-sound k h b e = unpaired-means layers target closure t ordered k h e
+
+  unpaired-complete : (k : ℕ) → k < rowsIn t → NoAssembly layers target t k → unpaired t frame k ≡ true
+  unpaired-complete k h n = means-unpaired layers target closure t ordered k h n
+
+  none-unpaired : NoRow t (NoAssembly layers target t) → rowsIn t ≤ firstUnpaired t frame
+  none-unpaired n = is-none t (NoAssembly layers target t) (unpaired t frame) unpaired-sound unpaired-complete n
+
+  module _ (paired : rowsIn t ≤ firstUnpaired t frame) where
+    all-paired : (k : ℕ) → k < rowsIn t → unpaired t frame k ≡ false
+    all-paired k h = seek-first (unpaired t frame) (rowsIn t) .before k (omega arith)
+
+    shares-sound : (k : ℕ) → k < rowsIn t → ((j : ℕ) → j < k → shares t frame j ≡ false) → shares t frame k ≡ true → SharesRow layers target t k
+    shares-sound k h b e = shares-means layers target closure t ordered k h (λ j l. all-paired j (omega arith)) e
+
+    shares-complete : (k : ℕ) → k < rowsIn t → SharesRow layers target t k → shares t frame k ≡ true
+    shares-complete k h s = means-shares layers target closure t ordered k h s
+
+    none-shared : NoRow t (SharesRow layers target t) → rowsIn t ≤ firstShared t frame
+    none-shared n = is-none t (SharesRow layers target t) (shares t frame) shares-sound shares-complete n
+
+  -- the places that are needed
+  places-are : length (headsOf layers target closure t ordered) * length (membersOf closure) ≡ places t frame
+  places-are = ap (λ (n : ℕ). n * length (membersOf closure)) (length-those (isTarget t frame) (rowsIn t))
+
+-- what a table in range and in order is to the definitions
+orderly-of : (layers : Layers) (target closure : ℕ) (t : Table) → InOrder layers target closure t → Orderly layers target closure t
+orderly-of layers target closure t o =
+    let whole = closed layers target closure (sym (closure-nothing-else layers target (o .closed))) in
+    orderly layers target t closure 0 0 (right-shape t (o .shape)) (none-outside t (o .range)) whole
+    (none-broken layers target closure t whole (o .order))
+
+module _ (layers : Layers) (target : ℕ) (t : Table) (numbers : List ℕ) (lags : List ℤ) where
+  abbrev Right : Joined → Type 0
+  Right answer = Answers layers target t numbers lags answer (numbersAfter layers target t answer numbers) (lagsAfter layers target t answer lags)
+
+  abbrev answerOf : Joined
+  answerOf = joinedOf layers target t (length numbers) (length lags)
+
+  abbrev tableAnswer : ℕ → Joined
+  tableAnswer closure = tableJoined layers target t closure (length numbers) (length lags)
+
+  abbrev unitsAnswer : ℕ → Joined
+  unitsAnswer closure = unitsJoined t closure (frameOf layers closure target) (length numbers) (length lags)
+
+  -- ---- what is computed is right
+
+  -- 15 to 17, and the units
+  units-meet : (closure : ℕ) → InOrder layers target closure t → Orderly layers target closure t → Right (unitsAnswer closure)
+  units-meet closure o ordered =
+      at-15 (decLt (firstUnpaired t (frameOf layers closure target)) (rowsIn t))
+    where
+      f : Frame
+      f = frameOf layers closure target
+
+      at-17 : rowsIn t ≤ firstUnpaired t (frameOf layers closure target) → rowsIn t ≤ firstShared t (frameOf layers closure target)
+          → Dec (length numbers < places t (frameOf layers closure target)) → Dec (length lags < places t (frameOf layers closure target))
+          → Right (unitsAnswer closure)
+      at-17 paired apart (yes h) d =
+          subst Right (no-number-room t closure (frameOf layers closure target) (length numbers) (length lags) paired apart h)
+          (no-room o (none t (NoAssembly layers target t) (unpaired t (frameOf layers closure target)) (unpaired-sound layers target closure t ordered)
+          (unpaired-complete layers target closure t ordered) paired)
+          (none t (SharesRow layers target t) (shares t (frameOf layers closure target)) (shares-sound layers target closure t ordered paired)
+          (shares-complete layers target closure t ordered paired) apart)
+          (extent-is layers target closure t ordered)
+          (for-numbers (subst (λ (n : ℕ). length numbers < n) (sym (places-are layers target closure t ordered)) h)))
+      at-17 paired apart (no n) (yes h) =
+          subst Right (no-lag-room t closure (frameOf layers closure target) (length numbers) (length lags) paired apart (omega arith) h)
+          (no-room o (none t (NoAssembly layers target t) (unpaired t (frameOf layers closure target)) (unpaired-sound layers target closure t ordered)
+          (unpaired-complete layers target closure t ordered) paired)
+          (none t (SharesRow layers target t) (shares t (frameOf layers closure target)) (shares-sound layers target closure t ordered paired)
+          (shares-complete layers target closure t ordered paired) apart)
+          (extent-is layers target closure t ordered)
+          (for-lags (subst (λ (n : ℕ). length lags < n) (sym (places-are layers target closure t ordered)) h)))
+      at-17 paired apart (no n) (no m) =
+          subst Right (are-units t closure (frameOf layers closure target) (length numbers) (length lags) paired apart (omega arith) (omega arith))
+          (joined o
+          (none t (SharesRow layers target t) (shares t (frameOf layers closure target)) (shares-sound layers target closure t ordered paired)
+          (shares-complete layers target closure t ordered paired) apart)
+          (accepted layers target closure t ordered (all-paired layers target closure t ordered paired) numbers lags
+          (subst (λ (p : ℕ). p ≤ length numbers) (sym (places-are layers target closure t ordered)) (omega arith))
+          (subst (λ (p : ℕ). p ≤ length lags) (sym (places-are layers target closure t ordered)) (omega arith))))
+
+      at-16 : rowsIn t ≤ firstUnpaired t (frameOf layers closure target) → Dec (firstShared t (frameOf layers closure target) < rowsIn t)
+          → Right (unitsAnswer closure)
+      at-16 paired (yes h) =
+          subst Right (is-shared t closure (frameOf layers closure target) (length numbers) (length lags) paired (firstShared t (frameOf layers closure target)) refl h)
+          (in-two-units o (none t (NoAssembly layers target t) (unpaired t (frameOf layers closure target)) (unpaired-sound layers target closure t ordered)
+          (unpaired-complete layers target closure t ordered) paired)
+          (found t (SharesRow layers target t) (shares t (frameOf layers closure target)) (shares-sound layers target closure t ordered paired)
+          (shares-complete layers target closure t ordered paired) h))
+      at-16 paired (no n) =
+          at-17 paired (omega arith) (decLt (length numbers) (places t (frameOf layers closure target)))
+          (decLt (length lags) (places t (frameOf layers closure target)))
+
+      at-15 : Dec (firstUnpaired t (frameOf layers closure target) < rowsIn t) → Right (unitsAnswer closure)
+      at-15 (yes h) =
+          subst Right (is-unpaired t closure (frameOf layers closure target) (length numbers) (length lags) (firstUnpaired t (frameOf layers closure target)) refl h)
+          (no-assembly o
+          (found t (NoAssembly layers target t) (unpaired t (frameOf layers closure target)) (unpaired-sound layers target closure t ordered)
+          (unpaired-complete layers target closure t ordered) h))
+      at-15 (no n) = at-16 (omega arith) (decLt (firstShared t (frameOf layers closure target)) (rowsIn t))
+
+  -- 13 and 14
+  table-meets : (closure : ℕ) → ClosureAnswers layers target (Complete closure) → Closed layers target closure → Right (tableAnswer closure)
+  table-meets closure c whole = at-shape (wrongShape t) refl
+    where
+      at-14 : wrongShape t ≡ false → rowsIn t ≤ firstOutOfRange t → Dec (firstBroken t closure < rowsIn t) → Right (tableAnswer closure)
+      at-14 shape in-range (yes h) =
+          subst Right (is-broken layers target t closure (length numbers) (length lags) shape in-range (firstBroken t closure) refl h)
+          (order-broken c (λ w. true≢false (sym (means-shape t w) ∙ shape))
+          (none t (RowOutOfRange t) (outOfRange t) (range-means t) (means-range t) in-range)
+          (found t (BreaksOrder layers target t) (breaksOrder t closure) (breaks-means t layers target closure (whole .whole))
+          (means-breaks t layers target closure (whole .whole)) h))
+      at-14 shape in-range (no n) =
+          subst Right (after-order layers target t closure (length numbers) (length lags) shape in-range (omega arith))
+          (units-meet closure
+          (record {
+            closed = c;
+            shape = λ w. true≢false (sym (means-shape t w) ∙ shape);
+            range = none t (RowOutOfRange t) (outOfRange t) (range-means t) (means-range t) in-range;
+            order = none t (BreaksOrder layers target t) (breaksOrder t closure) (breaks-means t layers target closure (whole .whole))
+                (means-breaks t layers target closure (whole .whole)) (omega arith);
+          })
+          (orderly layers target t closure (length numbers) (length lags) shape in-range whole (omega arith)))
+
+      at-13 : wrongShape t ≡ false → Dec (firstOutOfRange t < rowsIn t) → Right (tableAnswer closure)
+      at-13 shape (yes h) =
+          subst Right (is-outside layers target t closure (length numbers) (length lags) shape (firstOutOfRange t) refl h)
+          (out-of-range c (λ w. true≢false (sym (means-shape t w) ∙ shape))
+          (found t (RowOutOfRange t) (outOfRange t) (range-means t) (means-range t) h))
+      at-13 shape (no n) = at-14 shape (omega arith) (decLt (firstBroken t closure) (rowsIn t))
+
+      at-shape : (b : Bool) → wrongShape t ≡ b → Right (tableAnswer closure)
+      at-shape true e = subst Right (bad-shape layers target t closure (length numbers) (length lags) e) (wrong-shape c (shape-means t e))
+      at-shape false e = at-13 e (decLt (firstOutOfRange t) (rowsIn t))
+
+  -- THE ANSWER: what is computed is right,
+  pub meets : Answers layers target t numbers lags (joinedOf layers target t (length numbers) (length lags))
+      (numbersAfter layers target t (joinedOf layers target t (length numbers) (length lags)) numbers)
+      (lagsAfter layers target t (joinedOf layers target t (length numbers) (length lags)) lags)
+  meets = go (closureOf layers target) refl
+    where
+      go : (c : Closure) → closureOf layers target ≡ c → Right answerOf
+      go (Complete closure) e =
+          subst Right (sym (ap (joinedIn layers target t (length numbers) (length lags)) e))
+          (table-meets closure (subst (ClosureAnswers layers target) e (closure-meets layers target)) (closed layers target closure e))
+      go (NoClosure refusal) e =
+          subst Right (sym (ap (joinedIn layers target t (length numbers) (length lags)) e))
+          (no-closure (subst (ClosureAnswers layers target) e (closure-meets layers target)))
+
+  -- and nothing else is.
+  pub record Computed (answer : Joined) (numbers₂ : List ℕ) (lags₂ : List ℤ) : Type 0 where
+    pub is-answer : answer ≡ joinedOf layers target t (length numbers) (length lags)
+    pub is-numbers : numbers₂ ≡ numbersAfter layers target t answer numbers
+    pub is-lags : lags₂ ≡ lagsAfter layers target t answer lags
+
+  table-is : (closure : ℕ) → ClosureAnswers layers target (Complete closure) → tableAnswer closure ≡ answerOf
+  table-is closure c = ap (joinedIn layers target t (length numbers) (length lags)) (closure-nothing-else layers target c)
+
+  units-are : (closure : ℕ) → InOrder layers target closure t → unitsAnswer closure ≡ answerOf
+  units-are closure o =
+      after-order layers target t closure (length numbers) (length lags) (right-shape t (o .shape)) (none-outside t (o .range))
+      (none-broken layers target closure t (closed layers target closure (sym (closure-nothing-else layers target (o .closed)))) (o .order))
+      ∙ table-is closure (o .closed)
+
+  -- 17
+  too-small : (closure units size : ℕ) → rowsIn t ≤ firstUnpaired t (frameOf layers closure target)
+      → rowsIn t ≤ firstShared t (frameOf layers closure target) → units * size ≡ places t (frameOf layers closure target)
+      → TooSmall units size (length numbers) (length lags) → Dec (length numbers < places t (frameOf layers closure target))
+      → Refused NoRoom ≡ unitsAnswer closure
+  too-small closure units size paired apart needed (for-numbers h) d =
+      no-number-room t closure (frameOf layers closure target) (length numbers) (length lags) paired apart
+      (subst (λ (n : ℕ). length numbers < n) needed h)
+  too-small closure units size paired apart needed (for-lags h) (yes l) =
+      no-number-room t closure (frameOf layers closure target) (length numbers) (length lags) paired apart l
+  too-small closure units size paired apart needed (for-lags h) (no n) =
+      no-lag-room t closure (frameOf layers closure target) (length numbers) (length lags) paired apart (omega arith)
+      (subst (λ (n : ℕ). length lags < n) needed h)
+
+  -- the units
+  joined-is : (closure : ℕ) {units left : ℕ} {numbers₂ : List ℕ} {lags₂ : List ℤ} → InOrder layers target closure t
+      → NoRow t (SharesRow layers target t) → Accepted layers target t numbers lags units left numbers₂ lags₂
+      → Computed (Units closure units left) numbers₂ lags₂
+  joined-is closure {units} {left} {numbers₂} {lags₂} o s a =
+      let ordered = orderly-of layers target closure t o in
+      let paired = none-unpaired layers target closure t ordered has-assembly in
+      let apart = none-shared layers target closure t ordered paired s in
+      let same = extent-only layers target closure t ordered (a .heads) (a .members) (a .extent) in
+      let needed : length (a .heads) * length (a .members) ≡ length (headsOf layers target closure t ordered) * length (membersOf closure) =
+      ap₂ (λ (x y : List ℕ). length x * length y) (same .0) (same .1) in
+      let number-room : length (headsOf layers target closure t ordered) * length (membersOf closure) ≤ length numbers =
+      subst (λ (n : ℕ). n ≤ length numbers) needed number-fits in
+      let lag-room : length (headsOf layers target closure t ordered) * length (membersOf closure) ≤ length lags =
+      subst (λ (n : ℕ). n ≤ length lags) needed lag-fits in
+      let one = accepted-one layers target closure t ordered numbers lags a
+      (accepted layers target closure t ordered (all-paired layers target closure t ordered paired) numbers lags number-room lag-room) in
+      record {
+        is-answer = ap₂ (Units closure) (one .0) (one .1)
+            ∙ are-units t closure (frameOf layers closure target) (length numbers) (length lags) paired apart
+            (subst (λ (n : ℕ). n ≤ length numbers) (places-are layers target closure t ordered) number-room)
+            (subst (λ (n : ℕ). n ≤ length lags) (places-are layers target closure t ordered) lag-room)
+            ∙ units-are closure o;
+        is-numbers = one .2;
+        is-lags = one .3;
+      }
+    where
+      has-assembly : NoRow t (NoAssembly layers target t)
+      has-assembly k h n = n .none (a .choice k) (a .assembles k (record { inside = h; of-target = n .target-row }))
+
+      number-fits : length (a .heads) * length (a .members) ≤ length numbers
+      number-fits = go (decLt (length numbers) (length (a .heads) * length (a .members)))
+        where
+          go : Dec (length numbers < length (a .heads) * length (a .members)) → length (a .heads) * length (a .members) ≤ length numbers
+          go (yes h) = absurd (a .enough-room (for-numbers h))
+          go (no h) = omega arith
+
+      lag-fits : length (a .heads) * length (a .members) ≤ length lags
+      lag-fits = go (decLt (length lags) (length (a .heads) * length (a .members)))
+        where
+          go : Dec (length lags < length (a .heads) * length (a .members)) → length (a .heads) * length (a .members) ≤ length lags
+          go (yes h) = absurd (a .enough-room (for-lags h))
+          go (no h) = omega arith
+
+  pub nothing-else : {answer : Joined} {numbers₂ : List ℕ} {lags₂ : List ℤ} → Answers layers target t numbers lags answer numbers₂ lags₂
+      → Computed answer numbers₂ lags₂
+  nothing-else (no-closure c) =
+      record {
+        is-answer = ap (joinedIn layers target t (length numbers) (length lags)) (closure-nothing-else layers target c);
+        is-numbers = refl;
+        is-lags = refl;
+      }
+  nothing-else (wrong-shape {closure = closure} c w) =
+      record {
+        is-answer = bad-shape layers target t closure (length numbers) (length lags) (means-shape t w) ∙ table-is closure c;
+        is-numbers = refl;
+        is-lags = refl;
+      }
+  nothing-else (out-of-range {closure = closure} {row = row} c s f) =
+      record {
+        is-answer = is-outside layers target t closure (length numbers) (length lags) (right-shape t s) row
+            (is-first t (RowOutOfRange t) (outOfRange t) (range-means t) (means-range t) row f .1) (f .inside)
+            ∙ table-is closure c;
+        is-numbers = refl;
+        is-lags = refl;
+      }
+  nothing-else (order-broken {closure = closure} {row = row} c s r f) =
+      let whole = closed layers target closure (sym (closure-nothing-else layers target c)) in
+      record {
+        is-answer = is-broken layers target t closure (length numbers) (length lags) (right-shape t s) (none-outside t r) row
+            (is-first t (BreaksOrder layers target t) (breaksOrder t closure) (breaks-means t layers target closure (whole .whole))
+            (means-breaks t layers target closure (whole .whole)) row f .1) (f .inside)
+            ∙ table-is closure c;
+        is-numbers = refl;
+        is-lags = refl;
+      }
+  nothing-else (no-assembly {closure = closure} {row = row} o f) =
+      let ordered = orderly-of layers target closure t o in
+      record {
+        is-answer = is-unpaired t closure (frameOf layers closure target) (length numbers) (length lags) row
+            (is-first t (NoAssembly layers target t) (unpaired t (frameOf layers closure target)) (unpaired-sound layers target closure t ordered)
+            (unpaired-complete layers target closure t ordered) row f .1) (f .inside)
+            ∙ units-are closure o;
+        is-numbers = refl;
+        is-lags = refl;
+      }
+  nothing-else (in-two-units {closure = closure} {row = row} o n f) =
+      let ordered = orderly-of layers target closure t o in
+      let paired = none-unpaired layers target closure t ordered n in
+      record {
+        is-answer = is-shared t closure (frameOf layers closure target) (length numbers) (length lags) paired row
+            (is-first t (SharesRow layers target t) (shares t (frameOf layers closure target)) (shares-sound layers target closure t ordered paired)
+            (shares-complete layers target closure t ordered paired) row f .1) (f .inside)
+            ∙ units-are closure o;
+        is-numbers = refl;
+        is-lags = refl;
+      }
+  nothing-else (no-room {closure = closure} {heads = heads} {members = members} o n s e small) =
+      let ordered = orderly-of layers target closure t o in
+      let paired = none-unpaired layers target closure t ordered n in
+      let apart = none-shared layers target closure t ordered paired s in
+      let same = extent-only layers target closure t ordered heads members e in
+      let needed : length heads * length members ≡ places t (frameOf layers closure target) =
+      ap₂ (λ (x y : List ℕ). length x * length y) (same .0) (same .1) ∙ places-are layers target closure t ordered in
+      record {
+        is-answer = too-small closure (length heads) (length members) paired apart needed small
+            (decLt (length numbers) (places t (frameOf layers closure target)))
+            ∙ units-are closure o;
+        is-numbers = refl;
+        is-lags = refl;
+      }
+  nothing-else (joined {closure = closure} o s a) = joined-is closure o s a
+
+  -- One answer only, and one content of each list.
+  pub one-answer : {answer other : Joined} {numbers₂ numbers₃ : List ℕ} {lags₂ lags₃ : List ℤ}
+      → Answers layers target t numbers lags answer numbers₂ lags₂ → Answers layers target t numbers lags other numbers₃ lags₃
+      → (answer ≡ other) × (numbers₂ ≡ numbers₃) × (lags₂ ≡ lags₃)
+  one-answer {answer} {other} p q =
+      let a = nothing-else p in
+      let b = nothing-else q in
+      let same : answer ≡ other = a .is-answer ∙ sym (b .is-answer) in (
+        same,
+        a .is-numbers ∙ ap (λ (r : Joined). numbersAfter layers target t r numbers) same ∙ sym (b .is-numbers),
+        a .is-lags ∙ ap (λ (r : Joined). lagsAfter layers target t r lags) same ∙ sym (b .is-lags),
+      )
+
+  -- What a call promises by its three equalities is right.
+  pub promised : {answer : Joined} {numbers₂ : List ℕ} {lags₂ : List ℤ} → Computed answer numbers₂ lags₂
+      → Answers layers target t numbers lags answer numbers₂ lags₂
+  promised {answer} {numbers₂} {lags₂} c =
+      subst (λ (n : List ℕ). Answers layers target t numbers lags answer n lags₂) (sym (c .is-numbers))
+      (subst (λ (l : List ℤ). Answers layers target t numbers lags answer (numbersAfter layers target t answer numbers) l) (sym (c .is-lags))
+      (subst Right (sym (c .is-answer)) meets))
+
+  -- ---- the same by number: each is given exactly when document 01 says
+
+  abbrev Given11 : Type 0
+  Given11 = isLayer layers target ≡ false
+
+  abbrev Given12 : ℕ → Type 0
+  Given12 index = (isLayer layers target ≡ true) × LowestMissing layers target index
+
+  abbrev Given13 : ℕ → Type 0
+  Given13 row =
+      (closure : ℕ) × ClosureAnswers layers target (Complete closure)
+      × ((WrongShape t × (row ≡ 0)) ⊎ ((WrongShape t → ⊥) × FirstRow t (RowOutOfRange t) row))
+
+  abbrev Given14 : ℕ → Type 0
+  Given14 row =
+      (closure : ℕ) × ClosureAnswers layers target (Complete closure) × (WrongShape t → ⊥) × NoRow t (RowOutOfRange t)
+      × FirstRow t (BreaksOrder layers target t) row
+
+  abbrev Given15 : ℕ → Type 0
+  Given15 row = (closure : ℕ) × InOrder layers target closure t × FirstRow t (NoAssembly layers target t) row
+
+  abbrev Given16 : ℕ → Type 0
+  Given16 row = (closure : ℕ) × InOrder layers target closure t × NoRow t (NoAssembly layers target t) × FirstRow t (SharesRow layers target t) row
+
+  abbrev Given17 : Type 0
+  Given17 =
+      (closure : ℕ) × (heads : List ℕ) × (members : List ℕ) × InOrder layers target closure t × NoRow t (NoAssembly layers target t)
+      × NoRow t (SharesRow layers target t) × Extent layers target t heads members
+      × TooSmall (length heads) (length members) (length numbers) (length lags)
+
+  abbrev GivenUnits : ℕ → ℕ → ℕ → Type 0
+  GivenUnits closure units left =
+      (numbers₂ : List ℕ) × (lags₂ : List ℤ) × InOrder layers target closure t × NoRow t (SharesRow layers target t)
+      × Accepted layers target t numbers lags units left numbers₂ lags₂
+
+  -- what each answer tells: and that no other number is given
+  abbrev Given : Joined → Type 0
+  Given (Units closure units left) = GivenUnits closure units left
+  Given (Refused NoSuchLayer) = Given11
+  Given (Refused (EmbeddedLayerAbsent index)) = Given12 (index .0)
+  Given (Refused (OutOfRange row)) = Given13 row
+  Given (Refused (TimeOrderBroken row)) = Given14 row
+  Given (Refused (Unpaired row)) = Given15 row
+  Given (Refused (UsedTwice row)) = Given16 row
+  Given (Refused NoRoom) = Given17
+  Given (Refused LoopTooLong) = ⊥
+  Given (Refused (DoesNotFit entry)) = ⊥
+  Given (Refused (RepeatedPid entry)) = ⊥
+  Given (Refused (WrongLength entry)) = ⊥
+  Given (Refused (SecondRecord entry)) = ⊥
+  Given (Refused (TypeNotAllowed entry)) = ⊥
+  Given (Refused (WrongFlags entry)) = ⊥
+  Given (Refused (RepeatedLayerIndex entry)) = ⊥
+  Given (Refused (WrongEmbeddedIndex entry)) = ⊥
+  Given (Refused (TooManyEmbedded entry)) = ⊥
+  Given (Refused NotVideoHeader) = ⊥
+  Given (Refused NoPts) = ⊥
+  Given (Refused FieldsDoNotFit) = ⊥
+  Given (Refused WrongMarker) = ⊥
+  Given (Refused PtsBeforeDts) = ⊥
+  Given (Refused TooWide) = ⊥
+
+  given : {answer : Joined} {numbers₂ : List ℕ} {lags₂ : List ℤ} → Answers layers target t numbers lags answer numbers₂ lags₂ → Given answer
+  given (no-closure (no-such-layer h)) = h
+  given (no-closure (absent here m)) = (here, m)
+  given (wrong-shape {closure = closure} c w) = (closure, c, inl (w, refl))
+  given (out-of-range {closure = closure} c s f) = (closure, c, inr (s, f))
+  given (order-broken {closure = closure} c s r f) = (closure, c, s, r, f)
+  given (no-assembly {closure = closure} o f) = (closure, o, f)
+  given (in-two-units {closure = closure} o n f) = (closure, o, n, f)
+  given (no-room {closure = closure} {heads = heads} {members = members} o n s e w) = (closure, heads, members, o, n, s, e, w)
+  given (joined {numbersAfter = numbers₂} {lagsAfter = lags₂} o s a) = (numbers₂, lags₂, o, s, a)
+
+  tells : {answer : Joined} → joinedOf layers target t (length numbers) (length lags) ≡ answer → Given answer
+  tells e = subst Given e (given meets)
+
+  follows : {answer : Joined} {numbers₂ : List ℕ} {lags₂ : List ℤ} → Answers layers target t numbers lags answer numbers₂ lags₂
+      → joinedOf layers target t (length numbers) (length lags) ≡ answer
+  follows a = sym (nothing-else a .is-answer)
+
+  pub given-11 : (joinedOf layers target t (length numbers) (length lags) ≡ Refused NoSuchLayer) ↔ Given11
+  given-11 = (λ e. tells e, λ h. follows (no-closure (no-such-layer h)))
+
+  pub given-12 : (index : LayerIndex)
+      → (joinedOf layers target t (length numbers) (length lags) ≡ Refused (EmbeddedLayerAbsent index)) ↔ Given12 (index .0)
+  given-12 index = (λ e. tells e, λ w. follows (no-closure (absent (w .0) (w .1))))
+
+  pub given-13 : (row : ℕ) → (joinedOf layers target t (length numbers) (length lags) ≡ Refused (OutOfRange row)) ↔ Given13 row
+  given-13 row = (λ e. tells e, λ w. back (w .0) (w .1) (w .2))
+    where
+      back : (closure : ℕ) → ClosureAnswers layers target (Complete closure)
+          → (WrongShape t × (row ≡ 0)) ⊎ ((WrongShape t → ⊥) × FirstRow t (RowOutOfRange t) row)
+          → joinedOf layers target t (length numbers) (length lags) ≡ Refused (OutOfRange row)
+      back closure c (inl w) = follows (wrong-shape c (w .0)) ∙ ap (λ (k : ℕ). Refused (OutOfRange k)) (sym (w .1))
+      back closure c (inr w) = follows (out-of-range c (w .0) (w .1))
+
+  pub given-14 : (row : ℕ) → (joinedOf layers target t (length numbers) (length lags) ≡ Refused (TimeOrderBroken row)) ↔ Given14 row
+  given-14 row = (λ e. tells e, λ w. follows (order-broken (w .1) (w .2) (w .3) (w .4)))
+
+  pub given-15 : (row : ℕ) → (joinedOf layers target t (length numbers) (length lags) ≡ Refused (Unpaired row)) ↔ Given15 row
+  given-15 row = (λ e. tells e, λ w. follows (no-assembly (w .1) (w .2)))
+
+  pub given-16 : (row : ℕ) → (joinedOf layers target t (length numbers) (length lags) ≡ Refused (UsedTwice row)) ↔ Given16 row
+  given-16 row = (λ e. tells e, λ w. follows (in-two-units (w .1) (w .2) (w .3)))
+
+  pub given-17 : (joinedOf layers target t (length numbers) (length lags) ≡ Refused NoRoom) ↔ Given17
+  given-17 = (λ e. tells e, λ w. follows (no-room (w .3) (w .4) (w .5) (w .6) (w .7)))
+
+  pub given-units : (closure units left : ℕ)
+      → (joinedOf layers target t (length numbers) (length lags) ≡ Units closure units left) ↔ GivenUnits closure units left
+  given-units closure units left = (λ e. tells e, λ w. follows (joined (w .2) (w .3) (w .4)))
+
+  -- At most one assembly of a target row, where 11 to 14 are not given.
+  pub at-most-one-assembly : (closure : ℕ) → InOrder layers target closure t → (head : ℕ) → TargetRow target t head → (choice other : ℕ → ℕ)
+      → Assembles layers target t head choice → Assembles layers target t head other
+      → (layer : ℕ) → RestsOn layers target layer → choice layer ≡ other layer
+  at-most-one-assembly closure o = one-assembly layers target closure t (orderly-of layers target closure t o)

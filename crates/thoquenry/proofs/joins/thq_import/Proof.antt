@@ -1,0 +1,64 @@
+-- `joins::thq_import` meets its contract: which reading was asked for decides.
+-- Assumes nothing.
+use mathlib.Core.Path.{sym, _∙_, refl, ap}
+use Rattle.joining.specs.Table.{table}
+use Rattle.thoquenry.specs.declared.answers.Asked.{Asked}
+use Rattle.thoquenry.specs.Joins.{importAsked}
+use Rattle.thoquenry.proofs.Joined.{left-as}
+use native.Mathlib.Omega.{arith}
+use borrow.Author.Needs.{needs}
+use Rattle.thoquenry.proofs.joins.thq_import.Statement.{statement}
+use Rattle.thoquenry.proofs.joins.thq_import.Tie as tie
+
+reading-of-requires : tie.Need-reading-of-requires
+reading-of-requires c κs = search needs
+
+enum-known-asked : tie.Need-enum-known-asked
+enum-known-asked c = search needs
+
+import-under-requires : tie.Need-import-under-requires
+import-under-requires c κs = search needs
+
+enum-told : tie.Need-enum-told
+enum-told c = search needs
+
+not-a-call-requires : tie.Need-not-a-call-requires
+not-a-call-requires c κs = search needs
+
+same-length : tie.Need-same-length
+same-length c = search needs
+
+same-length-2 : tie.Need-same-length-2
+same-length-2 c = search needs
+
+same-length-3 : tie.Need-same-length-3
+same-length-3 c = search needs
+
+returns : tie.Need-returns
+returns c =
+    let a = c .before .before .before .before .before .before .before .before .before .before .before .before .before .before .before .before .before .before .before .args in
+    let t = table (a .indices .now) (a .decodings .now) (a .matches .now) in
+    left-as (ap (λ (k : Asked). importAsked k (a .bytes .now) (a .target) t (a .numbers .now) (a .lags .now) (a .summary .now))
+    (sym (c .before .before .before .before .before .before .before .before .before .before .asked .given .1) ∙ c .before .before .before .before .before .before .before .before .before .before .before .before .reading-of .ensures)) (c .before .before .before .before .before .import-under .ensures)
+
+returns-2 : tie.Need-returns-2
+returns-2 c =
+    let a = c .before .before .before .before .before .before .before .before .before .before .args in
+    let t = table (a .indices .now) (a .decodings .now) (a .matches .now) in
+    left-as (ap (λ (k : Asked). importAsked k (a .bytes .now) (a .target) t (a .numbers .now) (a .lags .now) (a .summary .now))
+    (sym (c .before .enum-told .given .1) ∙ c .before .before .before .reading-of .ensures)) (c .not-a-call .ensures, (refl, (refl, refl)))
+
+pub thq-import-spec : {M : Type 1} → statement M
+thq-import-spec =
+    tie.close
+    (tie.spec
+    reading-of-requires
+    enum-known-asked
+    import-under-requires
+    enum-told
+    not-a-call-requires
+    same-length
+    same-length-2
+    same-length-3
+    returns
+    returns-2)

@@ -1,0 +1,6 @@
+pub mod Answers
+pub mod Loops
+pub mod Times
+pub mod Joins
+pub mod Bounds
+pub mod Rooms

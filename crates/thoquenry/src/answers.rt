@@ -1,0 +1,54 @@
+// Answers as one number, readings by their year, and the lesser of two numbers.
+ghost use mathlib.Core.Path.{_≡_};
+ghost use Prim.Native.Nat.{min};
+ghost use Rattle.thoquenry.specs.Answers.{answerOf, accepted as acceptedOf, refused as refusedOf, notACall, askedFor};
+use vocabulary::Reading;
+use vocabulary::Refusal;
+
+// The reading that a caller asks for, if there is one of that year.
+pub enum Asked {
+    Known(Reading),
+    Neither,
+}
+
+fn answer(number: u8, value: usize) -> u64
+    ensures { λ r. ⌜ r ≡ answerOf number value ⌝ }
+{
+    number as u64 + 256 * (value as u64 % 72057594037927936)
+}
+
+pub fn accepted(count: usize) -> u64
+    ensures { λ r. ⌜ r ≡ acceptedOf count ⌝ }
+{
+    answer(0, count)
+}
+
+pub fn refused(refusal: Refusal) -> u64
+    ensures { λ r. ⌜ r ≡ refusedOf refusal ⌝ }
+{
+    answer(vocabulary::number(refusal), vocabulary::place(refusal))
+}
+
+pub fn not_a_call() -> u64
+    ensures { λ r. ⌜ r ≡ notACall ⌝ }
+{
+    answer(255, 0)
+}
+
+pub fn reading_of(year: u64) -> Asked
+    ensures { λ r. ⌜ r ≡ askedFor year ⌝ }
+{
+    if year == 2009 {
+        return Asked::Known(Reading::Edition2009);
+    }
+    if year == 2015 {
+        return Asked::Known(Reading::Edition2015);
+    }
+    Asked::Neither
+}
+
+pub fn lesser(a: usize, b: usize) -> usize
+    ensures { λ r. ⌜ r ≡ min a b ⌝ }
+{
+    if a < b { a } else { b }
+}
