@@ -1,0 +1,398 @@
+//! What is measured: for each call and input, the same work done by the library and by the plain implementation.
+
+use crate::inputs;
+use plain::{Reading, Refusal, Times, Units};
+use std::rc::Rc;
+use thoquenry::raw;
+
+/// Makes so many calls, and answers what the last of them answered.
+type Side = Box<dyn FnMut(usize) -> u64>;
+
+/// One line of the table.
+pub struct Measure {
+    pub name: String,
+    /// The bytes that one call reads, where that is of interest.
+    pub bytes: Option<usize>,
+    pub library: Side,
+    pub plain: Side,
+    /// The plain search from the start of the table for every row.
+    pub search: Option<Side>,
+}
+
+/// Hides a value from the optimiser, so that no call is left out and none is made for all.
+fn hide<T>(value: T) -> T {
+    // SAFETY: the value is read once and the original forgotten.
+    unsafe {
+        let hidden = std::ptr::read_volatile(&value);
+        std::mem::forget(value);
+        hidden
+    }
+}
+
+fn repeat(calls: usize, mut call: impl FnMut() -> u64) -> u64 {
+    let mut answer = 0;
+    for _ in 0..calls {
+        answer = hide(call());
+    }
+    answer
+}
+
+/// The answer as the library gives it.
+fn answer(result: Result<usize, Refusal>) -> u64 {
+    match result {
+        Ok(count) => count as u64 * 256,
+        Err(Refusal { number, place }) => u64::from(number) + place as u64 * 256,
+    }
+}
+
+fn read_loop(name: &str, bytes: Vec<u8>) -> Measure {
+    let bytes: Rc<[u8]> = bytes.into();
+    let mut room = vec![0_u16; 201 * raw::THQ_ENTRY_NUMBERS];
+    let given = bytes.clone();
+    let library = move |calls| {
+        repeat(calls, || {
+            let given = hide(&given[..]);
+            // SAFETY: the slices' own pointers and lengths, here and in all that follow.
+            unsafe {
+                raw::thq_read_loop(
+                    raw::THQ_2015,
+                    given.as_ptr(),
+                    given.len(),
+                    room.as_mut_ptr(),
+                    room.len(),
+                )
+            }
+        })
+    };
+    let given = bytes.clone();
+    let mut entries = Vec::with_capacity(201);
+    let plain = move |calls| {
+        repeat(calls, || {
+            entries.clear();
+            let entries = hide(&mut entries);
+            let read = plain::read_loop_with(hide(Reading::Of2015), hide(&given[..]), |entry| {
+                entries.push(*entry)
+            });
+            answer(read.map(|()| entries.len()))
+        })
+    };
+    Measure {
+        name: format!("read a loop, {name}"),
+        bytes: Some(bytes.len()),
+        library: Box::new(library),
+        plain: Box::new(plain),
+        search: None,
+    }
+}
+
+fn write_loop(name: &str, bytes: Vec<u8>) -> Measure {
+    let entries = plain::read_loop(Reading::Of2015, &bytes).expect("a sound loop");
+    let mut numbers = vec![0_u16; entries.len() * raw::THQ_ENTRY_NUMBERS];
+    // SAFETY: as above.
+    let read = unsafe {
+        raw::thq_read_loop(
+            raw::THQ_2015,
+            bytes.as_ptr(),
+            bytes.len(),
+            numbers.as_mut_ptr(),
+            numbers.len(),
+        )
+    };
+    assert_eq!(read, entries.len() as u64 * 256);
+    let mut out = vec![0; 1008];
+    let library = move |calls| {
+        repeat(calls, || {
+            let given = hide(&numbers[..]);
+            // SAFETY: as above.
+            unsafe { raw::thq_write_loop(given.as_ptr(), given.len(), out.as_mut_ptr(), out.len()) }
+        })
+    };
+    let mut out = vec![0; 1008];
+    let plain = move |calls| {
+        repeat(calls, || {
+            answer(plain::write_loop(hide(&entries[..]), hide(&mut out[..])))
+        })
+    };
+    Measure {
+        name: format!("write a loop, {name}"),
+        bytes: Some(bytes.len()),
+        library: Box::new(library),
+        plain: Box::new(plain),
+        search: None,
+    }
+}
+
+fn closure(name: &str, bytes: Vec<u8>, target: u64) -> Measure {
+    let bytes: Rc<[u8]> = bytes.into();
+    let given = bytes.clone();
+    let mut set = [0];
+    let library = move |calls| {
+        repeat(calls, || {
+            let given = hide(&given[..]);
+            // SAFETY: as above.
+            unsafe {
+                raw::thq_closure(
+                    raw::THQ_2015,
+                    given.as_ptr(),
+                    given.len(),
+                    target,
+                    set.as_mut_ptr(),
+                    set.len(),
+                )
+            }
+        })
+    };
+    let plain = move |calls| {
+        repeat(calls, || {
+            let closure =
+                plain::closure_of_loop(hide(Reading::Of2015), hide(&bytes[..]), hide(target));
+            answer(closure.map(|set| hide(set).count_ones() as usize))
+        })
+    };
+    Measure {
+        name: format!("closure, {name}"),
+        bytes: None,
+        library: Box::new(library),
+        plain: Box::new(plain),
+        search: None,
+    }
+}
+
+/// The times of a header, and its bytes.
+fn header(times: Times) -> Vec<u8> {
+    let mut bytes = vec![0; 27];
+    let length = plain::write_times(times, &mut bytes).expect("a sound header");
+    bytes.truncate(length);
+    bytes
+}
+
+fn read_times(name: &str, times: Times) -> Measure {
+    let bytes: Rc<[u8]> = header(times).into();
+    let given = bytes.clone();
+    let mut room = [0; 3];
+    let library = move |calls| {
+        repeat(calls, || {
+            let given = hide(&given[..]);
+            // SAFETY: as above.
+            unsafe {
+                raw::thq_read_times(given.as_ptr(), given.len(), room.as_mut_ptr(), room.len())
+            }
+        })
+    };
+    let plain = move |calls| {
+        repeat(calls, || {
+            answer(plain::read_times(hide(&bytes[..])).map(|times| {
+                hide(times);
+                3
+            }))
+        })
+    };
+    Measure {
+        name: format!("read a PES header, {name}"),
+        bytes: None,
+        library: Box::new(library),
+        plain: Box::new(plain),
+        search: None,
+    }
+}
+
+fn write_times(name: &str, times: Times) -> Measure {
+    let mut out = [0; 32];
+    let library = move |calls| {
+        repeat(calls, || {
+            let given = hide(times);
+            // SAFETY: as above.
+            unsafe {
+                raw::thq_write_times(
+                    given.pts,
+                    given.decoding,
+                    given.matching,
+                    out.as_mut_ptr(),
+                    out.len(),
+                )
+            }
+        })
+    };
+    let mut out = [0; 32];
+    let plain = move |calls| {
+        repeat(calls, || {
+            answer(plain::write_times(hide(times), hide(&mut out[..])))
+        })
+    };
+    Measure {
+        name: format!("write a PES header, {name}"),
+        bytes: None,
+        library: Box::new(library),
+        plain: Box::new(plain),
+        search: None,
+    }
+}
+
+fn join(count: usize, names: usize) -> Measure {
+    let layers = inputs::layers(count, names);
+    let target = count as u64 - 1;
+    let rows = Rc::new(inputs::rows(count, names));
+    let given = rows.clone();
+    let mut numbers = vec![0_u64; 512];
+    let mut lags = vec![0_i64; 512];
+    let mut summary = [0_u64; 3];
+    let library = move |calls| {
+        repeat(calls, || {
+            let (layers, rows) = hide((&layers, &*given));
+            // SAFETY: as above.
+            unsafe {
+                raw::thq_join(
+                    layers.present,
+                    layers.embedded.as_ptr(),
+                    layers.embedded.len(),
+                    target,
+                    rows.indices.as_ptr(),
+                    rows.indices.len(),
+                    rows.decodings.as_ptr(),
+                    rows.decodings.len(),
+                    rows.matches.as_ptr(),
+                    rows.matches.len(),
+                    numbers.as_mut_ptr(),
+                    numbers.len(),
+                    lags.as_mut_ptr(),
+                    lags.len(),
+                    summary.as_mut_ptr(),
+                    summary.len(),
+                )
+            }
+        })
+    };
+    let answer = |units: Result<Units, Refusal>| answer(units.map(|units| hide(units).places()));
+    let given = rows.clone();
+    let mut numbers = vec![0; 512];
+    let mut lags = vec![0; 512];
+    let plain = move |calls| {
+        repeat(calls, || {
+            let (layers, rows) = hide((&layers, given.as_plain()));
+            let (numbers, lags) = hide((&mut numbers[..], &mut lags[..]));
+            answer(plain::join(layers, hide(target), rows, numbers, lags))
+        })
+    };
+    let mut numbers = vec![0; 512];
+    let mut lags = vec![0; 512];
+    let search = move |calls| {
+        repeat(calls, || {
+            let (layers, rows) = hide((&layers, rows.as_plain()));
+            let (numbers, lags) = hide((&mut numbers[..], &mut lags[..]));
+            answer(plain::join_by_search(
+                layers,
+                hide(target),
+                rows,
+                numbers,
+                lags,
+            ))
+        })
+    };
+    let below = match names {
+        1 => "the one below it".to_string(),
+        names => format!("the {names} below it"),
+    };
+    Measure {
+        name: format!("join 512 rows, {count} layers, each on {below}"),
+        bytes: None,
+        library: Box::new(library),
+        plain: Box::new(plain),
+        search: Some(Box::new(search)),
+    }
+}
+
+fn import(count: usize) -> Measure {
+    let entries = &inputs::hierarchies()[..count];
+    let bytes: Rc<[u8]> = inputs::loop_of(entries).into();
+    let target = count as u64 - 1;
+    let rows = Rc::new(inputs::rows(count, 1));
+    let (given, given_rows) = (bytes.clone(), rows.clone());
+    let mut numbers = vec![0_u64; 512];
+    let mut lags = vec![0_i64; 512];
+    let mut summary = [0_u64; 3];
+    let library = move |calls| {
+        repeat(calls, || {
+            let (bytes, rows) = hide((&given[..], &*given_rows));
+            // SAFETY: as above.
+            unsafe {
+                raw::thq_import(
+                    raw::THQ_2015,
+                    bytes.as_ptr(),
+                    bytes.len(),
+                    target,
+                    rows.indices.as_ptr(),
+                    rows.indices.len(),
+                    rows.decodings.as_ptr(),
+                    rows.decodings.len(),
+                    rows.matches.as_ptr(),
+                    rows.matches.len(),
+                    numbers.as_mut_ptr(),
+                    numbers.len(),
+                    lags.as_mut_ptr(),
+                    lags.len(),
+                    summary.as_mut_ptr(),
+                    summary.len(),
+                )
+            }
+        })
+    };
+    let mut numbers = vec![0; 512];
+    let mut lags = vec![0; 512];
+    let plain = move |calls| {
+        repeat(calls, || {
+            let (numbers, lags) = hide((&mut numbers[..], &mut lags[..]));
+            let reading = hide(Reading::Of2015);
+            let (bytes, rows) = hide((&bytes[..], rows.as_plain()));
+            let units = plain::import(reading, bytes, hide(target), rows, numbers, lags);
+            answer(units.map(|units| hide(units).places()))
+        })
+    };
+    Measure {
+        name: format!("import, {count} layers and 512 rows"),
+        bytes: None,
+        library: Box::new(library),
+        plain: Box::new(plain),
+        search: None,
+    }
+}
+
+/// Everything that is measured.
+pub fn all() -> Vec<Measure> {
+    let hierarchies = inputs::longest_loop_of(&inputs::hierarchies());
+    let extensions = inputs::longest_loop_of(&inputs::extensions());
+    let others = inputs::longest_loop_of(&inputs::others());
+    let alone = Times {
+        pts: 9000,
+        decoding: 9000,
+        matching: 9000,
+    };
+    let all_three = Times {
+        pts: 900,
+        decoding: 600,
+        matching: 300,
+    };
+    vec![
+        read_loop("loop A (37 bytes, 3 layers)", inputs::LOOP_A.to_vec()),
+        read_loop("1,008 bytes, 64 hierarchy descriptors", hierarchies.clone()),
+        read_loop("1,008 bytes, 46 extensions", extensions.clone()),
+        read_loop("1,008 bytes, 201 entries of other types", others),
+        write_loop("loop A", inputs::LOOP_A.to_vec()),
+        write_loop(
+            "64 hierarchy descriptors",
+            inputs::loop_of(&inputs::hierarchies()),
+        ),
+        write_loop("46 extensions", inputs::loop_of(&inputs::extensions())),
+        closure("loop A, target 2", inputs::LOOP_A.to_vec(), 2),
+        closure("chain of 64 layers, target 63", hierarchies, 63),
+        closure("46 extensions, target 45", extensions, 45),
+        read_times("PTS alone", alone),
+        read_times("PTS, DTS and TREF", all_three),
+        write_times("PTS alone", alone),
+        write_times("PTS, DTS and TREF", all_three),
+        join(2, 1),
+        join(8, 1),
+        join(32, 1),
+        join(32, 2),
+        import(32),
+    ]
+}

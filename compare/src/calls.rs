@@ -1,0 +1,518 @@
+//! The calls of `include/thoquenry.h` with their inputs and output buffers, made to the library and to the plain implementation. Both
+//! leave their buffers in the call itself, so that two calls are equal when every buffer is, inputs included.
+
+use crate::memory::{Memory, Placing};
+use plain::{Embedded, Entry, Extension, Hierarchy, Layers, Reading, Record, Refusal, Times};
+use thoquenry::raw;
+
+/// A table of rows.
+#[derive(Clone, Debug, Default, PartialEq, Eq)]
+pub struct Rows {
+    pub indices: Vec<u8>,
+    pub decodings: Vec<u64>,
+    pub matches: Vec<u64>,
+}
+
+impl Rows {
+    pub fn as_plain(&self) -> plain::Rows<'_> {
+        plain::Rows {
+            indices: &self.indices,
+            decodings: &self.decodings,
+            matches: &self.matches,
+        }
+    }
+}
+
+/// The output buffers of joining.
+#[derive(Clone, Debug, Default, PartialEq, Eq)]
+pub struct Lists {
+    pub numbers: Vec<u64>,
+    pub lags: Vec<i64>,
+    pub summary: Vec<u64>,
+}
+
+/// A call.
+#[derive(Clone, Debug, PartialEq, Eq)]
+pub enum Call {
+    ReadLoop {
+        reading: u64,
+        bytes: Vec<u8>,
+        entries: Vec<u16>,
+    },
+    WriteLoop {
+        entries: Vec<u16>,
+        out: Vec<u8>,
+    },
+    Closure {
+        reading: u64,
+        bytes: Vec<u8>,
+        target: u64,
+        set: Vec<u64>,
+    },
+    ReadTimes {
+        bytes: Vec<u8>,
+        times: Vec<u64>,
+    },
+    WriteTimes {
+        pts: u64,
+        decoding: u64,
+        matching: u64,
+        out: Vec<u8>,
+    },
+    Join {
+        present: u64,
+        embedded: Vec<u64>,
+        target: u64,
+        rows: Rows,
+        lists: Lists,
+    },
+    Import {
+        reading: u64,
+        bytes: Vec<u8>,
+        target: u64,
+        rows: Rows,
+        lists: Lists,
+    },
+}
+
+/// The names of the calls and the numbers that each can answer, 0 for an accepted call.
+pub const CALLS: [(&str, &[u64]); 7] = [
+    (
+        "read_loop",
+        &[0, 1, 2, 3, 4, 5, 6, 7, 8, 9, 10, 17, NOT_A_CALL],
+    ),
+    ("write_loop", &[0, 1, 3, 6, 7, 8, 9, 10, 17, 25]),
+    (
+        "closure",
+        &[0, 1, 2, 3, 4, 5, 6, 7, 8, 9, 10, 11, 12, 17, NOT_A_CALL],
+    ),
+    ("read_times", &[0, 17, 20, 21, 22, 23, 24]),
+    ("write_times", &[0, 17, 24, 25]),
+    ("join", &[0, 11, 12, 13, 14, 15, 16, 17]),
+    (
+        "import",
+        &[
+            0, 1, 2, 3, 4, 5, 6, 7, 8, 9, 10, 11, 12, 13, 14, 15, 16, 17, NOT_A_CALL,
+        ],
+    ),
+];
+
+pub const NOT_A_CALL: u64 = raw::THQ_NOT_A_CALL;
+
+/// The numbers that one entry takes.
+pub const ENTRY: usize = raw::THQ_ENTRY_NUMBERS;
+
+/// The number of an answer: 0 or the refusal's.
+pub fn number(answer: u64) -> u64 {
+    answer % 256
+}
+
+/// The place or count of an answer.
+pub fn value(answer: u64) -> u64 {
+    answer / 256
+}
+
+fn answer(result: Result<usize, Refusal>) -> u64 {
+    match result {
+        Ok(count) => count as u64 * 256,
+        Err(Refusal { number, place }) => u64::from(number) + place as u64 * 256,
+    }
+}
+
+impl Call {
+    /// Its place in `CALLS`.
+    pub fn kind(&self) -> usize {
+        match self {
+            Call::ReadLoop { .. } => 0,
+            Call::WriteLoop { .. } => 1,
+            Call::Closure { .. } => 2,
+            Call::ReadTimes { .. } => 3,
+            Call::WriteTimes { .. } => 4,
+            Call::Join { .. } => 5,
+            Call::Import { .. } => 6,
+        }
+    }
+
+    /// Makes the call to the library. An error where it has written beside a buffer.
+    pub fn library(&mut self, memory: &mut Memory, placing: Placing) -> Result<u64, &'static str> {
+        memory.begin(placing);
+        let mut untouched = true;
+        // SAFETY of all calls: each pointer is of a region, with the length of what was placed there, and no two regions overlap.
+        let answer = match self {
+            Call::ReadLoop {
+                reading,
+                bytes,
+                entries,
+            } => {
+                let given = memory.place(bytes);
+                let room = memory.place(entries);
+                let answer = unsafe {
+                    raw::thq_read_loop(
+                        *reading,
+                        given.start(),
+                        given.length(),
+                        room.start(),
+                        room.length(),
+                    )
+                };
+                untouched &= given.take_back(bytes);
+                untouched &= room.take_back(entries);
+                answer
+            }
+            Call::WriteLoop { entries, out } => {
+                let given = memory.place(entries);
+                let room = memory.place(out);
+                let answer = unsafe {
+                    raw::thq_write_loop(given.start(), given.length(), room.start(), room.length())
+                };
+                untouched &= given.take_back(entries);
+                untouched &= room.take_back(out);
+                answer
+            }
+            Call::Closure {
+                reading,
+                bytes,
+                target,
+                set,
+            } => {
+                let given = memory.place(bytes);
+                let room = memory.place(set);
+                let answer = unsafe {
+                    raw::thq_closure(
+                        *reading,
+                        given.start(),
+                        given.length(),
+                        *target,
+                        room.start(),
+                        room.length(),
+                    )
+                };
+                untouched &= given.take_back(bytes);
+                untouched &= room.take_back(set);
+                answer
+            }
+            Call::ReadTimes { bytes, times } => {
+                let given = memory.place(bytes);
+                let room = memory.place(times);
+                let answer = unsafe {
+                    raw::thq_read_times(given.start(), given.length(), room.start(), room.length())
+                };
+                untouched &= given.take_back(bytes);
+                untouched &= room.take_back(times);
+                answer
+            }
+            Call::WriteTimes {
+                pts,
+                decoding,
+                matching,
+                out,
+            } => {
+                let room = memory.place(out);
+                let answer = unsafe {
+                    raw::thq_write_times(*pts, *decoding, *matching, room.start(), room.length())
+                };
+                untouched &= room.take_back(out);
+                answer
+            }
+            Call::Join {
+                present,
+                embedded,
+                target,
+                rows,
+                lists,
+            } => {
+                let given = memory.place(embedded);
+                let joined = Joined::place(memory, rows, lists);
+                let answer = unsafe {
+                    raw::thq_join(
+                        *present,
+                        given.start(),
+                        given.length(),
+                        *target,
+                        joined.indices.start(),
+                        joined.indices.length(),
+                        joined.decodings.start(),
+                        joined.decodings.length(),
+                        joined.matches.start(),
+                        joined.matches.length(),
+                        joined.numbers.start(),
+                        joined.numbers.length(),
+                        joined.lags.start(),
+                        joined.lags.length(),
+                        joined.summary.start(),
+                        joined.summary.length(),
+                    )
+                };
+                untouched &= given.take_back(embedded);
+                untouched &= joined.take_back(rows, lists);
+                answer
+            }
+            Call::Import {
+                reading,
+                bytes,
+                target,
+                rows,
+                lists,
+            } => {
+                let given = memory.place(bytes);
+                let joined = Joined::place(memory, rows, lists);
+                let answer = unsafe {
+                    raw::thq_import(
+                        *reading,
+                        given.start(),
+                        given.length(),
+                        *target,
+                        joined.indices.start(),
+                        joined.indices.length(),
+                        joined.decodings.start(),
+                        joined.decodings.length(),
+                        joined.matches.start(),
+                        joined.matches.length(),
+                        joined.numbers.start(),
+                        joined.numbers.length(),
+                        joined.lags.start(),
+                        joined.lags.length(),
+                        joined.summary.start(),
+                        joined.summary.length(),
+                    )
+                };
+                untouched &= given.take_back(bytes);
+                untouched &= joined.take_back(rows, lists);
+                answer
+            }
+        };
+        if untouched {
+            Ok(answer)
+        } else {
+            Err("bytes beside a buffer were changed")
+        }
+    }
+
+    /// Makes the call to the plain implementation.
+    pub fn plain(&mut self) -> u64 {
+        answer(match self {
+            Call::ReadLoop {
+                reading,
+                bytes,
+                entries,
+            } => read_loop(*reading, bytes, entries),
+            Call::WriteLoop { entries, out } => write_loop(entries, out),
+            Call::Closure {
+                reading,
+                bytes,
+                target,
+                set,
+            } => closure(*reading, bytes, *target, set),
+            Call::ReadTimes { bytes, times } => read_times(bytes, times),
+            Call::WriteTimes {
+                pts,
+                decoding,
+                matching,
+                out,
+            } => {
+                let times = Times {
+                    pts: *pts,
+                    decoding: *decoding,
+                    matching: *matching,
+                };
+                plain::write_times(times, out)
+            }
+            Call::Join {
+                present,
+                embedded,
+                target,
+                rows,
+                lists,
+            } => join(&layers(*present, embedded), *target, rows, lists),
+            Call::Import {
+                reading,
+                bytes,
+                target,
+                rows,
+                lists,
+            } => reading_of(*reading)
+                .and_then(|reading| plain::layers_of_loop(reading, bytes))
+                .and_then(|layers| join(&layers, *target, rows, lists)),
+        })
+    }
+}
+
+/// The buffers of joining, placed.
+struct Joined {
+    indices: crate::memory::Placed<u8>,
+    decodings: crate::memory::Placed<u64>,
+    matches: crate::memory::Placed<u64>,
+    numbers: crate::memory::Placed<u64>,
+    lags: crate::memory::Placed<i64>,
+    summary: crate::memory::Placed<u64>,
+}
+
+impl Joined {
+    fn place(memory: &mut Memory, rows: &Rows, lists: &Lists) -> Joined {
+        Joined {
+            indices: memory.place(&rows.indices),
+            decodings: memory.place(&rows.decodings),
+            matches: memory.place(&rows.matches),
+            numbers: memory.place(&lists.numbers),
+            lags: memory.place(&lists.lags),
+            summary: memory.place(&lists.summary),
+        }
+    }
+
+    fn take_back(&self, rows: &mut Rows, lists: &mut Lists) -> bool {
+        self.indices.take_back(&mut rows.indices)
+            & self.decodings.take_back(&mut rows.decodings)
+            & self.matches.take_back(&mut rows.matches)
+            & self.numbers.take_back(&mut lists.numbers)
+            & self.lags.take_back(&mut lists.lags)
+            & self.summary.take_back(&mut lists.summary)
+    }
+}
+
+/// The reading that a number names.
+pub fn reading_of(reading: u64) -> Result<Reading, Refusal> {
+    match reading {
+        raw::THQ_2009 => Ok(Reading::Of2009),
+        raw::THQ_2015 => Ok(Reading::Of2015),
+        _ => Err(Refusal::of(NOT_A_CALL as u8)),
+    }
+}
+
+fn read_loop(reading: u64, bytes: &[u8], room: &mut [u16]) -> Result<usize, Refusal> {
+    let entries = plain::read_loop(reading_of(reading)?, bytes)?;
+    let room = room
+        .get_mut(..entries.len() * ENTRY)
+        .ok_or(Refusal::of(17))?;
+    for (entry, numbers) in entries.iter().zip(room.chunks_exact_mut(ENTRY)) {
+        numbers.copy_from_slice(&numbers_of(entry));
+    }
+    Ok(entries.len())
+}
+
+fn write_loop(entries: &[u16], out: &mut [u8]) -> Result<usize, Refusal> {
+    let entries: Result<Vec<Entry>, Refusal> = entries.chunks_exact(ENTRY).map(entry_of).collect();
+    plain::write_loop(&entries?, out)
+}
+
+fn closure(reading: u64, bytes: &[u8], target: u64, set: &mut [u64]) -> Result<usize, Refusal> {
+    let closure = plain::closure_of_loop(reading_of(reading)?, bytes, target)?;
+    *set.first_mut().ok_or(Refusal::of(17))? = closure;
+    Ok(closure.count_ones() as usize)
+}
+
+fn read_times(bytes: &[u8], room: &mut [u64]) -> Result<usize, Refusal> {
+    // 17 is the lowest number of this call.
+    let room = room.get_mut(..3).ok_or(Refusal::of(17))?;
+    let times = plain::read_times(bytes)?;
+    room.copy_from_slice(&[times.pts, times.decoding, times.matching]);
+    Ok(3)
+}
+
+fn join(layers: &Layers, target: u64, rows: &Rows, lists: &mut Lists) -> Result<usize, Refusal> {
+    let mut left = lists.clone();
+    let units = plain::join(
+        layers,
+        target,
+        rows.as_plain(),
+        &mut left.numbers,
+        &mut left.lags,
+    )?;
+    let summary = left.summary.get_mut(..3).ok_or(Refusal::of(17))?;
+    summary.copy_from_slice(&[units.closure, units.count as u64, units.left_out as u64]);
+    *lists = left;
+    Ok(units.places())
+}
+
+/// The layers that a call of `thq_join` describes.
+pub fn layers(present: u64, embedded: &[u64]) -> Layers {
+    let mut layers = Layers {
+        present,
+        ..Layers::default()
+    };
+    for (layer, &named) in layers.embedded.iter_mut().zip(embedded) {
+        *layer = named;
+    }
+    layers
+}
+
+/// An entry as 80 numbers.
+pub fn numbers_of(entry: &Entry) -> [u16; ENTRY] {
+    let mut numbers = [0; ENTRY];
+    numbers[0] = u16::from(entry.stream_type);
+    numbers[1] = entry.pid;
+    match &entry.record {
+        None => numbers[2] = raw::THQ_NO_RECORD,
+        Some(Record::Hierarchy(hierarchy)) => {
+            numbers[2] = raw::THQ_HIERARCHY;
+            numbers[3] = u16::from(hierarchy.no_view);
+            numbers[4] = u16::from(hierarchy.no_temporal);
+            numbers[5] = u16::from(hierarchy.no_spatial);
+            numbers[6] = u16::from(hierarchy.no_quality);
+            numbers[7] = u16::from(hierarchy.hierarchy_type);
+            numbers[8] = u16::from(hierarchy.layer_index);
+            numbers[9] = u16::from(hierarchy.tref_present);
+            numbers[10] = u16::from(hierarchy.embedded_index);
+            numbers[11] = u16::from(hierarchy.channel);
+        }
+        Some(Record::Extension(extension)) => {
+            numbers[2] = raw::THQ_EXTENSION;
+            numbers[8] = u16::from(extension.layer_index);
+            numbers[9] = u16::from(extension.tref_present);
+            numbers[11] = u16::from(extension.channel);
+            numbers[12] = extension.dimension_bits;
+            numbers[13] = u16::from(extension.temporal_id);
+            numbers[14] = u16::from(extension.nuh_layer_id);
+            let list = extension.embedded.as_slice();
+            numbers[15] = list.len() as u16;
+            for (number, &index) in numbers[16..].iter_mut().zip(list) {
+                *number = u16::from(index);
+            }
+        }
+    }
+    numbers
+}
+
+/// The entry that 80 numbers say, or 25 where one of those that are looked at is too wide for any entry.
+fn entry_of(numbers: &[u16]) -> Result<Entry, Refusal> {
+    let byte = |place: usize| u8::try_from(numbers[place]).map_err(|_| Refusal::of(25));
+    let flag = |place: usize| match numbers[place] {
+        0 => Ok(false),
+        1 => Ok(true),
+        _ => Err(Refusal::of(25)),
+    };
+    let record = match numbers[2] {
+        raw::THQ_NO_RECORD => None,
+        raw::THQ_HIERARCHY => Some(Record::Hierarchy(Hierarchy {
+            no_view: flag(3)?,
+            no_temporal: flag(4)?,
+            no_spatial: flag(5)?,
+            no_quality: flag(6)?,
+            hierarchy_type: byte(7)?,
+            layer_index: byte(8)?,
+            tref_present: flag(9)?,
+            embedded_index: byte(10)?,
+            channel: byte(11)?,
+        })),
+        raw::THQ_EXTENSION => {
+            let list = numbers[16..79]
+                .get(..usize::from(numbers[15]))
+                .ok_or(Refusal::of(25))?;
+            let indices: Result<Vec<u8>, Refusal> = (16..16 + list.len()).map(byte).collect();
+            Some(Record::Extension(Extension {
+                dimension_bits: numbers[12],
+                layer_index: byte(8)?,
+                temporal_id: byte(13)?,
+                nuh_layer_id: byte(14)?,
+                tref_present: flag(9)?,
+                channel: byte(11)?,
+                embedded: Embedded::new(&indices?)?,
+            }))
+        }
+        _ => return Err(Refusal::of(25)),
+    };
+    Ok(Entry {
+        stream_type: byte(0)?,
+        pid: numbers[1],
+        record,
+    })
+}

@@ -1,0 +1,175 @@
+//! The cases: each a call with its inputs and its output buffers, had from a seed and a number alone.
+
+use crate::calls::{self, Call, Lists, Rows, CALLS, ENTRY};
+use crate::loops::Quality;
+use crate::random::Random;
+use crate::{headers, loops, tables};
+use plain::Layers;
+
+/// The case of this number.
+pub fn case(seed: u64, number: u64) -> (Call, Quality) {
+    let mut random = Random::new(seed, number);
+    match number % CALLS.len() as u64 {
+        0 => read_loop(&mut random),
+        1 => write_loop(&mut random),
+        2 => closure(&mut random),
+        3 => read_times(&mut random),
+        4 => write_times(&mut random),
+        5 => join(&mut random),
+        _ => import(&mut random),
+    }
+}
+
+/// A buffer that is filled with a pattern.
+fn filled<T>(random: &mut Random, length: usize, number: fn(u64) -> T) -> Vec<T> {
+    let first = random.next();
+    let next = |place| number(first ^ (place as u64).wrapping_mul(0x9E37_79B9_7F4A_7C15));
+    (0..length).map(next).collect()
+}
+
+fn read_loop(random: &mut Random) -> (Call, Quality) {
+    let reading = loops::reading(random);
+    let (bytes, quality) = loops::bytes(random, reading);
+    let needed = calls::reading_of(reading)
+        .and_then(|reading| plain::read_loop(reading, &bytes))
+        .map_or(3, |entries| entries.len());
+    let length = if random.once_in(8) {
+        // One entry too few.
+        needed.saturating_sub(1) * ENTRY
+    } else {
+        random.room(needed * ENTRY)
+    };
+    let call = Call::ReadLoop {
+        reading,
+        bytes,
+        entries: filled(random, length, |bits| bits as u16),
+    };
+    (call, quality)
+}
+
+fn write_loop(random: &mut Random) -> (Call, Quality) {
+    let (entries, quality) = loops::entries(random);
+    let mut call = Call::WriteLoop {
+        entries,
+        out: vec![0; plain::LONGEST_LOOP],
+    };
+    let answer = call.clone().plain();
+    let needed = match calls::number(answer) {
+        0 => calls::value(answer) as usize,
+        _ => 40,
+    };
+    let length = random.room(needed);
+    if let Call::WriteLoop { out, .. } = &mut call {
+        *out = filled(random, length, |bits| bits as u8);
+    }
+    (call, quality)
+}
+
+fn closure(random: &mut Random) -> (Call, Quality) {
+    let reading = loops::reading(random);
+    let (bytes, quality) = loops::bytes(random, reading);
+    let present = layers_of(reading, &bytes).present;
+    let length = random.pick(&[0, 1, 1, 1, 2, 3]);
+    let call = Call::Closure {
+        reading,
+        target: tables::target(random, present),
+        bytes,
+        set: filled(random, length, |bits| bits),
+    };
+    (call, quality)
+}
+
+fn read_times(random: &mut Random) -> (Call, Quality) {
+    let (bytes, quality) = headers::bytes(random);
+    let length = if random.once_in(8) {
+        random.below(3)
+    } else {
+        random.within(3, 5)
+    };
+    let times = filled(random, length, |bits| bits);
+    (Call::ReadTimes { bytes, times }, quality)
+}
+
+fn write_times(random: &mut Random) -> (Call, Quality) {
+    let ([pts, decoding, matching], quality) = headers::times(random);
+    let length = match random.below(4) {
+        0 => random.pick(&[13, 14, 15, 18, 19, 20, 21, 22, 23, 26, 27, 28]),
+        1 => random.below(28),
+        _ => random.within(27, 40),
+    };
+    let call = Call::WriteTimes {
+        pts,
+        decoding,
+        matching,
+        out: filled(random, length, |bits| bits as u8),
+    };
+    (call, quality)
+}
+
+fn join(random: &mut Random) -> (Call, Quality) {
+    let (present, embedded) = tables::layers(random);
+    let layers = calls::layers(present, &embedded);
+    let target = tables::target(random, present);
+    let (rows, quality) = tables::rows(random, &layers, target);
+    let call = Call::Join {
+        present,
+        embedded,
+        target,
+        lists: lists(random, &layers, target, &rows),
+        rows,
+    };
+    (call, quality)
+}
+
+fn import(random: &mut Random) -> (Call, Quality) {
+    let reading = loops::reading(random);
+    let (bytes, of_loop) = if random.once_in(3) {
+        loops::bytes(random, reading)
+    } else {
+        (loops::sound_bytes(random, reading), Quality::Sound)
+    };
+    let layers = layers_of(reading, &bytes);
+    let target = tables::target(random, layers.present);
+    let (rows, of_rows) = tables::rows(random, &layers, target);
+    let quality = match (of_loop, of_rows) {
+        (Quality::Sound, Quality::Sound) => Quality::Sound,
+        (Quality::Damaged, _) | (_, Quality::Damaged) => Quality::Damaged,
+        _ => Quality::NearMiss,
+    };
+    let call = Call::Import {
+        reading,
+        bytes,
+        target,
+        lists: lists(random, &layers, target, &rows),
+        rows,
+    };
+    (call, quality)
+}
+
+/// The layers of a loop, none where it is refused.
+fn layers_of(reading: u64, bytes: &[u8]) -> Layers {
+    calls::reading_of(reading)
+        .and_then(|reading| plain::layers_of_loop(reading, bytes))
+        .unwrap_or_default()
+}
+
+/// The output lists of joining: mostly long enough, now and then one of them short.
+fn lists(random: &mut Random, layers: &Layers, target: u64, rows: &Rows) -> Lists {
+    let mut numbers = vec![0; 512];
+    let mut lags = vec![0; 512];
+    let needed = plain::join(layers, target, rows.as_plain(), &mut numbers, &mut lags)
+        .map_or(5, |units| units.places());
+    let mut length = |needed: usize| {
+        if random.once_in(4) {
+            random.room(needed)
+        } else {
+            needed + random.pick(&[0, 0, 1, 9])
+        }
+    };
+    let (numbers, lags, summary) = (length(needed), length(needed), length(3));
+    Lists {
+        numbers: filled(random, numbers, |bits| bits),
+        lags: filled(random, lags, |bits| bits as i64),
+        summary: filled(random, summary, |bits| bits),
+    }
+}

@@ -1,0 +1,201 @@
+//! The cases of the programs `loop_cases`, `pes_cases` and `layers`, whose expected answers were derived by hand.
+
+use plain::{Entry, Reading, Record, Refusal, Times};
+use std::fmt::Write;
+
+const ROOT: &str = concat!(env!("CARGO_MANIFEST_DIR"), "/../");
+
+fn file(name: &str) -> String {
+    std::fs::read_to_string(ROOT.to_string() + name).expect(name)
+}
+
+/// Two hexadecimal digits.
+fn byte(word: &str) -> Option<u8> {
+    let digit = |glyph: char| glyph.is_ascii_digit() || ('A'..='F').contains(&glyph);
+    let sound = word.len() == 2 && word.chars().all(digit);
+    u8::from_str_radix(word, 16).ok().filter(|_| sound)
+}
+
+/// The bytes that a text names, each after a blank: HH, or HH*N for N times that byte.
+fn bytes(text: &str) -> Option<Vec<u8>> {
+    if !text.is_empty() && !text.starts_with(' ') {
+        return None;
+    }
+    let mut bytes = Vec::new();
+    for word in text.split_ascii_whitespace() {
+        let (digits, times) = word.split_once('*').unwrap_or((word, "1"));
+        bytes.resize(bytes.len() + times.parse::<usize>().ok()?, byte(digits)?);
+    }
+    Some(bytes)
+}
+
+fn entry_line(entry: &Entry) -> String {
+    let mut line = format!("  type {} pid {}", entry.stream_type, entry.pid);
+    match &entry.record {
+        None => line += " no record",
+        Some(Record::Hierarchy(h)) => {
+            write!(
+                line,
+                " hierarchy no_view {} no_temporal {} no_spatial {} no_quality {} type {} index {} tref {} embedded {} channel {}",
+                u8::from(h.no_view),
+                u8::from(h.no_temporal),
+                u8::from(h.no_spatial),
+                u8::from(h.no_quality),
+                h.hierarchy_type,
+                h.layer_index,
+                u8::from(h.tref_present),
+                h.embedded_index,
+                h.channel
+            )
+            .unwrap();
+        }
+        Some(Record::Extension(e)) => {
+            write!(
+                line,
+                " extension dimensions {} index {} temporal_id {} nuh_layer_id {} tref {} channel {} embedded",
+                e.dimension_bits,
+                e.layer_index,
+                e.temporal_id,
+                e.nuh_layer_id,
+                u8::from(e.tref_present),
+                e.channel
+            )
+            .unwrap();
+            for index in e.embedded.as_slice() {
+                write!(line, " {index}").unwrap();
+            }
+        }
+    }
+    line
+}
+
+fn loop_answer(reading: Reading, bytes: &[u8]) -> String {
+    match plain::read_loop(reading, bytes) {
+        Err(Refusal { number, place }) => format!("refused {number} entry {place}\n"),
+        Ok(entries) => {
+            let mut text = format!("accepted {}\n", entries.len());
+            for entry in &entries {
+                text += &entry_line(entry);
+                text.push('\n');
+            }
+            text
+        }
+    }
+}
+
+#[test]
+fn loops() {
+    let cases = file("crates/loop_cases/stdin");
+    let mut answers = String::new();
+    for line in cases.lines() {
+        let reading = match line.get(..4) {
+            Some("2009") => Some(Reading::Of2009),
+            Some("2015") => Some(Reading::Of2015),
+            _ => None,
+        };
+        if line.is_empty() || line.starts_with('#') {
+            answers += line;
+            answers.push('\n');
+        } else if let Some((reading, bytes)) = reading.zip(line.get(4..).and_then(bytes)) {
+            answers += &loop_answer(reading, &bytes);
+        } else {
+            answers += "unreadable\n";
+        }
+    }
+    same(&answers, &file("crates/loop_cases/stdout"));
+}
+
+#[test]
+fn headers() {
+    let cases = file("crates/pes_cases/stdin");
+    let mut answers = String::new();
+    for line in cases.lines() {
+        let (name, case) = line.split_once(':').unwrap();
+        answers += name;
+        answers.push_str(": ");
+        if line.starts_with("read") {
+            match plain::read_times(&bytes(case).unwrap()) {
+                Ok(times) => writeln!(
+                    answers,
+                    "times {} {} {}",
+                    times.pts, times.decoding, times.matching
+                ),
+                Err(refusal) => writeln!(answers, "refused {}", refusal.number),
+            }
+            .unwrap();
+            continue;
+        }
+        let numbers: Vec<u64> = case
+            .split_ascii_whitespace()
+            .map(|word| word.parse().unwrap())
+            .collect();
+        let times = Times {
+            pts: numbers[0],
+            decoding: numbers[1],
+            matching: numbers[2],
+        };
+        let mut out = vec![0xAA; numbers[3] as usize];
+        match plain::write_times(times, &mut out) {
+            Ok(length) => write!(answers, "bytes {length} leaves"),
+            Err(refusal) => write!(answers, "refused {} leaves", refusal.number),
+        }
+        .unwrap();
+        for byte in out {
+            write!(answers, " {byte:02x}").unwrap();
+        }
+        answers.push('\n');
+    }
+    same(&answers, &file("crates/pes_cases/stdout"));
+}
+
+/// What `layers` prints of a loop.
+fn listing(bytes: &[u8]) -> String {
+    let entries = match plain::read_loop(Reading::Of2015, bytes) {
+        Err(Refusal { number, place }) => return format!("refused {number} entry {place}\n"),
+        Ok(entries) => entries,
+    };
+    let layers = plain::layers_of(&entries);
+    let mut text = format!("accepted {}\n", layers.present.count_ones());
+    for index in 0..64_u8 {
+        let record_of = |entry: &Entry| {
+            let record = entry.record?;
+            (record.layer_index() == index).then_some((entry.stream_type, entry.pid, record))
+        };
+        if let Some((stream_type, pid, record)) = entries.iter().find_map(record_of) {
+            let channel = record.channel();
+            write!(
+                text,
+                "layer {index} pid {pid} type {stream_type} channel {channel} closure"
+            )
+            .unwrap();
+            match plain::closure(&layers, u64::from(index)) {
+                Err(_) => text += " absent",
+                Ok(closure) => {
+                    for lower in (0..64).filter(|lower| closure >> lower & 1 != 0) {
+                        write!(text, " {lower}").unwrap();
+                    }
+                }
+            }
+            text.push('\n');
+        }
+    }
+    text
+}
+
+#[test]
+fn samples() {
+    for name in ["absent", "loop-a", "mv-hevc", "mvc", "refused", "svc"] {
+        let bytes = std::fs::read(format!("{ROOT}samples/{name}.bin")).expect(name);
+        same(&listing(&bytes), &file(&format!("tests/layers/{name}.txt")));
+    }
+    same(&listing(&[]), &file("tests/layers/empty.txt"));
+    same(&listing(&[0; 1009]), &file("tests/layers/too-long.txt"));
+}
+
+/// Compares line by line, so that a failure shows the first line that differs.
+fn same(answers: &str, expected: &str) {
+    for (number, (answer, expected)) in answers.lines().zip(expected.lines()).enumerate() {
+        assert_eq!(answer, expected, "line {}", number + 1);
+    }
+    assert_eq!(answers, expected);
+}

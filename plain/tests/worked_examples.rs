@@ -1,0 +1,166 @@
+//! Document 01's worked examples.
+
+use plain::Reading::{Of2009, Of2015};
+use plain::{Layers, Reading, Refusal, Rows, Times, Units};
+
+const LOOP_A: [u8; 37] = [
+    0x1B, 0xE1, 0x00, 0xF0, 0x06, 0x04, 0x04, 0xFF, 0xC0, 0xFF, 0xC0, // the base
+    0x1F, 0xE1, 0x01, 0xF0, 0x06, 0x04, 0x04, 0xD1, 0xC1, 0x40, 0xC1, // a spatial layer
+    0x28, 0xE1, 0x02, 0xF0, 0x0A, 0x3F, 0x08, 0x06, 0x00, 0x02, 0x08, 0x03, 0xC1, 0xC2,
+    0xC0, // an HEVC layer
+];
+
+const READINGS: [Reading; 2] = [Of2009, Of2015];
+
+#[test]
+fn closures_of_loop_a() {
+    for reading in READINGS {
+        assert_eq!(plain::closure_of_loop(reading, &LOOP_A, 1), Ok(0b011));
+    }
+    assert_eq!(plain::closure_of_loop(Of2015, &LOOP_A, 2), Ok(0b101));
+    let absent = Err(Refusal::of(11));
+    assert_eq!(plain::closure_of_loop(Of2009, &LOOP_A, 2), absent);
+    for target in [3, 63, 64, 256, u64::MAX] {
+        assert_eq!(plain::closure_of_loop(Of2015, &LOOP_A, target), absent);
+    }
+}
+
+#[test]
+fn loop_a_is_written_as_it_was_read() {
+    let entries = plain::read_loop(Of2015, &LOOP_A).unwrap();
+    assert_eq!(entries.len(), 3);
+    let mut out = [0xAA; 40];
+    assert_eq!(plain::write_loop(&entries, &mut out), Ok(37));
+    assert_eq!(out[..37], LOOP_A);
+    assert_eq!(out[37..], [0xAA; 3]);
+    let mut short = [0xAA; 36];
+    assert_eq!(
+        plain::write_loop(&entries, &mut short),
+        Err(Refusal::of(17))
+    );
+    assert_eq!(short, [0xAA; 36]);
+}
+
+#[test]
+fn short_and_long_loops() {
+    for reading in READINGS {
+        assert_eq!(plain::read_loop(reading, &[]), Ok(vec![]));
+        let absent = Err(Refusal::of(11));
+        assert_eq!(plain::closure_of_loop(reading, &[], 0), absent);
+        let too_short = Err(Refusal::at(2, 0));
+        assert_eq!(plain::read_loop(reading, &LOOP_A[..4]), too_short);
+        let too_long = Err(Refusal::of(1));
+        assert_eq!(plain::read_loop(reading, &[0; 1009]), too_long);
+    }
+}
+
+type Joining = fn(&Layers, u64, Rows, &mut [u64], &mut [i64]) -> Result<Units, Refusal>;
+type Answer = Result<(Units, Vec<u64>, Vec<i64>), Refusal>;
+
+/// Joins by both ways, which have to agree, into lists that are longer than needed.
+fn join(layers: &Layers, target: u64, table: &[(u8, u64, u64)]) -> Answer {
+    let indices: Vec<u8> = table.iter().map(|row| row.0).collect();
+    let decodings: Vec<u64> = table.iter().map(|row| row.1).collect();
+    let matches: Vec<u64> = table.iter().map(|row| row.2).collect();
+    let rows = Rows {
+        indices: &indices,
+        decodings: &decodings,
+        matches: &matches,
+    };
+    let run = |join: Joining| {
+        let mut numbers = vec![99; table.len() + 1];
+        let mut lags = vec![99; table.len() + 1];
+        let units = join(layers, target, rows, &mut numbers, &mut lags)?;
+        assert!(numbers[units.places()..].iter().all(|&number| number == 99));
+        assert!(lags[units.places()..].iter().all(|&lag| lag == 99));
+        numbers.truncate(units.places());
+        lags.truncate(units.places());
+        Ok((units, numbers, lags))
+    };
+    let answer = run(plain::join);
+    assert_eq!(answer, run(plain::join_by_search));
+    answer
+}
+
+fn loop_a() -> Layers {
+    plain::layers_of_loop(Of2015, &LOOP_A).unwrap()
+}
+
+/// The document's table with another match time in its last row.
+fn table(last: u64) -> [(u8, u64, u64); 4] {
+    [
+        (0, 9000, 9000),
+        (1, 9000, 9000),
+        (0, 12600, 12600),
+        (1, 12000, last),
+    ]
+}
+
+#[test]
+fn units_over_loop_a() {
+    let units = Units {
+        closure: 0b11,
+        count: 2,
+        left_out: 0,
+    };
+    let answer = Ok((units, vec![0, 1, 2, 3], vec![0, 0, 600, 0]));
+    assert_eq!(join(&loop_a(), 1, &table(12600)), answer);
+    assert_eq!(join(&loop_a(), 1, &table(12601)), Err(Refusal::at(15, 3)));
+    assert_eq!(join(&loop_a(), 1, &table(9000)), Err(Refusal::at(16, 3)));
+    let none = Units {
+        closure: 0b101,
+        count: 0,
+        left_out: 2,
+    };
+    assert_eq!(
+        join(&loop_a(), 2, &table(12600)),
+        Ok((none, vec![], vec![]))
+    );
+}
+
+#[test]
+fn order_within_one_layer() {
+    let one = Layers {
+        present: 1,
+        ..Layers::default()
+    };
+    let two = |first, second| {
+        join(&one, 0, &[(0, first, 0), (0, second, 0)]).map(|(units, ..)| units.count)
+    };
+    assert_eq!(two(8_589_934_000, 400), Ok(2));
+    assert_eq!(plain::distance(8_589_934_000, 400), 992);
+    assert_eq!(two(7, 7), Err(Refusal::at(14, 1)));
+    assert_eq!(two(0, 4_294_967_295), Ok(2));
+    assert_eq!(two(0, 4_294_967_296), Err(Refusal::at(14, 1)));
+    assert_eq!(plain::lag(4_294_967_296, 0), -4_294_967_296);
+    assert_eq!(plain::lag(4_294_967_295, 0), 4_294_967_295);
+}
+
+#[test]
+fn headers() {
+    let alone = [
+        0x00, 0x00, 0x01, 0xE0, 0x00, 0x00, 0x84, 0x80, 0x05, 0x21, 0x00, 0x01, 0x46, 0x51,
+    ];
+    let with_tref = [
+        0x00, 0x00, 0x01, 0xE0, 0x00, 0x00, 0x84, 0x81, 0x0D, 0x21, 0x00, 0x01, 0x5D, 0xC1, 0x0F,
+        0x86, 0xFE, 0xF1, 0x00, 0x01, 0x62, 0x71,
+    ];
+    for (header, pts, decoding, matching) in [
+        (&alone[..], 9000, 9000, 9000),
+        (&with_tref, 12000, 12000, 12600),
+    ] {
+        let times = Times {
+            pts,
+            decoding,
+            matching,
+        };
+        assert_eq!(plain::read_times(header), Ok(times));
+        let mut out = [0xAA; 30];
+        assert_eq!(plain::write_times(times, &mut out), Ok(header.len()));
+        assert_eq!(&out[..header.len()], header);
+        assert!(out[header.len()..].iter().all(|&byte| byte == 0xAA));
+        let mut short = vec![0xAA; header.len() - 1];
+        assert_eq!(plain::write_times(times, &mut short), Err(Refusal::of(17)));
+        assert!(short.iter().all(|&byte| byte == 0xAA));
+    }
+}
