@@ -1,6 +1,6 @@
 -- Assemblies: 'An assembly of a target row chooses one row for each closure layer, that row for the target, such that for each layer and
 -- each of its embedded layers the decoding time of the lower row equals the match time of the upper row.' This file finds it; what it is,
--- in these words, is in Meaning.
+-- in these words, is in Meaning of the crate `joining`.
 -- Assumes nothing.
 use Prim.Native.Nat.{ℕ, _-_, _/_, _%_, _≤_, _<_}
 use mathlib.Core.Bool.{Bool, true, false, cond, _&&_}
