@@ -1,3 +1,4 @@
 pub mod Placing
 pub mod Searching
 pub mod Assembling
+pub mod Skipping

@@ -1,10 +1,11 @@
 -- Assemblies: 'An assembly of a target row chooses one row for each closure layer, that row for the target, such that for each layer and
 -- each of its embedded layers the decoding time of the lower row equals the match time of the upper row.' This file finds it; what it is,
--- in these words, is in Meaning.
+-- in these words, is in Meaning of the crate `joining`.
 -- Assumes nothing.
-use Prim.Native.Nat.{ℕ, _-_, _/_, _%_}
+use Prim.Native.Nat.{ℕ, _-_, _/_, _%_, _≤_, _<_}
 use mathlib.Core.Bool.{Bool, true, false, cond, _&&_}
 use mathlib.Core.List.{List, [], _∷_}
+use mathlib.Core.Path.{_≡_}
 use lib.Dec.{eqb, ltb}
 use lib.ListN.{getD, set, replicate}
 use Rattle.closure.specs.declared.Layers.{Layers}
@@ -32,6 +33,12 @@ isEdge layers closure edge = joins closure (getD (layers .embedded) (upperOf edg
 -- the edges of a closure, and its layers in rising index
 unfoldable pub edgesOf : Layers → ℕ → List ℕ
 edgesOf layers closure = those (isEdge layers closure) 4096
+
+-- the pair to be looked at after one: none in between has an upper layer of the closure
+pub record Next (closure edge next : ℕ) : Type 0 where
+  pub after : edge < next
+  pub within : next ≤ 4096
+  pub outside : (k : ℕ) → edge < k → k < next → has closure (upperOf k) ≡ false
 
 unfoldable pub membersOf : ℕ → List ℕ
 membersOf closure = those (has closure) 64

@@ -6,7 +6,7 @@ ghost use lib.ListN.{length};
 ghost use Rattle.combinators.specs.Padding.{padTo};
 ghost use Rattle.rows.specs.Table.{table};
 ghost use Rattle.assembling.specs.Index.{Sorted, Rising, Climbing, Reached, Ready};
-ghost use Rattle.assembling.specs.Assemblies.{upperOf, lowerOf, joins, edgesOf, membersOf, rowAt, pairedRow, assembled};
+ghost use Rattle.assembling.specs.Assemblies.{upperOf, lowerOf, joins, Next, edgesOf, membersOf, rowAt, pairedRow, assembled};
 use closure::Layers;
 
 // The edges of a closure, as many as `count`, in `list`.
@@ -52,6 +52,17 @@ fn is_edge(closure: u64, embedded: u64, upper: usize, lower: usize) -> bool
     sets::member(embedded, lower)
 }
 
+// The pair to be looked at after one: the next, or past all pairs of an upper layer outside the closure.
+fn next_edge(closure: u64, edge: usize) -> usize
+    requires { ⌜ edge < 4096 ⌝ }
+    ensures { λ r. ⌜ Next closure edge r ⌝ }
+{
+    if sets::member(closure, upper_of(edge)) {
+        return edge + 1;
+    }
+    edge / 64 * 64 + 64
+}
+
 // The edges of a closure, those of the highest layer first.
 pub fn edges_of(layers: Layers, closure: u64) -> Edges
     ensures { λ r. ⌜ r ≡ record { count = length (edgesOf layers closure); list = padTo 4096 0 (edgesOf layers closure) } ⌝ }
@@ -65,7 +76,7 @@ pub fn edges_of(layers: Layers, closure: u64) -> Edges
             list[count] = edge as u16;
             count += 1;
         }
-        edge += 1;
+        edge = next_edge(closure, edge);
     }
     Edges { count, list }
 }

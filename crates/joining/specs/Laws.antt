@@ -419,35 +419,35 @@ module _ (layers : Layers) (target : ℕ) (t : Table) (numbers : List ℕ) (lags
 
   -- ---- the same by number: each is given exactly when document 01 says
 
-  abbrev Given11 : Type 0
+  abbrev pub Given11 : Type 0
   Given11 = isLayer layers target ≡ false
 
-  abbrev Given12 : ℕ → Type 0
+  abbrev pub Given12 : ℕ → Type 0
   Given12 index = (isLayer layers target ≡ true) × LowestMissing layers target index
 
-  abbrev Given13 : ℕ → Type 0
+  abbrev pub Given13 : ℕ → Type 0
   Given13 row =
       (closure : ℕ) × ClosureAnswers layers target (Complete closure)
       × ((WrongShape t × (row ≡ 0)) ⊎ ((WrongShape t → ⊥) × FirstRow t (RowOutOfRange t) row))
 
-  abbrev Given14 : ℕ → Type 0
+  abbrev pub Given14 : ℕ → Type 0
   Given14 row =
       (closure : ℕ) × ClosureAnswers layers target (Complete closure) × (WrongShape t → ⊥) × NoRow t (RowOutOfRange t)
       × FirstRow t (BreaksOrder layers target t) row
 
-  abbrev Given15 : ℕ → Type 0
+  abbrev pub Given15 : ℕ → Type 0
   Given15 row = (closure : ℕ) × InOrder layers target closure t × FirstRow t (NoAssembly layers target t) row
 
-  abbrev Given16 : ℕ → Type 0
+  abbrev pub Given16 : ℕ → Type 0
   Given16 row = (closure : ℕ) × InOrder layers target closure t × NoRow t (NoAssembly layers target t) × FirstRow t (SharesRow layers target t) row
 
-  abbrev Given17 : Type 0
+  abbrev pub Given17 : Type 0
   Given17 =
       (closure : ℕ) × (heads : List ℕ) × (members : List ℕ) × InOrder layers target closure t × NoRow t (NoAssembly layers target t)
       × NoRow t (SharesRow layers target t) × Extent layers target t heads members
       × TooSmall (length heads) (length members) (length numbers) (length lags)
 
-  abbrev GivenUnits : ℕ → ℕ → ℕ → Type 0
+  abbrev pub GivenUnits : ℕ → ℕ → ℕ → Type 0
   GivenUnits closure units left =
       (numbers₂ : List ℕ) × (lags₂ : List ℤ) × InOrder layers target closure t × NoRow t (SharesRow layers target t)
       × Accepted layers target t numbers lags units left numbers₂ lags₂

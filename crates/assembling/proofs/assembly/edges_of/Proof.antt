@@ -9,6 +9,7 @@ use borrow.Author.Needs.{needs}
 use lib.ListN.{getD}
 use Rattle.combinators.specs.Gathering.{Gathered, gathered-start, gathered-room, gathered-more, gathered-same, gathered-count, gathered-array}
 use Rattle.assembling.specs.Assemblies.{isEdge, edgesOf, joins}
+use Rattle.assembling.proofs.Skipping.{gathered-next}
 use Rattle.assembling.proofs.assembly.edges_of.Statement.{statement}
 use Rattle.assembling.proofs.assembly.edges_of.Tie as tie
 
@@ -60,20 +61,23 @@ array-write-list c = omega (arith, gathered-room _ _ _ _ _ (c .before .before .b
 add-count : tie.Need-add-count Inv-loop μ-loop
 add-count c = omega (arith, gathered-room _ _ _ _ _ (c .before .before .before .before .before .before .loop .inv) (c .before .before .before .before .before .loop-test .taken))
 
-add-edge : tie.Need-add-edge Inv-loop μ-loop
-add-edge c = omega arith
+next-edge-requires : tie.Need-next-edge-requires Inv-loop μ-loop
+next-edge-requires c κs = omega arith
 
 loop-less : tie.Need-loop-less Inv-loop μ-loop
-loop-less c = omega arith
+loop-less c = let after = c .next-edge .ensures .after in omega arith
 
 loop-again : tie.Need-loop-again Inv-loop μ-loop
 loop-again c =
-    let at = c .before .before .before .before .before .before .loop in
-    let more = c .before .before .before .before .before .loop-test .taken in
-    ⊎-elim
-    (λ w. rw (w .1, w .2) (gathered-more _ 4096 _ _ _ (at .inv) more (sym (tested (c .before)) ∙ w .0 .taken)))
-    (λ w. rw (w .1, w .2) (gathered-same _ 4096 _ _ _ (at .inv) more (sym (tested (c .before)) ∙ w .0 .left)))
-    (c .if1 .came)
+    let a = c .before .before .before .before .before .before .before .before .args in
+    let at = c .before .before .before .before .before .before .before .loop in
+    let more = c .before .before .before .before .before .before .loop-test .taken in
+    gathered-next (a .t1) (a .closure) (at .edge) _ _ _
+    (⊎-elim
+    (λ w. rw (w .1, w .2) (gathered-more _ 4096 _ _ _ (at .inv) more (sym (tested (c .before .before)) ∙ w .0 .taken)))
+    (λ w. rw (w .1, w .2) (gathered-same _ 4096 _ _ _ (at .inv) more (sym (tested (c .before .before)) ∙ w .0 .left)))
+    (c .before .if1 .came))
+    (c .next-edge .ensures)
 
 returns : tie.Need-returns Inv-loop μ-loop
 unfolding edgesOf
@@ -98,7 +102,7 @@ edges-of-spec =
     mul-list
     array-write-list
     add-count
-    add-edge
+    next-edge-requires
     loop-less
     loop-again
     returns)
