@@ -9,7 +9,7 @@ use native.Mathlib.Omega.{arith}
 use lib.Dec.{ltb}
 use lib.IntN.{ℤ}
 use lib.ListN.{getD}
-use Rattle.combinators.specs.Those.{those}
+use Rattle.combinators.specs.Those.{those-alike}
 use Rattle.sets.specs.Sets.{has}
 use Rattle.vocabulary.specs.declared.refusal.Refusal.{Refusal}
 use Rattle.vocabulary.specs.declared.refusal.Refusal.the-variants.{OutOfRange, TimeOrderBroken}
@@ -25,11 +25,6 @@ use Rattle.joining.specs.Units.{Frame, frame, rowsBelow, lagsBelow, firstUnpair
 use Rattle.joining.specs.Frames.{frameOf}
 use Rattle.joining.specs.Writing.{over}
 use Rattle.joining.specs.Joining.{places, unitsJoined, tableJoined, joinedIn, joinedOf, numbersAfter, lagsAfter}
-
--- tests that agree below n pass the same numbers
-those-alike : (test other : ℕ → Bool) (n : ℕ) → ((k : ℕ) → k < n → test k ≡ other k) → those test n ≡ those other n
-those-alike test other zero f = refl
-those-alike test other (suc n) f = rw (those-alike test other n (λ k h. f k (omega arith)), f n (omega arith))
 
 module _ (few all : Layers) (closure : ℕ)
     (same : (i : ℕ) → has closure i ≡ true → getD (few .embedded) i 0 ≡ getD (all .embedded) i 0) where

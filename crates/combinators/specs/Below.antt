@@ -11,7 +11,7 @@ use native.Mathlib.Numerals.{add-one}
 use native.Mathlib.Nat.{add-suc, suc-add, zero-add, eq-or-lt-of-le, not-suc-le-zero, le-of-suc-le-suc}
 use borrow.Author.Tests.{lt-ltb, le-ltb, ltb-true, ltb-false}
 use lib.Dec.{T, ltb}
-use Rattle.combinators.specs.Bools.{both-left, both-right, neither-left, neither-right, either-left, either-right, T-true, true-T}
+use Rattle.combinators.specs.Bools.{both-left, both-right, both-ways, neither-left, neither-right, either-left, either-right, T-true, true-T}
 
 -- some number below n passes the test
 abbrev pub some : (ℕ → Bool) → ℕ → Bool
@@ -86,17 +86,14 @@ pub record First (test : ℕ → Bool) (n k : ℕ) : Type 0 where
   pub before : (j : ℕ) → j < k → test j ≡ false
   pub found : k < n → test k ≡ true
 
-apart : {b : Bool} → b ≡ true → b ≡ false → ⊥
-apart p q = let z : _≡_ {A = ℕ} 0 1 = cc in omega arith
-
 module _ (test : ℕ → Bool) where
   -- there is one first place at the most
   pub first-unique : (n j k : ℕ) → First test n j → First test n k → j ≡ k
   first-unique n j k f g = go (decLt j k) (decLt k j)
     where
       go : Dec (j < k) → Dec (k < j) → j ≡ k
-      go (yes h) d = absurd (apart (f .found (omega (arith, g .within))) (g .before j h))
-      go (no h) (yes l) = absurd (apart (g .found (omega (arith, f .within))) (f .before k l))
+      go (yes h) d = both-ways (f .found (omega (arith, g .within))) (g .before j h)
+      go (no h) (yes l) = both-ways (g .found (omega (arith, f .within))) (f .before k l)
       go (no h) (no l) = omega arith
 
   seekFrom-first : (i n : ℕ) → ((j : ℕ) → j < i → test j ≡ false) → First test (i + n) (seekFrom test i n)
@@ -130,7 +127,7 @@ module _ (test : ℕ → Bool) where
     where
       go : (k : ℕ) × (k < n) × (test k ≡ true) → Dec (seek test n < n) → seek test n < n
       go w (yes h) = h
-      go w (no h) = absurd (apart (w .2) (seek-first n .before (w .0) (omega (arith, w .1, seek-first n .within))))
+      go w (no h) = both-ways (w .2) (seek-first n .before (w .0) (omega (arith, w .1, seek-first n .within)))
 
 -- ---- counts
 

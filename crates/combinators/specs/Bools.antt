@@ -1,7 +1,7 @@
--- Tests joined and compared: the few laws of `&&`, `||` and of two tests that agree.
+-- Tests joined and compared: the few laws of `&&`, `||`, of a test that is not both, and of two tests that agree.
 -- Assumes nothing.
-use mathlib.Core.Path.{_≡_, refl, sym}
-use mathlib.Core.Bool.{Bool, true, false, _&&_, _||_, Bool·beq}
+use mathlib.Core.Path.{_≡_, refl, sym, _∙_}
+use mathlib.Core.Bool.{Bool, true, false, _&&_, _||_, Bool·beq, true≢false}
 use lib.Dec.{T}
 
 pub T-true : (a : Bool) → T a → a ≡ true
@@ -47,3 +47,15 @@ pub same-test : (a b : Bool) → (a ≡ true → b ≡ true) → (b ≡ true →
 same-test true b f g = sym (f refl)
 same-test false true f g = g refl
 same-test false false f g = refl
+
+-- a test is not both true and false
+pub apart : {A : Type 0} → false ≡ true → A
+apart e = absurd (true≢false (sym e))
+
+pub both-ways : {A : Type 0} {b : Bool} → b ≡ true → b ≡ false → A
+both-ways p q = absurd (true≢false (sym p ∙ q))
+
+-- a test that is not true is false
+pub false-unless : (b : Bool) → (b ≡ true → ⊥) → b ≡ false
+false-unless true f = absurd (f refl)
+false-unless false f = refl

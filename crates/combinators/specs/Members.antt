@@ -1,7 +1,7 @@
 -- Whether a number stands in a list of numbers.
 -- Assumes nothing.
 use Prim.Native.Nat.{ℕ, zero, suc, _≤_, _<_}
-use mathlib.Core.Path.{_≡_, refl, sym}
+use mathlib.Core.Path.{_≡_, refl, sym, _∙_, ap}
 use mathlib.Core.Logic.{_≢_}
 use mathlib.Core.Bool.{Bool, true, false, not, _&&_, _||_, or-assoc, or-false}
 use mathlib.Core.List.{List, [], _∷_, _++_, map}
@@ -45,10 +45,14 @@ past-member bound (y ∷ ys) e x h =
     let low : y < bound = ltb-true y bound (both-left (ltb y bound) (allBelow bound ys) e) in
     rw (ne-eqb x y (omega arith)) (past-member bound ys (both-right (ltb y bound) (allBelow bound ys) e) x h)
 
+-- of two lists after one another
+pub member-append : (x : ℕ) (l m : List ℕ) → member x (l ++ m) ≡ member x l || member x m
+member-append x [] m = refl
+member-append x (y ∷ ys) m = rw (member-append x ys m, or-assoc (eqb x y) (member x ys) (member x m))
+
 -- one number more at the end
 pub member-last : (x y : ℕ) (l : List ℕ) → member x (l ++ y ∷ []) ≡ member x l || eqb x y
-member-last x y [] = or-false (eqb x y)
-member-last x y (z ∷ zs) = rw (member-last x y zs, or-assoc (eqb x z) (member x zs) (eqb x y))
+member-last x y l = member-append x l (y ∷ []) ∙ ap (λ (b : Bool). member x l || b) (or-false (eqb x y))
 
 -- what stands at a place of the list is a member, and a member stands at a place
 pub member-at : (l : List ℕ) (i : ℕ) → i < length l → member (getD l i 0) l ≡ true

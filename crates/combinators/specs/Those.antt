@@ -17,6 +17,11 @@ abbrev pub those : (ℕ → Bool) → ℕ → List ℕ
 those test zero = []
 those test (suc n) = those test n ++ cond (test n) (n ∷ []) []
 
+-- tests that agree below n pass the same numbers
+pub those-alike : (test other : ℕ → Bool) (n : ℕ) → ((k : ℕ) → k < n → test k ≡ other k) → those test n ≡ those other n
+those-alike test other zero f = refl
+those-alike test other (suc n) f = rw (those-alike test other n (λ k h. f k (omega arith)), f n (omega arith))
+
 module _ (test : ℕ → Bool) where
   -- one number more: it is added at the end where it passes
   one-more : (n : ℕ) → test n ≡ true → those test (suc n) ≡ those test n ++ n ∷ []

@@ -1,13 +1,12 @@
 -- A CALL OF THE LIBRARY, and what is promised of every call alike.
 -- Assumes nothing.
 use Prim.Native.Nat.{ℕ}
-use mathlib.Core.Bool.{Bool, true, false, _||_, true≢false}
-use mathlib.Core.List.{List, [], _∷_, _++_}
+use mathlib.Core.Bool.{Bool, true}
+use mathlib.Core.List.{List, _++_}
 use mathlib.Core.Option.{Option, none, some, Option·some-ne-none}
-use mathlib.Core.Path.{_≡_, refl, sym}
-use lib.Dec.{eqb}
+use mathlib.Core.Path.{_≡_, refl, sym, _∙_}
 use Rattle.combinators.specs.Bools.{either-left, either-right}
-use Rattle.combinators.specs.Members.{member}
+use Rattle.combinators.specs.Members.{member, member-append}
 use Rattle.vocabulary.specs.declared.refusal.Refusal.{Refusal}
 use Rattle.vocabulary.specs.Refusals.{numberOf}
 
@@ -39,27 +38,16 @@ pub record Promised (call : Call) : Type 0 where
   pub untouched : (given : call .Given) (refusal : Refusal) → call .refusalIn (call .answer given) ≡ some refusal
       → call .after given ≡ call .before given
 
--- a number of the first list is one of the two together
-member-first : (number : ℕ) (first second : List ℕ) → member number first ≡ true → member number (first ++ second) ≡ true
-member-first number [] second e = absurd (true≢false (sym e))
-member-first number (x ∷ xs) second e = by (eqb number x) refl (λ e. member-first number xs second e)
-  where
-    by : (b : Bool) → eqb number x ≡ b → (member number xs ≡ true → member number (xs ++ second) ≡ true)
-        → (eqb number x || member number (xs ++ second)) ≡ true
-    by true f rest = either-left (eqb number x) (member number (xs ++ second)) f
-    by false f rest = either-right (eqb number x) (member number (xs ++ second)) (rest (rw f at e))
-
+-- a number of either list is one of the two together
 pub listed-first : (first second : List ℕ) (refusal : Option Refusal) → isListed first refusal ≡ true → isListed (first ++ second) refusal ≡ true
 listed-first first second none e = refl
-listed-first first second (some refusal) e = member-first (numberOf refusal) first second e
-
-member-second : (number : ℕ) (first second : List ℕ) → member number second ≡ true → member number (first ++ second) ≡ true
-member-second number [] second e = e
-member-second number (x ∷ xs) second e = either-right (eqb number x) (member number (xs ++ second)) (member-second number xs second e)
+listed-first first second (some refusal) e =
+    member-append (numberOf refusal) first second ∙ either-left (member (numberOf refusal) first) (member (numberOf refusal) second) e
 
 pub listed-second : (first second : List ℕ) (refusal : Option Refusal) → isListed second refusal ≡ true → isListed (first ++ second) refusal ≡ true
 listed-second first second none e = refl
-listed-second first second (some refusal) e = member-second (numberOf refusal) first second e
+listed-second first second (some refusal) e =
+    member-append (numberOf refusal) first second ∙ either-right (member (numberOf refusal) first) (member (numberOf refusal) second) e
 
 -- an answer that is no refusal
 pub not-refused : {refusal : Refusal} {A : Type 0} → _≡_ {A = Option Refusal} none (some refusal) → A

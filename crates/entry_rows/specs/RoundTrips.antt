@@ -25,7 +25,7 @@ use Rattle.descriptors.specs.declared.records.Record.the-variants.{NoRecord, Hi
 use Rattle.descriptors.specs.Tables.{hierarchyDescriptor, extensionHead}
 use Rattle.descriptors.specs.Records.{noLayer, hierarchyFrom, extensionFrom}
 use Rattle.es_loop.specs.declared.entries.Entry.{Entry}
-use Rattle.loop_writer.specs.Layout.{bitOf, hierarchyFields, extensionFields}
+use Rattle.loop_layout.specs.Layout.{bitOf, hierarchyFields, extensionFields}
 use Rattle.entry_rows.specs.Names.{namesOf, picked}
 use Rattle.entry_rows.specs.Rows.{rowNames, entryTable, layerNumber, headOf, listOf, tailOf, rowOf, kindIn, countIn, fieldsIn, listIn, tooWideFor, layerTooWide, rowTooWide, layerOf, entryIn}
 use Rattle.entry_rows.specs.Laws.{hierarchy-entry, extension-entry, no-record-entry}

@@ -11,7 +11,7 @@ use borrow.Author.Tests.{lt-ltb, le-ltb, ltb-true, eq-eqb, eqb-true, not-true, n
 use lib.Dec.{eqb, ltb}
 use lib.ListN.{length, getD, length-map}
 use Rattle.combinators.specs.Below.{some, some-at, some-which}
-use Rattle.combinators.specs.Bools.{both-left, both-right}
+use Rattle.combinators.specs.Bools.{both-left, both-right, apart, both-ways, false-unless}
 use Rattle.combinators.specs.Lists.{Nth, here, there, nth-inside, nth-getD, getD-nth, getD-map, any, any-true, any-which, gather, handled}
 use Rattle.combinators.specs.Lowest.{Lowest, lowestNumber, earliestPlace, lowest-is}
 use Rattle.combinators.specs.Padding.{padTo}
@@ -112,9 +112,6 @@ broken-last (piece p q c) j (there {k = i} n) = ap suc (broken-last c i n)
 module _ (reading : Reading) (entries : List Item) (last : (j : ℕ) → Nth entries j broken → suc j ≡ length entries) where
   abbrev seens : List Stream
   seens = map (streamOf reading) entries
-
-  apart : {A : Type 0} → false ≡ true → A
-  apart e = let z : _≡_ {A = ℕ} 0 1 = cc in absurd (omega arith)
 
   -- An entry is broken, or of an unknown type, and then nothing is seen of it; or it is a known stream.
   data EntryCase (k : ℕ) : Type 0 where
@@ -307,13 +304,6 @@ condition-number reading entries (embedded-many l w) = omega arith
 
 pub by-head : (head rest : List ℕ) → length head ≡ 5 → esInfoLength (head ++ rest) ≡ esInfoLength head
 by-head head rest h = ap (λ (vs : List ℕ). getD vs 2 0) (read-before entryHead head rest (omega arith))
-
-both-ways : {b : Bool} → b ≡ true → b ≡ false → ⊥
-both-ways p q = let z : _≡_ {A = ℕ} 0 1 = cc in omega arith
-
-false-unless : (b : Bool) → (b ≡ true → ⊥) → b ≡ false
-false-unless true f = absurd (f refl)
-false-unless false f = refl
 
 module _ (reading : Reading) (bytes : List ℕ) where
   abbrev items : List Item

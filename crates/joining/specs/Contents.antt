@@ -30,7 +30,7 @@ use Rattle.joining.specs.Orderly.{Orderly}
 use Rattle.joining.specs.Meaning.{Assembles, TargetRow, InUnit, LeftOut, Extent, TooSmall, for-numbers, for-lags, Untouched, Accepted}
 use Rattle.joining.specs.Chosen.{found, only}
 use Rattle.joining.specs.Shared.{gathered-from, gathered-in, unit-at, unit-long, unit-row, row-place}
-use Rattle.joining.specs.Ascending.{Ascending, those-ascending, ascending-one}
+use Rattle.combinators.specs.Ascending.{Ascending, those-ascending, ascending-one}
 
 -- ---- what is gathered in pieces of one size, place by place
 

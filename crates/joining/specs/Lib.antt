@@ -7,7 +7,6 @@ pub mod Frames
 pub mod Orderly
 pub mod Joining
 pub mod Examples
-pub mod Ascending
 pub mod Meaning
 pub mod FirstRows
 pub mod Ordering

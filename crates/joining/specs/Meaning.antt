@@ -15,7 +15,7 @@ use Rattle.vocabulary.specs.declared.refusal.Refusal.the-variants.{OutOfRange, 
 use Rattle.joining.specs.declared.answer.Joined.{Joined}
 use Rattle.joining.specs.declared.answer.Joined.the-variants.{Units, Refused}
 use Rattle.joining.specs.Table.{Table, rowsIn, layerOf, decodingOf, matchOf}
-use Rattle.joining.specs.Ascending.{Ascending}
+use Rattle.combinators.specs.Ascending.{Ascending}
 
 -- the earliest row of the table of which something holds; and that it holds of no row
 pub record FirstRow (t : Table) (P : ℕ → Type 0) (k : ℕ) : Type 0 where

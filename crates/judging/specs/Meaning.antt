@@ -11,7 +11,7 @@ use borrow.Author.Tests.{ltb-true, lt-ltb, leb-true, le-leb, eqb-true, eqb-false
 use lib.Dec.{eqb, leb, ltb}
 use lib.ListN.{length, getD, take}
 use lib.Seq.{length-take-le, getD-take}
-use Rattle.combinators.specs.Bools.{both-left, both-right, either-left, either-right}
+use Rattle.combinators.specs.Bools.{both-left, both-right, either-left, either-right, apart}
 use Rattle.combinators.specs.Below.{some, some-at, some-which}
 use Rattle.combinators.specs.Members.{member, member-at, member-which}
 use Rattle.vocabulary.specs.StreamTypes.{mayStandOn}
@@ -53,10 +53,6 @@ pub data WrongEmbedded (r : Record) (layers : List LayerIndex) : Type 0 where
 -- 10. 'more than 8 embedded layers'
 pub data TooManyEmbedded : Record → Type 0 where
   more-than-8 : {x : ExtensionRecord} → 8 < x .«num_embedded_layers» → TooManyEmbedded (Extension x)
-
--- a test that is false is not true
-apart : {A : Type 0} → false ≡ true → A
-apart e = let z : _≡_ {A = ℕ} 0 1 = cc in absurd (omega arith)
 
 -- one of two tests holds
 which : {A : Type 0} (a b : Bool) → a || b ≡ true → (a ≡ true → A) → (b ≡ true → A) → A

@@ -9,7 +9,7 @@ use native.Mathlib.Omega.{arith}
 use lib.ListN.{length, getD, length-map, List·getD-eq-default}
 use lib.Pow.{pow-pos}
 use lib.Seq.{ext-getD, take-at}
-use Rattle.combinators.specs.Bools.{either-right, same-test}
+use Rattle.combinators.specs.Bools.{either-right, same-test, both-ways}
 use Rattle.combinators.specs.Members.{member, nth-member, member-nth}
 use Rattle.sets.specs.Sets.{has}
 use Rattle.sets.specs.Laws.{has-none, has-within, same-members}
@@ -35,9 +35,6 @@ use Rattle.loop_layers.specs.Closures.{entriesRead, closureIn, loopClosu
 use Rattle.loop_layers.specs.Meaning.{HasLayer, Embeds, LayersOf, TableOf, Answers, loop-refused, loop-accepted}
 use Rattle.loop_layers.specs.Columns.{layer-stands, LayerOrNone, a-layer, no-layer, layer-or-none, has-layer, column-meant, column-only}
 
-apart : {A : Type 0} {b : Bool} → b ≡ true → b ≡ false → A
-apart p q = absurd (true≢false (sym p ∙ q))
-
 -- THE LAYERS computed have the meaning.
 module _ (entries : List Entry) where
   present-means : (i : ℕ) → has (presentIn entries) i ≡ true → HasLayer entries i
@@ -60,7 +57,7 @@ module _ (entries : List Entry) where
   embedded-means i j e = inside (decLt i 64)
     where
       nothing : {set : ℕ} → has set j ≡ true → set ≡ 0 → Embeds entries i j
-      nothing m z = apart m (ap (λ (s : ℕ). has s j) z ∙ has-none j)
+      nothing m z = both-ways m (ap (λ (s : ℕ). has s j) z ∙ has-none j)
 
       go : i < 64 → LayerOrNone entries i → Embeds entries i j
       go h (a-layer x l) =

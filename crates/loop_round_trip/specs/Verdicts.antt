@@ -12,7 +12,7 @@ use lib.Dec.{eqb}
 use lib.ListN.{length, getD, take, replicate}
 use lib.Seq.{length-take-le, take-at}
 use Rattle.combinators.specs.Below.{some-at, some-which, some-same}
-use Rattle.combinators.specs.Bools.{both-left, both-right, neither-left, neither-right}
+use Rattle.combinators.specs.Bools.{both-left, both-right, neither-left, neither-right, apart, false-unless}
 use Rattle.combinators.specs.Lists.{Nth, getD-nth, nth-map, getD-map, any, any-false, handled}
 use Rattle.combinators.specs.Lowest.{Lowest}
 use Rattle.combinators.specs.Padding.{padTo}
@@ -31,10 +31,6 @@ use Rattle.loop_layout.specs.Layout.{tooWideIn, recordTables, tooWide}
 use Rattle.loop_layout.specs.Sizes.{record-fit, count-small}
 use Rattle.loop_verdict.specs.Verdict.{streamFor, onUnknownType, appliesTo}
 use Rattle.loop_round_trip.specs.ReadBack.{layersKept, normal, withoutRecord, readAs, Typed, typed-at}
-
--- a test that is false is not true
-apart : {A : Type 0} → false ≡ true → A
-apart e = let z : _≡_ {A = ℕ} 0 1 = cc in absurd (omega arith)
 
 -- ONE ENTRY, by whether its type is known
 by-type : (e : Entry) (P : Entry → Type 0) → (known Edition2015 (e .«stream_type») ≡ true → P (normal e))
@@ -217,10 +213,6 @@ module _ (es : List Entry) (typed : Typed es) (fit : any tooWide es ≡ false) w
       ten p x y = rw (read-normal e (y (omega arith) k (omega arith))) p
 
   -- THE LOWEST NUMBER IS THE SAME.
-  false-unless : (b : Bool) → (b ≡ true → ⊥) → b ≡ false
-  false-unless true f = absurd (f refl)
-  false-unless false f = refl
-
   not-read : (n k : ℕ) → k < length es → appliesTo es n k ≡ false → applies seen n k ≡ false
   not-read n k h f =
       false-unless (applies seen n k)

@@ -9,7 +9,7 @@ use borrow.Author.Tests.{lt-ltb, le-ltb, ltb-true, ltb-false, eq-eqb, eqb-true, 
 use lib.Dec.{eqb, ltb}
 use lib.ListN.{length, getD, take}
 use Rattle.combinators.specs.Below.{some-at, some-which}
-use Rattle.combinators.specs.Bools.{both-left, both-right, either-left, either-right}
+use Rattle.combinators.specs.Bools.{both-left, both-right, either-left, either-right, apart, both-ways, false-unless}
 use Rattle.combinators.specs.Lists.{Nth, here, nth-inside, nth-getD, getD-nth, getD-map, any, any-true, any-false, any-which, handled}
 use Rattle.combinators.specs.Lowest.{Lowest, lowestNumber, earliestPlace, lowest-number, earliest-place, lowest-is}
 use Rattle.syntax.specs.Table.{fits}
@@ -27,17 +27,6 @@ use Rattle.loop_verdict.specs.Verdict.{streamFor, onUnknownType, appliesTo}
 use Rattle.loop_writer.specs.declared.Written.{Written}
 use Rattle.loop_writer.specs.Writing.{answer}
 use Rattle.loop_writer.specs.Meaning.{SomeTooWide, too-wide-at, EachFits, Condition, pid-seen, type-wrong, type-unknown, flags-wrong, index-held, embedded-wrong, embedded-many, Answers, too-wide, too-many, too-long, refuses, no-room, accepts}
-
--- a test that is false is not true
-apart : {A : Type 0} → false ≡ true → A
-apart e = let z : _≡_ {A = ℕ} 0 1 = cc in absurd (omega arith)
-
-both-ways : {b : Bool} → b ≡ true → b ≡ false → ⊥
-both-ways p q = let z : _≡_ {A = ℕ} 0 1 = cc in omega arith
-
-false-unless : (b : Bool) → (b ≡ true → ⊥) → b ≡ false
-false-unless true f = absurd (f refl)
-false-unless false f = refl
 
 module _ (es : List Entry) where
   -- 25
