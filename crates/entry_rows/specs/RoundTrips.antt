@@ -3,17 +3,13 @@
 -- Assumes nothing.
 use Prim.Native.Nat.{ℕ, zero, suc, _-_, _≤_, _<_, min}
 use mathlib.Core.Path.{_≡_, refl, sym, _∙_, ap, ap₂, subst}
-use mathlib.Core.Bool.{Bool, true, false, not, cond, _&&_, _||_}
+use mathlib.Core.Bool.{Bool, true, false, cond}
 use mathlib.Core.List.{List, [], _∷_, _++_, map}
 use native.Mathlib.Omega.{arith}
-use borrow.Author.Tests.{not-false, ltb-false}
-use lib.Dec.{eqb, ltb}
+use lib.Dec.{eqb}
 use lib.ListN.{length, getD, take, drop, replicate, length-map, length-take, length-append, length-replicate, take-append-drop}
 use lib.Seq.{take-at}
-use Rattle.combinators.specs.Bools.{neither-left, neither-right}
-use Rattle.combinators.specs.Lists.{any}
 use Rattle.combinators.specs.Padding.{padTo, length-padTo}
-use Rattle.syntax.specs.Table.{Table, fits}
 use Rattle.syntax.specs.Laws.{fits-fit}
 use Rattle.syntax.specs.Equations.{Bounds, bounds}
 use Rattle.vocabulary.specs.declared.LayerIndex.{LayerIndex}
@@ -27,7 +23,8 @@ use Rattle.descriptors.specs.Records.{noLayer, hierarchyFrom, extensionFrom}
 use Rattle.es_loop.specs.declared.entries.Entry.{Entry}
 use Rattle.loop_layout.specs.Layout.{bitOf, hierarchyFields, extensionFields}
 use Rattle.entry_rows.specs.Names.{namesOf, picked}
-use Rattle.entry_rows.specs.Rows.{rowNames, entryTable, layerNumber, headOf, listOf, tailOf, rowOf, kindIn, countIn, fieldsIn, listIn, tooWideFor, layerTooWide, rowTooWide, layerOf, entryIn}
+use Rattle.entry_rows.specs.Rows.{rowNames, entryTable, layerNumber, headOf, listOf, tailOf, rowOf, kindIn, countIn, fieldsIn, listIn, rowTooWide, layerOf, entryIn}
+use Rattle.entry_rows.specs.Judged.{kind-fine, within-tables}
 use Rattle.entry_rows.specs.Laws.{hierarchy-entry, extension-entry, no-record-entry}
 
 -- ---- from an entry to its row and back
@@ -96,12 +93,12 @@ bit-there zero h = refl
 bit-there (suc zero) h = refl
 bit-there (suc (suc v)) h = absurd (omega arith)
 
-hierarchy-there : (row : List ℕ) → Bounds (hierarchyDescriptor Edition2015) (fieldsIn (hierarchyDescriptor Edition2015) row)
+pub hierarchy-there : (row : List ℕ) → Bounds (hierarchyDescriptor Edition2015) (fieldsIn (hierarchyDescriptor Edition2015) row)
     → hierarchyFields (hierarchyFrom (fieldsIn (hierarchyDescriptor Edition2015) row)) ≡ fieldsIn (hierarchyDescriptor Edition2015) row
 hierarchy-there row b =
     rw (bit-there (getD row 3 0) (b .0), bit-there (getD row 4 0) (b .1 .0), bit-there (getD row 5 0) (b .1 .1 .0), bit-there (getD row 6 0) (b .1 .1 .1 .0), bit-there (getD row 9 0) (b .1 .1 .1 .1 .1 .1 .0))
 
-extension-there : (row : List ℕ) → Bounds extensionHead (fieldsIn extensionHead row)
+pub extension-there : (row : List ℕ) → Bounds extensionHead (fieldsIn extensionHead row)
     → extensionFields (extensionFrom (fieldsIn extensionHead row)) ≡ fieldsIn extensionHead row
 extension-there row b = rw (bit-there (getD row 9 0) (b .1 .1 .1 .1 .0))
 
@@ -110,17 +107,6 @@ numbers-back [] = refl
 numbers-back (index ∷ list) = ap (λ (l : List ℕ). index ∷ l) (numbers-back list)
 
 module _ (row : List ℕ) (own : OwnRow row) where
-  within-tables : fits (entryTable (kindIn row)) (fieldsIn (entryTable (kindIn row)) row) ≡ true
-  unfolding rowTooWide
-  within-tables =
-      not-false _
-      (neither-left (tooWideFor (entryTable (kindIn row)) row) (eqb (kindIn row) 2 && any layerTooWide (listIn row))
-      (neither-right (ltb 2 (kindIn row)) _ (own .fitting)))
-
-  kind-known : kindIn row ≤ 2
-  unfolding rowTooWide
-  kind-known = ltb-false 2 (kindIn row) (neither-left (ltb 2 (kindIn row)) _ (own .fitting))
-
   parts : picked rowNames (namesOf (entryTable (kindIn row))) (fieldsIn (entryTable (kindIn row)) row) ++ padTo 64 0 (cond (eqb (kindIn row) 2) (listIn row) []) ≡ row
   parts = ap₂ (λ (a b : List ℕ). a ++ b) (sym (own .head)) (sym (own .tail)) ∙ take-append-drop 16 row
 
@@ -133,7 +119,7 @@ module _ (row : List ℕ) (own : OwnRow row) where
   bounds-of : (kind : ℕ) → kindIn row ≡ kind → Bounds (entryTable kind) (fieldsIn (entryTable kind) row)
   bounds-of kind e =
       subst (λ (k : ℕ). Bounds (entryTable k) (fieldsIn (entryTable k) row)) e
-      (bounds (fits-fit (entryTable (kindIn row)) (fieldsIn (entryTable (kindIn row)) row) within-tables))
+      (bounds (fits-fit (entryTable (kindIn row)) (fieldsIn (entryTable (kindIn row)) row) (within-tables row (own .fitting))))
 
   no-record-again : kindIn row ≡ 0 → rowOf (entryIn row) ≡ row
   unfolding headOf tailOf
@@ -175,7 +161,7 @@ module _ (row : List ℕ) (own : OwnRow row) where
 
   -- THE ROW OF A ROW'S ENTRY is the row.
   pub row-again : rowOf (entryIn row) ≡ row
-  row-again = go (kindIn row) refl kind-known
+  row-again = go (kindIn row) refl (kind-fine row (own .fitting))
     where
       go : (kind : ℕ) → kindIn row ≡ kind → kind ≤ 2 → rowOf (entryIn row) ≡ row
       go zero e h = no-record-again e

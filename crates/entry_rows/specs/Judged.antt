@@ -56,7 +56,7 @@ module _ (row : List ℕ) where
     no-record-fine e = rw (e, lt-ltb (getD row 0 0) 256 type-fine, lt-ltb (getD row 1 0) 8192 pid-fine)
 
   module _ (fine : rowTooWide row ≡ false) where
-    within-tables : fits (entryTable (kindIn row)) (fieldsIn (entryTable (kindIn row)) row) ≡ true
+    pub within-tables : fits (entryTable (kindIn row)) (fieldsIn (entryTable (kindIn row)) row) ≡ true
     unfolding rowTooWide
     within-tables =
         not-false _ (neither-left (tooWideFor (entryTable (kindIn row)) row) listed (neither-right (ltb 2 (kindIn row)) _ fine))
