@@ -23,8 +23,8 @@ use Rattle.descriptors.specs.Tables.{hierarchyDescriptor, extensionHead}
 use Rattle.descriptors.specs.Records.{noLayer, hierarchyFrom, extensionFrom}
 use Rattle.es_loop.specs.declared.entries.Entry.{Entry}
 use Rattle.es_loop.specs.Entries.{blankEntry}
-use Rattle.loop_writer.specs.Layout.{tooWideIn, layerTable, recordTables, infoBytes, tooWide}
-use Rattle.loop_writer.specs.Sizes.{info-short}
+use Rattle.loop_layout.specs.Layout.{tooWideIn, layerTable, recordTables, infoBytes, tooWide}
+use Rattle.loop_layout.specs.Sizes.{info-short}
 use Rattle.entry_rows.specs.Rows.{kindIn, countIn, fieldsIn, listIn, layerTooWide, rowTooWide, layerOf, entryIn, rowCount, rowAt, someTooWide, entriesBelow, entriesIn}
 use Rattle.entry_rows.specs.Laws.{hierarchy-entry, extension-entry, no-record-entry}
 use Rattle.entry_rows.specs.Judged.{kind-fine, type-bound, pid-bound, hierarchy-fine, extension-fine, list-fine}

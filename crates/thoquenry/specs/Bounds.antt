@@ -23,18 +23,19 @@ use Rattle.vocabulary.specs.declared.stream_types.Reading.{Reading}
 use Rattle.vocabulary.specs.declared.refusal.Refusal.{Refusal}
 use Rattle.vocabulary.specs.declared.refusal.Refusal.the-variants.{LoopTooLong, DoesNotFit, RepeatedPid, WrongLength, SecondRecord, TypeNotAllowed, WrongFlags, RepeatedLayerIndex, WrongEmbeddedIndex, TooManyEmbedded, NoSuchLayer, EmbeddedLayerAbsent, OutOfRange, TimeOrderBroken, Unpaired, UsedTwice, NoRoom, NotVideoHeader, NoPts, FieldsDoNotFit, WrongMarker, PtsBeforeDts, TooWide}
 use Rattle.vocabulary.specs.Refusals.{numberOf, placeOf}
-use Rattle.pes.specs.declared.stamp.Stamps.{Stamps}
-use Rattle.pes.specs.declared.header_data.Extension.{Extension}
-use Rattle.pes.specs.declared.header_data.Extension.the-variants.{DoesNotFit as DataDoNotFit, WithoutTref, WithTref}
-use Rattle.pes.specs.declared.Answer.{Answer}
-use Rattle.pes.specs.declared.Answer.the-variants.{Times, Refused as NotRead}
-use Rattle.pes.specs.declared.writer.Written.{Written as HeaderWritten}
-use Rattle.pes.specs.declared.writer.Written.the-variants.{Bytes as HeaderBytes, Refused as NoHeader}
-use Rattle.pes.specs.Tables.{head as packetHead, ptsAlone, ptsBeforeDts, dts, tref}
-use Rattle.pes.specs.Stamps.{stampsOf}
-use Rattle.pes.specs.HeaderData.{flagsOf, headerDataOf}
-use Rattle.pes.specs.Reading.{isVideoHeader, dataOf, judged as timesJudged, timesOf, fieldsOf, videoHeaderOf, readOf}
-use Rattle.pes.specs.Writing.{timeField, timeFields, trefHead, trefFields, dataFields, headOf, headerOf, tooWide as timesTooWide, writeOf}
+use Rattle.stamps.specs.declared.Stamps.{Stamps}
+use Rattle.pes_fields.specs.declared.Extension.{Extension}
+use Rattle.pes_fields.specs.declared.Extension.the-variants.{DoesNotFit as DataDoNotFit, WithoutTref, WithTref}
+use Rattle.pes_reader.specs.declared.Answer.{Answer}
+use Rattle.pes_reader.specs.declared.Answer.the-variants.{Times, Refused as NotRead}
+use Rattle.pes_writer.specs.declared.Written.{Written as HeaderWritten}
+use Rattle.pes_writer.specs.declared.Written.the-variants.{Bytes as HeaderBytes, Refused as NoHeader}
+use Rattle.stamps.specs.Tables.{ptsAlone, ptsBeforeDts, dts, tref}
+use Rattle.pes_fields.specs.Tables.{head as packetHead}
+use Rattle.stamps.specs.Stamps.{stampsOf, timeField}
+use Rattle.pes_fields.specs.HeaderData.{flagsOf, headerDataOf}
+use Rattle.pes_reader.specs.Reading.{isVideoHeader, dataOf, judged as timesJudged, timesOf, fieldsOf, videoHeaderOf, readOf}
+use Rattle.pes_writer.specs.Writing.{timeFields, trefHead, trefFields, dataFields, headOf, headerOf, tooWide as timesTooWide, writeOf}
 use Rattle.closure.specs.declared.Layers.{Layers}
 use Rattle.closure.specs.declared.Closure.{Closure}
 use Rattle.closure.specs.declared.Closure.the-variants.{Complete, Refused as NoClosure}
@@ -49,8 +50,9 @@ use Rattle.es_loop.specs.Conditions.{applies, refusalOf}
 use Rattle.es_loop.specs.Reading.{refusedWith, accepted as loopAccepted, judged, loopRead}
 use Rattle.loop_writer.specs.declared.Written.{Written}
 use Rattle.loop_writer.specs.declared.Written.the-variants.{Bytes, Refused as NotWritten}
-use Rattle.loop_writer.specs.Layout.{loopBytes, tooWide}
-use Rattle.loop_writer.specs.Writing.{appliesTo, inRoom, judgedIn, answer}
+use Rattle.loop_layout.specs.Layout.{loopBytes, tooWide}
+use Rattle.loop_verdict.specs.Verdict.{appliesTo}
+use Rattle.loop_writer.specs.Writing.{inRoom, judgedIn, answer}
 use Rattle.loop_layers.specs.Layers.{layersOf}
 use Rattle.loop_layers.specs.Closures.{entriesRead, closureFor, loopClosure}
 use Rattle.joining.specs.declared.answer.Joined.{Joined}
