@@ -1,18 +1,21 @@
--- How long rows are: 80 numbers each; and a count beyond a list.
+-- How long rows are: 80 numbers each; a count beyond a list; and the entry of a row, kind by kind.
 -- Assumes nothing.
 use Prim.Native.Nat.{ℕ, zero, suc, _+_, _*_, _≤_, _<_, min}
 use mathlib.Core.Path.{_≡_, refl, sym, _∙_, ap, ap₂}
 use mathlib.Core.List.{List, [], _∷_, map}
 use native.Mathlib.Decide.{decLt}
 use native.Mathlib.Omega.{arith}
-use lib.ListN.{length, take, length-append, length-map, length-take}
+use lib.ListN.{length, getD, take, length-append, length-map, length-take}
 use lib.Seq.{take-all}
-use Rattle.combinators.specs.Padding.{length-padTo}
+use Rattle.combinators.specs.Padding.{padTo, length-padTo}
 use Rattle.vocabulary.specs.declared.LayerIndex.{LayerIndex}
 use Rattle.descriptors.specs.declared.records.Record.{Record}
 use Rattle.descriptors.specs.declared.records.Record.the-variants.{NoRecord, Hierarchy, Extension}
+use Rattle.vocabulary.specs.declared.stream_types.Reading.the-variants.{Edition2015}
+use Rattle.descriptors.specs.Tables.{hierarchyDescriptor, extensionHead}
+use Rattle.descriptors.specs.Records.{noLayer, hierarchyFrom, extensionFrom}
 use Rattle.es_loop.specs.declared.entries.Entry.{Entry}
-use Rattle.entry_rows.specs.Rows.{layerNumber, headOf, listOf, tailOf, rowOf, rowsOf}
+use Rattle.entry_rows.specs.Rows.{layerNumber, headOf, listOf, tailOf, rowOf, fieldsIn, listIn, layerOf, entryIn, rowsOf}
 
 -- a count beyond a list takes all of it
 pub within : {A : Type 0} (l : List A) (count given size : ℕ) → length l ≡ size → given ≡ min count size → take given l ≡ take count l
@@ -44,3 +47,22 @@ pub rows-length : (entries : List Entry) → length (rowsOf entries) ≡ length 
 rows-length [] = refl
 rows-length (e ∷ entries) =
     length-append (rowOf e) (rowsOf entries) ∙ omega (arith, row-length e, rows-length entries)
+
+-- the entry of a row, for each kind of record
+module _ (row : List ℕ) where
+  pub hierarchy-entry : getD row 2 0 ≡ 1
+      → record { «stream_type» = getD row 0 0; pid = getD row 1 0; «record» = Hierarchy (hierarchyFrom (fieldsIn (hierarchyDescriptor Edition2015) row)); embedded = padTo 63 noLayer [] }
+      ≡ entryIn row
+  unfolding entryIn
+  hierarchy-entry e = rw e
+
+  pub extension-entry : getD row 2 0 ≡ 2
+      → record { «stream_type» = getD row 0 0; pid = getD row 1 0; «record» = Extension (extensionFrom (fieldsIn extensionHead row)); embedded = padTo 63 noLayer (map layerOf (listIn row)) }
+      ≡ entryIn row
+  unfolding entryIn
+  extension-entry e = rw e
+
+  pub no-record-entry : getD row 2 0 ≡ 0
+      → record { «stream_type» = getD row 0 0; pid = getD row 1 0; «record» = NoRecord; embedded = padTo 63 noLayer [] } ≡ entryIn row
+  unfolding entryIn
+  no-record-entry e = rw e

@@ -1,89 +1,304 @@
--- What the answer of joining is bounded by: there are at most 512 rows, and so at most as many units, and at most 64 layers.
+-- HOW LARGE A VALUE CAN BE. No place of a refusal is above 1,008, the bytes of the longest loop; there are at most 512 rows, and so at most as many units, and
+-- at most 64 layers. So every value that a call answers is far below 2^56, and a caller's THQ_VALUE gives back the whole of it.
 -- Assumes nothing.
-use Prim.Native.Nat.{ℕ, _*_, _^_, _≤_, _<_}
-use mathlib.Core.Path.{_≡_, refl}
-use mathlib.Core.Bool.{Bool, true, false, not, cond, _||_}
-use mathlib.Core.List.{List}
+use Prim.Native.Nat.{ℕ, zero, suc, _+_, _*_, _/_, _%_, _^_, _≤_, _<_}
+use mathlib.Core.Path.{_≡_, refl, _∙_}
+use mathlib.Core.Bool.{Bool, true, false, not, cond, _&&_, _||_}
+use mathlib.Core.List.{List, [], _∷_, _++_, map}
 use native.Mathlib.Nat.{mul-le-mul-left}
 use native.Mathlib.Omega.{arith}
 use borrow.Author.Tests.{ltb-false}
-use lib.Dec.{eqb, ltb}
-use lib.ListN.{length}
-use Rattle.combinators.specs.Below.{count-short}
-use Rattle.combinators.specs.Bools.{neither-right}
+use lib.Dec.{eqb, leb, ltb}
+use lib.ListN.{length, getD, take, drop, length-map, length-take, length-append}
+use Rattle.combinators.specs.Below.{some, seek, seek-first, count-short}
+use Rattle.combinators.specs.Bools.{neither-left, neither-right}
+use Rattle.combinators.specs.Lists.{any}
+use Rattle.combinators.specs.Lowest.{lowestNumber, earliestPlace}
+use Rattle.syntax.specs.Table.{number}
+use Rattle.syntax.specs.Named.{named}
+use Rattle.framing.specs.Pieces.{Item, whole, broken, cutWithin, cut}
 use Rattle.sets.specs.Sets.{has, size}
+use Rattle.clock.specs.Clock.{isBefore}
 use Rattle.vocabulary.specs.declared.stream_types.Reading.{Reading}
-use Rattle.vocabulary.specs.declared.refusal.Refusal.the-variants.{OutOfRange, TimeOrderBroken, Unpaired, UsedTwice, NoRoom}
+use Rattle.vocabulary.specs.declared.refusal.Refusal.{Refusal}
+use Rattle.vocabulary.specs.declared.refusal.Refusal.the-variants.{LoopTooLong, DoesNotFit, RepeatedPid, WrongLength, SecondRecord, TypeNotAllowed, WrongFlags, RepeatedLayerIndex, WrongEmbeddedIndex, TooManyEmbedded, NoSuchLayer, EmbeddedLayerAbsent, OutOfRange, TimeOrderBroken, Unpaired, UsedTwice, NoRoom, NotVideoHeader, NoPts, FieldsDoNotFit, WrongMarker, PtsBeforeDts, TooWide}
+use Rattle.vocabulary.specs.Refusals.{numberOf, placeOf}
+use Rattle.pes.specs.declared.stamp.Stamps.{Stamps}
+use Rattle.pes.specs.declared.header_data.Extension.{Extension}
+use Rattle.pes.specs.declared.header_data.Extension.the-variants.{DoesNotFit as DataDoNotFit, WithoutTref, WithTref}
+use Rattle.pes.specs.declared.Answer.{Answer}
+use Rattle.pes.specs.declared.Answer.the-variants.{Times, Refused as NotRead}
+use Rattle.pes.specs.declared.writer.Written.{Written as HeaderWritten}
+use Rattle.pes.specs.declared.writer.Written.the-variants.{Bytes as HeaderBytes, Refused as NoHeader}
+use Rattle.pes.specs.Tables.{head as packetHead, ptsAlone, ptsBeforeDts, dts, tref}
+use Rattle.pes.specs.Stamps.{stampsOf}
+use Rattle.pes.specs.HeaderData.{flagsOf, headerDataOf}
+use Rattle.pes.specs.Reading.{isVideoHeader, dataOf, judged as timesJudged, timesOf, fieldsOf, videoHeaderOf, readOf}
+use Rattle.pes.specs.Writing.{timeField, timeFields, trefHead, trefFields, dataFields, headOf, headerOf, tooWide as timesTooWide, writeOf}
 use Rattle.closure.specs.declared.Layers.{Layers}
 use Rattle.closure.specs.declared.Closure.{Closure}
 use Rattle.closure.specs.declared.Closure.the-variants.{Complete, Refused as NoClosure}
-use Rattle.closure.specs.Closures.{closureOf}
+use Rattle.closure.specs.Closures.{isLayer, lacks, restedOn, answerFor, closureOf}
+use Rattle.es_loop.specs.declared.entries.Entry.{Entry}
+use Rattle.es_loop.specs.declared.entries.Stream.{Stream}
 use Rattle.es_loop.specs.declared.reader.Outcome.{Outcome}
 use Rattle.es_loop.specs.declared.reader.Outcome.the-variants.{Accepted, Refused as LoopRefused}
 use Rattle.es_loop.specs.declared.reader.LoopRead.{LoopRead}
-use Rattle.es_loop.specs.Reading.{loopRead}
+use Rattle.es_loop.specs.Entries.{esInfoLength, streamOf, streamsOf}
+use Rattle.es_loop.specs.Conditions.{applies, refusalOf}
+use Rattle.es_loop.specs.Reading.{refusedWith, accepted as loopAccepted, judged, loopRead}
+use Rattle.loop_writer.specs.declared.Written.{Written}
+use Rattle.loop_writer.specs.declared.Written.the-variants.{Bytes, Refused as NotWritten}
+use Rattle.loop_writer.specs.Layout.{loopBytes, tooWide}
+use Rattle.loop_writer.specs.Writing.{appliesTo, inRoom, judgedIn, answer}
+use Rattle.loop_layers.specs.Layers.{layersOf}
+use Rattle.loop_layers.specs.Closures.{entriesRead, closureFor, loopClosure}
 use Rattle.joining.specs.declared.answer.Joined.{Joined}
 use Rattle.joining.specs.declared.answer.Joined.the-variants.{Units, Refused}
-use Rattle.joining.specs.Table.{Table, rowsIn, wrongShape, firstOutOfRange, firstBroken}
-use Rattle.joining.specs.Units.{Frame, isTarget, firstUnpaired, firstShared, unitsIn, leftOut}
+use Rattle.joining.specs.Table.{Table, rowsIn, wrongShape, outOfRange, firstOutOfRange, breaksOrder, firstBroken}
+use Rattle.joining.specs.Units.{Frame, isTarget, unpaired, shares, firstUnpaired, firstShared, unitsIn, leftOut}
 use Rattle.joining.specs.Frames.{frameOf}
 use Rattle.joining.specs.Joining.{places, unitsJoined, tableJoined, joinedIn, joinedOf}
 use Rattle.importing.specs.Importing.{layersRead, importFor, importOf}
+use Rattle.thoquenry.specs.Answers.{accepted, refused, number-of, value-of}
 
-abbrev pub Few : Joined → Type 0
-Few (Units closure units leftOut) = units ≤ 512
-Few (Refused refusal) = Unit {0}
+-- a place, or what a loop's bytes bound
+abbrev pub Placed : Refusal → Type 0
+Placed refusal = placeOf refusal ≤ 1008
 
-few-cond : (test : Bool) (a b : Joined) → Few a → Few b → Few (cond test a b)
-few-cond true a b p q = p
-few-cond false a b p q = q
+-- either case of a test
+module _ {A : Type 0} (P : A → Type 0) where
+  either : (test : Bool) (a b : A) → P a → P b → P (cond test a b)
+  either true a b p q = p
+  either false a b p q = q
 
-few-units : (t : Table) (closure : ℕ) (f : Frame) (numberRoom lagRoom : ℕ) → rowsIn t ≤ 512 → Few (unitsJoined t closure f numberRoom lagRoom)
-few-units t closure f numberRoom lagRoom h =
-    few-cond (ltb (firstUnpaired t f) (rowsIn t)) (Refused (Unpaired (firstUnpaired t f))) _ tt
-    (few-cond (ltb (firstShared t f) (rowsIn t)) (Refused (UsedTwice (firstShared t f))) _ tt
-    (few-cond (ltb numberRoom (places t f)) (Refused NoRoom) _ tt
-    (few-cond (ltb lagRoom (places t f)) (Refused NoRoom) (Units closure (unitsIn t f) (leftOut t closure f)) tt
-    (omega (arith, count-short (isTarget t f) (rowsIn t))))))
+  or-else : (test : Bool) (a b : A) → P a → (test ≡ false → P b) → P (cond test a b)
+  or-else true a b p q = p
+  or-else false a b p q = q refl
 
-few-table : (layers : Layers) (target : ℕ) (t : Table) (closure numberRoom lagRoom : ℕ) → Few (tableJoined layers target t closure numberRoom lagRoom)
-few-table layers target t closure numberRoom lagRoom = go (wrongShape t) refl
-  where
-    later : Joined
-    later =
-        cond (ltb (firstOutOfRange t) (rowsIn t)) (Refused (OutOfRange (firstOutOfRange t)))
-        (cond (ltb (firstBroken t closure) (rowsIn t)) (Refused (TimeOrderBroken (firstBroken t closure)))
-        (unitsJoined t closure (frameOf layers closure target) numberRoom lagRoom))
+-- ---- the caller's two macros
 
-    go : (b : Bool) → wrongShape t ≡ b → Few (cond b (Refused (OutOfRange 0)) later)
-    go true e = tt
-    go false e =
-        let short : rowsIn t ≤ 512 =
-        ltb-false 512 (rowsIn t) (neither-right (not (eqb (length (t .matches)) (rowsIn t))) (ltb 512 (rowsIn t)) (neither-right (not (eqb (length (t .decodings)) (rowsIn t))) _ e)) in
-        few-cond (ltb (firstOutOfRange t) (rowsIn t)) (Refused (OutOfRange (firstOutOfRange t))) _ tt
-        (few-cond (ltb (firstBroken t closure) (rowsIn t)) (Refused (TimeOrderBroken (firstBroken t closure))) _ tt
-        (few-units t closure (frameOf layers closure target) numberRoom lagRoom short))
+number-small : (refusal : Refusal) → numberOf refusal < 256
+number-small LoopTooLong = omega arith
+number-small (DoesNotFit entry) = omega arith
+number-small (RepeatedPid entry) = omega arith
+number-small (WrongLength entry) = omega arith
+number-small (SecondRecord entry) = omega arith
+number-small (TypeNotAllowed entry) = omega arith
+number-small (WrongFlags entry) = omega arith
+number-small (RepeatedLayerIndex entry) = omega arith
+number-small (WrongEmbeddedIndex entry) = omega arith
+number-small (TooManyEmbedded entry) = omega arith
+number-small NoSuchLayer = omega arith
+number-small (EmbeddedLayerAbsent index) = omega arith
+number-small (OutOfRange row) = omega arith
+number-small (TimeOrderBroken row) = omega arith
+number-small (Unpaired row) = omega arith
+number-small (UsedTwice row) = omega arith
+number-small NoRoom = omega arith
+number-small NotVideoHeader = omega arith
+number-small NoPts = omega arith
+number-small FieldsDoNotFit = omega arith
+number-small WrongMarker = omega arith
+number-small PtsBeforeDts = omega arith
+number-small TooWide = omega arith
 
-few-closure : (layers : Layers) (target : ℕ) (t : Table) (numberRoom lagRoom : ℕ) (c : Closure) → Few (joinedIn layers target t numberRoom lagRoom c)
-few-closure layers target t numberRoom lagRoom (Complete closure) = few-table layers target t closure numberRoom lagRoom
-few-closure layers target t numberRoom lagRoom (NoClosure refusal) = tt
+pub refused-number : (refusal : Refusal) → refused refusal % 256 ≡ numberOf refusal
+refused-number refusal = number-of (numberOf refusal) (placeOf refusal) (number-small refusal)
 
-pub few-joined : (layers : Layers) (target : ℕ) (t : Table) (numberRoom lagRoom : ℕ) → Few (joinedOf layers target t numberRoom lagRoom)
-few-joined layers target t numberRoom lagRoom = few-closure layers target t numberRoom lagRoom (closureOf layers target)
+pub refused-place : (refusal : Refusal) → Placed refusal → refused refusal / 256 ≡ placeOf refusal
+refused-place refusal h = value-of (numberOf refusal) (placeOf refusal) (number-small refusal) (omega arith)
 
-few-import : (o : Outcome) (layers : Layers) (target : ℕ) (t : Table) (numberRoom lagRoom : ℕ) → Few (importFor o layers target t numberRoom lagRoom)
-few-import Accepted layers target t numberRoom lagRoom = few-joined layers target t numberRoom lagRoom
-few-import (LoopRefused refusal) layers target t numberRoom lagRoom = tt
+pub accepted-number : (count : ℕ) → accepted count % 256 ≡ 0
+accepted-number count = number-of 0 count (omega arith)
 
-pub few-imported : (reading : Reading) (bytes : List ℕ) (target : ℕ) (t : Table) (numberRoom lagRoom : ℕ)
-    → Few (importOf reading bytes target t numberRoom lagRoom)
-few-imported reading bytes target t numberRoom lagRoom =
-    few-import (loopRead reading bytes .outcome) (layersRead (loopRead reading bytes)) target t numberRoom lagRoom
+pub accepted-count : (count : ℕ) → count ≤ 32768 → accepted count / 256 ≡ count
+accepted-count count h = value-of 0 count (omega arith) (omega arith)
 
--- a set of numbers below 64 has at most 64 members, so that the places of all units can be counted
+-- ---- times: every place is 0
+
+abbrev pub SmallTimes : Answer → Type 0
+SmallTimes (Times pts decoding matching) = Unit {0}
+SmallTimes (NotRead refusal) = Placed refusal
+
+small-judged : (marked : Bool) (pts decoding matching : ℕ) → SmallTimes (timesJudged marked pts decoding matching)
+small-judged marked pts decoding matching =
+    either SmallTimes marked (cond (isBefore pts decoding) (NotRead PtsBeforeDts) (Times pts decoding matching)) (NotRead WrongMarker)
+    (either SmallTimes (isBefore pts decoding) (NotRead PtsBeforeDts) (Times pts decoding matching) (omega arith) tt) (omega arith)
+
+small-times : (stamps : Stamps) (extension : Extension) → SmallTimes (timesOf stamps extension)
+small-times stamps DataDoNotFit = omega arith
+small-times stamps (WithoutTref marked) = small-judged (stamps .marked && marked) (stamps .pts) (stamps .decoding) (stamps .decoding)
+small-times stamps (WithTref tref) = small-judged (stamps .marked && tref .marked) (stamps .pts) (stamps .decoding) (tref .time)
+
+pub small-read : (bytes : List ℕ) → SmallTimes (readOf bytes)
+small-read bytes =
+    either SmallTimes (isVideoHeader bytes) (videoHeaderOf bytes) (NotRead NotVideoHeader)
+    (either SmallTimes (leb 0b10 (named "PTS_DTS_flags" packetHead (number 9 bytes))) (fieldsOf (flagsOf packetHead (number 9 bytes)) (dataOf bytes)) (NotRead NoPts)
+    (small-times (stampsOf (flagsOf packetHead (number 9 bytes) .ptsDts) (dataOf bytes)) (headerDataOf (flagsOf packetHead (number 9 bytes)) (dataOf bytes))) (omega arith))
+    (omega arith)
+
+abbrev pub SmallHeader : HeaderWritten → Type 0
+SmallHeader (HeaderBytes count) = count ≤ 32768
+SmallHeader (NoHeader refusal) = Placed refusal
+
+header-short : (pts decoding matching : ℕ) → length (headerOf pts decoding matching) ≤ 32768
+header-short pts decoding matching =
+    let times : length (timeFields pts decoding) ≤ 10 =
+    either (λ (l : List ℕ). length l ≤ 10) (eqb pts decoding) (timeField ptsAlone pts) (timeField ptsBeforeDts pts ++ timeField dts decoding) (omega arith) (omega arith) in
+    let last : length (trefFields decoding matching) ≤ 8 =
+    either (λ (l : List ℕ). length l ≤ 8) (eqb matching decoding) [] (trefHead ++ timeField tref matching) (omega arith) (omega arith) in
+    let first : length (headOf pts decoding matching) ≡ 9 = refl in
+    omega (arith, length-append (headOf pts decoding matching) (dataFields pts decoding matching), length-append (timeFields pts decoding) (trefFields decoding matching))
+
+pub small-header : (pts decoding matching room : ℕ) → SmallHeader (writeOf pts decoding matching room)
+small-header pts decoding matching room =
+    either SmallHeader (timesTooWide pts decoding matching) (NoHeader TooWide) _ (omega arith)
+    (either SmallHeader (leb (length (headerOf pts decoding matching)) room) _ (NoHeader NoRoom)
+    (either SmallHeader (isBefore pts decoding) (NoHeader PtsBeforeDts) (HeaderBytes (length (headerOf pts decoding matching))) (omega arith) (header-short pts decoding matching))
+    (omega arith))
+
+-- ---- loops
+
+few-pieces : (most : ℕ) (l : List ℕ) → length (cutWithin 5 esInfoLength most l) ≤ most
+few-pieces zero l = omega arith
+few-pieces (suc most) [] = omega arith
+few-pieces (suc most) (b ∷ bs) =
+    let later = few-pieces most (drop (5 + esInfoLength (b ∷ bs)) (b ∷ bs)) in
+    either (λ (l : List Item). length l ≤ suc most) (leb (5 + esInfoLength (b ∷ bs)) (length (b ∷ bs))) _ (broken ∷ []) (omega arith) (omega arith)
+
+few-streams : (reading : Reading) (bytes : List ℕ) → length (streamsOf reading bytes) ≤ length bytes
+few-streams reading bytes =
+    omega (arith, length-map (cut 5 esInfoLength bytes) (streamOf reading), few-pieces (length bytes) bytes)
+
+refusal-place : (number place : ℕ) → placeOf (refusalOf number place) ≤ place
+refusal-place zero place = omega arith
+refusal-place (suc zero) place = omega arith
+refusal-place (suc (suc zero)) place = omega arith
+refusal-place (suc (suc (suc zero))) place = omega arith
+refusal-place (suc (suc (suc (suc zero)))) place = omega arith
+refusal-place (suc (suc (suc (suc (suc zero))))) place = omega arith
+refusal-place (suc (suc (suc (suc (suc (suc zero)))))) place = omega arith
+refusal-place (suc (suc (suc (suc (suc (suc (suc zero))))))) place = omega arith
+refusal-place (suc (suc (suc (suc (suc (suc (suc (suc zero)))))))) place = omega arith
+refusal-place (suc (suc (suc (suc (suc (suc (suc (suc (suc zero))))))))) place = omega arith
+refusal-place (suc (suc (suc (suc (suc (suc (suc (suc (suc (suc zero)))))))))) place = omega arith
+refusal-place (suc (suc (suc (suc (suc (suc (suc (suc (suc (suc (suc n))))))))))) place = omega arith
+
+abbrev pub SmallOutcome : Outcome → Type 0
+SmallOutcome Accepted = Unit {0}
+SmallOutcome (LoopRefused refusal) = Placed refusal
+
+abbrev pub SmallLoop : LoopRead → Type 0
+SmallLoop read = SmallOutcome (read .outcome) × (read .count ≤ 32768)
+
+small-entries : (streams : List Stream) → length streams ≤ 1008 → SmallLoop (judged streams)
+small-entries streams h =
+    let lowest : ℕ = lowestNumber (applies streams) 11 (length streams) in
+    let place : ℕ = earliestPlace (applies streams) lowest (length streams) in
+    let within = seek-first (applies streams lowest) (length streams) .within in
+    let at = refusal-place lowest place in
+    either SmallLoop (ltb lowest 11) (refusedWith (refusalOf lowest place)) (loopAccepted streams) (omega arith, omega arith) (tt, omega arith)
+
+pub small-loop : (reading : Reading) (bytes : List ℕ) → SmallLoop (loopRead reading bytes)
+small-loop reading bytes =
+    or-else SmallLoop (ltb 1008 (length bytes)) (refusedWith LoopTooLong) (judged (streamsOf reading bytes)) (omega arith, omega arith)
+    (λ e. small-entries (streamsOf reading bytes) (omega (arith, few-streams reading bytes, ltb-false 1008 (length bytes) e)))
+
+abbrev pub SmallWritten : Written → Type 0
+SmallWritten (Bytes count) = count ≤ 32768
+SmallWritten (NotWritten refusal) = Placed refusal
+
+pub small-written : (room count : ℕ) (array : List Entry) → SmallWritten (answer room count array)
+small-written room count array =
+    let entries : List Entry = take count array in
+    let lowest : ℕ = lowestNumber (appliesTo entries) 11 (length entries) in
+    let place : ℕ = earliestPlace (appliesTo entries) lowest (length entries) in
+    let within = seek-first (appliesTo entries lowest) (length entries) .within in
+    let at = refusal-place lowest place in
+    or-else SmallWritten (any tooWide entries) (NotWritten TooWide) _ (omega arith) (λ fine.
+    or-else SmallWritten (ltb 201 count || ltb 1008 (length (loopBytes entries))) (NotWritten LoopTooLong) (judgedIn room entries) (omega arith) (λ short.
+    either SmallWritten (ltb lowest 11) (NotWritten (refusalOf lowest place)) (inRoom room (length (loopBytes entries)))
+    (omega (arith, length-take count array, ltb-false 201 count (neither-left (ltb 201 count) (ltb 1008 (length (loopBytes entries))) short)))
+    (either SmallWritten (ltb room (length (loopBytes entries))) (NotWritten NoRoom) (Bytes (length (loopBytes entries))) (omega arith)
+    (omega (arith, ltb-false 1008 (length (loopBytes entries)) (neither-right (ltb 201 count) (ltb 1008 (length (loopBytes entries))) short))))))
+
+-- ---- closures
+
+abbrev pub SmallClosure : Closure → Type 0
+SmallClosure (Complete members) = Unit {0}
+SmallClosure (NoClosure refusal) = Placed refusal
+
+small-answer : (layers : Layers) (there : Bool) (set : ℕ) → SmallClosure (answerFor layers there set)
+small-answer layers false set = omega arith
+small-answer layers true set =
+    let within = seek-first (lacks layers set) 64 .within in
+    either SmallClosure (some (lacks layers set) 64) (NoClosure (EmbeddedLayerAbsent (record { 0 = seek (lacks layers set) 64 }))) (Complete set) (omega arith) tt
+
+small-closure-of : (layers : Layers) (target : ℕ) → SmallClosure (closureOf layers target)
+small-closure-of layers target = small-answer layers (isLayer layers target) (restedOn layers target)
+
+small-closure-for : (o : Outcome) (entries : List Entry) (target : ℕ) → SmallOutcome o → SmallClosure (closureFor o entries target)
+small-closure-for Accepted entries target h = small-closure-of (layersOf entries) target
+small-closure-for (LoopRefused refusal) entries target h = h
+
+pub small-closure : (reading : Reading) (bytes : List ℕ) (target : ℕ) → SmallClosure (loopClosure reading bytes target)
+small-closure reading bytes target =
+    small-closure-for (loopRead reading bytes .outcome) (entriesRead (loopRead reading bytes)) target (small-loop reading bytes .0)
+
+-- a set of numbers below 64 has at most 64 members
 pub size-short : (set : ℕ) → size set ≤ 64
 unfolding size
 size-short set = count-short (has set) 64
 
+-- ---- rows
+
+abbrev pub Few : Joined → Type 0
+Few (Units closure units leftOut) = units ≤ 512
+Few (Refused refusal) = Placed refusal
+
+few-units : (t : Table) (closure : ℕ) (f : Frame) (numberRoom lagRoom : ℕ) → rowsIn t ≤ 512 → Few (unitsJoined t closure f numberRoom lagRoom)
+few-units t closure f numberRoom lagRoom h =
+    let first = seek-first (unpaired t f) (rowsIn t) .within in
+    let second = seek-first (shares t f) (rowsIn t) .within in
+    either Few (ltb (firstUnpaired t f) (rowsIn t)) (Refused (Unpaired (firstUnpaired t f))) _ (omega arith)
+    (either Few (ltb (firstShared t f) (rowsIn t)) (Refused (UsedTwice (firstShared t f))) _ (omega arith)
+    (either Few (ltb numberRoom (places t f)) (Refused NoRoom) _ (omega arith)
+    (either Few (ltb lagRoom (places t f)) (Refused NoRoom) (Units closure (unitsIn t f) (leftOut t closure f)) (omega arith)
+    (omega (arith, count-short (isTarget t f) (rowsIn t))))))
+
+few-table : (layers : Layers) (target : ℕ) (t : Table) (closure numberRoom lagRoom : ℕ) → Few (tableJoined layers target t closure numberRoom lagRoom)
+few-table layers target t closure numberRoom lagRoom =
+    or-else Few (wrongShape t) (Refused (OutOfRange 0)) _ (omega arith) (λ shape.
+    let short : rowsIn t ≤ 512 =
+    ltb-false 512 (rowsIn t) (neither-right (not (eqb (length (t .matches)) (rowsIn t))) (ltb 512 (rowsIn t)) (neither-right (not (eqb (length (t .decodings)) (rowsIn t))) _ shape)) in
+    let first = seek-first (outOfRange t) (rowsIn t) .within in
+    let second = seek-first (breaksOrder t closure) (rowsIn t) .within in
+    either Few (ltb (firstOutOfRange t) (rowsIn t)) (Refused (OutOfRange (firstOutOfRange t))) _ (omega arith)
+    (either Few (ltb (firstBroken t closure) (rowsIn t)) (Refused (TimeOrderBroken (firstBroken t closure))) _ (omega arith)
+    (few-units t closure (frameOf layers closure target) numberRoom lagRoom short)))
+
+few-closure : (layers : Layers) (target : ℕ) (t : Table) (numberRoom lagRoom : ℕ) (c : Closure) → SmallClosure c → Few (joinedIn layers target t numberRoom lagRoom c)
+few-closure layers target t numberRoom lagRoom (Complete closure) h = few-table layers target t closure numberRoom lagRoom
+few-closure layers target t numberRoom lagRoom (NoClosure refusal) h = h
+
+pub few-joined : (layers : Layers) (target : ℕ) (t : Table) (numberRoom lagRoom : ℕ) → Few (joinedOf layers target t numberRoom lagRoom)
+few-joined layers target t numberRoom lagRoom =
+    few-closure layers target t numberRoom lagRoom (closureOf layers target) (small-closure-of layers target)
+
+few-import : (o : Outcome) (layers : Layers) (target : ℕ) (t : Table) (numberRoom lagRoom : ℕ) → SmallOutcome o
+    → Few (importFor o layers target t numberRoom lagRoom)
+few-import Accepted layers target t numberRoom lagRoom h = few-joined layers target t numberRoom lagRoom
+few-import (LoopRefused refusal) layers target t numberRoom lagRoom h = h
+
+pub few-imported : (reading : Reading) (bytes : List ℕ) (target : ℕ) (t : Table) (numberRoom lagRoom : ℕ)
+    → Few (importOf reading bytes target t numberRoom lagRoom)
+few-imported reading bytes target t numberRoom lagRoom =
+    few-import (loopRead reading bytes .outcome) (layersRead (loopRead reading bytes)) target t numberRoom lagRoom (small-loop reading bytes .0)
+
+-- the places of all units
+pub few-places : (units members : ℕ) → units ≤ 512 → members ≤ 64 → units * members ≤ 32768
+few-places units members h k = let most : units * members ≤ units * 64 = mul-le-mul-left units k in omega arith
+
 pub places-fit : (units members : ℕ) → units ≤ 512 → members ≤ 64 → units * members < 2 ^ 64
-places-fit units members h k = let most : units * members ≤ units * 64 = mul-le-mul-left units k in omega arith
+places-fit units members h k = let most : units * members ≤ 32768 = few-places units members h k in omega arith

@@ -4,3 +4,4 @@ pub mod Times
 pub mod Joins
 pub mod Bounds
 pub mod Rooms
+pub mod Examples

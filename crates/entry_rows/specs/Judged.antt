@@ -4,7 +4,7 @@ use Prim.Native.Nat.{ℕ, zero, suc, _≤_, _<_, _+_, _-_, _*_}
 use mathlib.Core.Path.{_≡_, refl, sym, _∙_, ap, subst}
 use mathlib.Core.Logic.{_≢_}
 use mathlib.Core.Bool.{Bool, true, false, not, _&&_, _||_, and-false, or-false}
-use mathlib.Core.List.{List, [], _∷_, _++_, map}
+use mathlib.Core.List.{List, [], _∷_, _++_}
 use native.Mathlib.Numerals.{add-one}
 use native.Mathlib.Omega.{arith}
 use borrow.Author.Tests.{not-false, lt-ltb, le-ltb, ltb-false}
@@ -17,11 +17,9 @@ use Rattle.syntax.specs.Table.{Table, fits}
 use Rattle.syntax.specs.Laws.{fits-fit}
 use Rattle.syntax.specs.Equations.{bounds}
 use Rattle.vocabulary.specs.declared.stream_types.Reading.the-variants.{Edition2015}
-use Rattle.descriptors.specs.declared.records.Record.the-variants.{NoRecord, Hierarchy, Extension}
 use Rattle.descriptors.specs.Tables.{hierarchyDescriptor, extensionHead}
-use Rattle.descriptors.specs.Records.{noLayer, hierarchyFrom, extensionFrom}
 use Rattle.es_loop.specs.Entries.{blankEntry}
-use Rattle.entry_rows.specs.Rows.{kindIn, fieldsIn, listIn, recordTable, entryTable, tooWideFor, layerTooWide, rowTooWide, layerOf, entryIn, rowAt, entriesBelow}
+use Rattle.entry_rows.specs.Rows.{kindIn, fieldsIn, listIn, recordTable, entryTable, tooWideFor, layerTooWide, rowTooWide, entryIn, rowAt, entriesBelow}
 
 module _ (row : List ℕ) where
   abbrev listed : Bool
@@ -58,7 +56,7 @@ module _ (row : List ℕ) where
     no-record-fine e = rw (e, lt-ltb (getD row 0 0) 256 type-fine, lt-ltb (getD row 1 0) 8192 pid-fine)
 
   module _ (fine : rowTooWide row ≡ false) where
-    within-tables : fits (entryTable (kindIn row)) (fieldsIn (entryTable (kindIn row)) row) ≡ true
+    pub within-tables : fits (entryTable (kindIn row)) (fieldsIn (entryTable (kindIn row)) row) ≡ true
     unfolding rowTooWide
     within-tables =
         not-false _ (neither-left (tooWideFor (entryTable (kindIn row)) row) listed (neither-right (ltb 2 (kindIn row)) _ fine))
@@ -87,25 +85,6 @@ module _ (row : List ℕ) where
 -- a row as the code cuts it out
 pub row-part : (numbers : List ℕ) (k : ℕ) → take (k * 80 + 80 - k * 80) (drop (k * 80) numbers) ≡ rowAt numbers k
 row-part numbers k = let e : k * 80 + 80 - k * 80 ≡ 80 = omega arith in ap (λ (n : ℕ). take n (drop (k * 80) numbers)) e
-
--- the entry of a row, for each kind of record
-module _ (row : List ℕ) where
-  pub hierarchy-entry : getD row 2 0 ≡ 1
-      → record { «stream_type» = getD row 0 0; pid = getD row 1 0; «record» = Hierarchy (hierarchyFrom (fieldsIn (hierarchyDescriptor Edition2015) row)); embedded = padTo 63 noLayer [] }
-      ≡ entryIn row
-  unfolding entryIn
-  hierarchy-entry e = rw e
-
-  pub extension-entry : getD row 2 0 ≡ 2
-      → record { «stream_type» = getD row 0 0; pid = getD row 1 0; «record» = Extension (extensionFrom (fieldsIn extensionHead row)); embedded = padTo 63 noLayer (map layerOf (listIn row)) }
-      ≡ entryIn row
-  unfolding entryIn
-  extension-entry e = rw e
-
-  pub no-record-entry : getD row 2 0 ≡ 0
-      → record { «stream_type» = getD row 0 0; pid = getD row 1 0; «record» = NoRecord; embedded = padTo 63 noLayer [] } ≡ entryIn row
-  unfolding entryIn
-  no-record-entry e = rw e
 
 -- as many entries as rows
 pub length-entries : (numbers : List ℕ) (n : ℕ) → length (entriesBelow numbers n) ≡ n
