@@ -1,6 +1,8 @@
 //! Measures the library against the plain implementation: the same inputs, one run, ratios with their spread.
 //!
-//!     bench [--emulated] [COUNTS]   prints the tables in Markdown; COUNTS is a file with instructions, a number a line
+//!     bench [--emulated] [COUNTS PROFILE]
+//!                                   prints the tables in Markdown; COUNTS has the instructions of each side, a number a line, and PROFILE
+//!                                   lines of side (from 1), instructions and function
 //!     bench --count                 makes each call once between marks, for whoever counts instructions from outside
 //!
 //! `bench/run` builds it and the library, runs it and writes docs/BENCHMARKS.md.
@@ -37,18 +39,25 @@ fn run() {
     println!("## Times\n");
     if emulated {
         println!("**Measured under an emulator: these are no times of any processor.** Both sides were emulated alike, so the ratios say something,");
-        println!("though an emulator weighs instructions otherwise than a processor does.\n");
+        println!("though an emulator weighs instructions otherwise than a processor does. The C library was told to copy without repeated string instructions,");
+        println!("which an emulator makes byte by byte.\n");
     }
     times(&mut measures);
-    if let Some(file) = words.iter().find(|word| !word.starts_with("--")) {
-        let text = std::fs::read_to_string(file).expect("the file of instructions");
-        let counts: Vec<f64> = text
+    let files: Vec<String> = words
+        .iter()
+        .filter(|word| !word.starts_with("--"))
+        .map(|name| std::fs::read_to_string(name).expect("a file of instructions"))
+        .collect();
+    if let [counts, profile] = &files[..] {
+        let counts: Vec<f64> = counts
             .split_ascii_whitespace()
             .map(|word| word.parse().expect("a number"))
             .collect();
         println!("\n## Instructions\n");
-        println!("Executed x86-64 instructions of one call, the same in every run; a repeated string instruction counts once for each repetition.\n");
+        println!("Executed x86-64 instructions of one call, the same in every run.\n");
         instructions(&measures, &counts);
+        println!("\nThe functions of the library, and of the C library, in which they are executed, without those of less than one in twenty:\n");
+        functions(&measures, &counts, profile);
     }
 }
 
@@ -226,5 +235,37 @@ fn instructions(measures: &[Measure], counts: &[f64]) {
             measure.name,
             short(library / plain)
         );
+    }
+}
+
+/// Where the library's instructions are executed.
+fn functions(measures: &[Measure], counts: &[f64], profile: &str) {
+    println!("| Call and input | instructions by function |");
+    println!("|---|---|");
+    let mut side = 0;
+    for measure in measures {
+        let head = format!("{} ", side + 1);
+        let lines = profile.lines().filter_map(|line| line.strip_prefix(&head));
+        let cells: Vec<String> = lines
+            .filter_map(|line| {
+                let (number, name) = line.split_once(' ')?;
+                let number: f64 = number.parse().ok()?;
+                let ours = name.contains("bench");
+                (!ours && number * 20.0 >= counts[side])
+                    .then(|| format!("`{}` {number}", short_name(name)))
+            })
+            .collect();
+        println!("| {} | {} |", measure.name, cells.join(", "));
+        side += 2 + usize::from(measure.search.is_some());
+    }
+}
+
+/// A function's name without what the C library adds for the processor.
+fn short_name(name: &str) -> &str {
+    match name.strip_prefix("__mem") {
+        Some(rest) if rest.starts_with("cpy") => "memcpy",
+        Some(rest) if rest.starts_with("move") => "memmove",
+        Some(rest) if rest.starts_with("set") => "memset",
+        _ => name,
     }
 }

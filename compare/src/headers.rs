@@ -110,11 +110,19 @@ pub fn bytes(random: &mut Random) -> (Vec<u8>, Quality) {
                     3 => random.below(9),
                     _ => random.below(bytes.len()),
                 };
-                if place >= bytes.len() {
+                if place >= bytes.len() || bytes.len() < 9 {
                     continue;
                 }
-                match random.below(6) {
+                match random.below(7) {
                     0 => bytes.truncate(place),
+                    6 => {
+                        // Header data that ends too soon, by its length and mostly with the input.
+                        let length = random.below(usize::from(bytes[8]) + 1);
+                        bytes[8] = length as u8;
+                        if !random.once_in(3) {
+                            bytes.truncate(9 + length);
+                        }
+                    }
                     1 => bytes[place] = bytes[place].wrapping_add(random.pick(&[1, 0xFF])),
                     _ => bytes[place] ^= 1 << random.below(8),
                 }

@@ -42,8 +42,11 @@ pub fn layers(random: &mut Random) -> (u64, Vec<u64>) {
         // Names what isn't there, or what counts for nothing.
         embedded[random.below(64)] |= random.next() & random.next();
     }
-    if random.once_in(12) {
-        present ^= 1 << random.below(64);
+    match random.below(24) {
+        0 | 1 => present ^= 1 << random.below(64),
+        // Several that are named are not there; what they name themselves adds nothing.
+        2 => present &= random.next() | 1 << indices.last().unwrap_or(&0),
+        _ => {}
     }
     match random.below(8) {
         0 => embedded.resize(random.below(64), 0),
@@ -164,12 +167,21 @@ fn sound(random: &mut Random, layers: &Layers, closure: u64, target: usize) -> V
         _ => 3600,
     };
     let start = time(random);
+    // How far the layers lie apart: a lag may have any value, those at its ends too.
+    let mut offsets = [0; 64];
+    if random.once_in(3) {
+        let half = TURN / 2;
+        for offset in &mut offsets {
+            let any = time(random);
+            *offset = random.pick(&[0, 0, half - 1, half, half + 1, any]);
+        }
+    }
     let whole = random.once_in(3);
     let mut by_layer: Vec<Vec<Row>> = vec![Vec::new(); indices.len()];
     for instant in 0..instants as u64 {
         let mut times = [0; 64];
-        for time in &mut times {
-            *time = (start + instant * step + random.next() % step) % TURN;
+        for (time, offset) in times.iter_mut().zip(offsets) {
+            *time = (start + offset + instant * step + random.next() % step) % TURN;
         }
         let unit = whole || !random.once_in(5);
         for (rows, &index) in by_layer.iter_mut().zip(&indices) {
