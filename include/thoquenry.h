@@ -11,7 +11,8 @@
  * buffer holds what it held; after an accepted call it holds what it held beyond what was written.
  *
  * A buffer is a pointer and the number of its elements (not of its bytes). A pointer may not be null, not even for a buffer of no
- * elements; buffers of one call may not overlap where one of them is written. The library is for x86-64 Linux.
+ * elements; buffers of one call may not overlap where one of them is written. A call takes up to 100 KB of stack, no heap, and keeps
+ * nothing between calls, so that threads may call at the same time. The library is for x86-64 Linux.
  */
 #ifndef THOQUENRY_H
 #define THOQUENRY_H
@@ -93,8 +94,8 @@ uint64_t thq_read_loop(uint64_t reading, const uint8_t *bytes, size_t bytes_leng
  * Writes a loop, by the 2015 reading's rules: one entry for each 80 numbers of `entries`, as laid out above. Counts the bytes written to
  * `out`. Numbers of `entries` after the last whole entry, fields that the entry's record does not have, and embedded indices
  * beyond the count are not looked at.
- * Refusals: 25 first, where a value is too wide for its field, a `record` above 2 and a flag above 1 among them; then 1, 3, 6 to 10,
- * at an entry; then 17.
+ * Refusals: 25 first, where a value is too wide for its field, a `record` above 2 and a flag above 1 among them; then 1, which more than
+ * 201 entries give too; then 3 and 6 to 10, at an entry; then 17.
  */
 uint64_t thq_write_loop(const uint16_t *entries, size_t entries_length, uint8_t *out, size_t out_length);
 

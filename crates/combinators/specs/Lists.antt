@@ -1,10 +1,11 @@
 -- Searches over a list, what is gathered from one, and a list from a place on.
 -- Assumes nothing.
-use Prim.Native.Nat.{ℕ, zero, suc, _+_, _-_, _≤_, _<_}
+use Prim.Native.Nat.{ℕ, zero, suc, _+_, _-_, _≤_, _<_, min}
 use mathlib.Core.Path.{_≡_, refl, sym, ap, ap₂, _∙_}
 use mathlib.Core.Bool.{Bool, true, false, _||_, or-assoc, or-false}
 use mathlib.Core.List.{List, [], _∷_, _++_, map, append-nil, append-assoc, head-eq-of-cons-eq, tail-eq-of-cons-eq}
 use native.Mathlib.Omega.{arith}
+use native.Mathlib.Decide.{decLt}
 use native.Mathlib.Nat.{not-suc-le-zero, add-zero, zero-add, add-suc, suc-add}
 use native.Mathlib.Numerals.{add-one}
 use lib.ListN.{length, getD, take, drop, length-drop}
@@ -178,3 +179,11 @@ module _ {A : Type 0} (l : List A) (d : A) where
   pub any-none : (test : A → Bool) (n i : ℕ) → i < n → n ≤ length l → any test (take n l) ≡ false → test (getD l i d) ≡ false
   any-none test n i h k e =
       ap test (sym (getD-take n l i d h)) ∙ any-false test e (getD-nth (take n l) i d (rw (length-take-le n l k) h))
+
+-- a count beyond a list takes all of it
+pub take-within : {A : Type 0} (l : List A) (count given size : ℕ) → length l ≡ size → given ≡ min count size → take given l ≡ take count l
+take-within l count given size long e = go (decLt count size)
+  where
+    go : Dec (count < size) → take given l ≡ take count l
+    go (yes h) = let same : given ≡ count = omega arith in rw same
+    go (no h) = take-all given l (omega arith) ∙ sym (take-all count l (omega arith))

@@ -1,12 +1,10 @@
--- How long rows are: 80 numbers each; a count beyond a list; and the entry of a row, kind by kind.
+-- How long rows are: 80 numbers each; and the entry of a row, kind by kind.
 -- Assumes nothing.
 use Prim.Native.Nat.{ℕ, zero, suc, _+_, _*_, _≤_, _<_, min}
 use mathlib.Core.Path.{_≡_, refl, sym, _∙_, ap, ap₂}
 use mathlib.Core.List.{List, [], _∷_, map}
-use native.Mathlib.Decide.{decLt}
 use native.Mathlib.Omega.{arith}
 use lib.ListN.{length, getD, take, length-append, length-map, length-take}
-use lib.Seq.{take-all}
 use Rattle.combinators.specs.Padding.{padTo, length-padTo}
 use Rattle.vocabulary.specs.declared.LayerIndex.{LayerIndex}
 use Rattle.descriptors.specs.declared.records.Record.{Record}
@@ -16,14 +14,6 @@ use Rattle.descriptors.specs.Tables.{hierarchyDescriptor, extensionHead}
 use Rattle.descriptors.specs.Records.{noLayer, hierarchyFrom, extensionFrom}
 use Rattle.es_loop.specs.declared.entries.Entry.{Entry}
 use Rattle.entry_rows.specs.Rows.{layerNumber, headOf, listOf, tailOf, rowOf, fieldsIn, listIn, layerOf, entryIn, rowsOf}
-
--- a count beyond a list takes all of it
-pub within : {A : Type 0} (l : List A) (count given size : ℕ) → length l ≡ size → given ≡ min count size → take given l ≡ take count l
-within l count given size long e = go (decLt count size)
-  where
-    go : Dec (count < size) → take given l ≡ take count l
-    go (yes h) = let same : given ≡ count = omega arith in rw same
-    go (no h) = take-all given l (omega arith) ∙ sym (take-all count l (omega arith))
 
 head-length : (streamType pid : ℕ) («record» : Record) → length (headOf streamType pid «record») ≡ 16
 unfolding headOf

@@ -22,6 +22,7 @@ use Rattle.descriptors.specs.Tables.{hierarchyDescriptor, extensionHead}
 use Rattle.descriptors.specs.Records.{noLayer, hierarchyFrom, extensionFrom}
 use Rattle.es_loop.specs.declared.entries.Entry.{Entry}
 use Rattle.loop_layout.specs.Layout.{bitOf, hierarchyFields, extensionFields}
+use Rattle.loop_layout.specs.Fields.{hierarchy-fields, extension-fields}
 use Rattle.entry_rows.specs.Names.{namesOf, picked}
 use Rattle.entry_rows.specs.Rows.{rowNames, entryTable, layerNumber, headOf, listOf, tailOf, rowOf, kindIn, countIn, fieldsIn, listIn, rowTooWide, layerOf, entryIn}
 use Rattle.entry_rows.specs.Judged.{kind-fine, within-tables}
@@ -35,17 +36,6 @@ OwnList NoRecord array = array ≡ padTo 63 noLayer []
 OwnList (Hierarchy h) array = array ≡ padTo 63 noLayer []
 OwnList (Extension x) array =
     (layers : List LayerIndex) × (length layers ≡ x .«num_embedded_layers») × (x .«num_embedded_layers» ≤ 63) × (array ≡ padTo 63 noLayer layers)
-
-bit-back : (b : Bool) → eqb (bitOf b) 1 ≡ b
-bit-back true = refl
-bit-back false = refl
-
-hierarchy-back : (h : HierarchyRecord) → hierarchyFrom (hierarchyFields h) ≡ h
-hierarchy-back h =
-    rw (bit-back (h .«no_view»), bit-back (h .«no_temporal»), bit-back (h .«no_spatial»), bit-back (h .«no_quality»), bit-back (h .«tref_present_flag»))
-
-extension-back : (x : ExtensionRecord) → extensionFrom (extensionFields x) ≡ x
-extension-back x = rw (bit-back (x .«tref_present_flag»))
 
 layers-back : (layers : List LayerIndex) → map layerOf (map layerNumber layers) ≡ layers
 layers-back [] = refl
@@ -67,9 +57,9 @@ again : (streamType pid : ℕ) («record» : Record) (array : List LayerIndex) �
     → entryIn (rowOf (entryWith streamType pid «record» array)) ≡ entryWith streamType pid «record» array
 unfolding headOf tailOf entryIn
 again streamType pid NoRecord array own = ap (entryWith streamType pid NoRecord) (sym own)
-again streamType pid (Hierarchy h) array own = ap₂ (λ (g : HierarchyRecord) (l : List LayerIndex). entryWith streamType pid (Hierarchy g) l) (hierarchy-back h) (sym own)
+again streamType pid (Hierarchy h) array own = ap₂ (λ (g : HierarchyRecord) (l : List LayerIndex). entryWith streamType pid (Hierarchy g) l) (hierarchy-fields h) (sym own)
 again streamType pid (Extension x) array own =
-    ap₂ (λ (y : ExtensionRecord) (l : List LayerIndex). entryWith streamType pid (Extension y) l) (extension-back x)
+    ap₂ (λ (y : ExtensionRecord) (l : List LayerIndex). entryWith streamType pid (Extension y) l) (extension-fields x)
     (ap (λ (l : List LayerIndex). padTo 63 noLayer (map layerOf (take (x .«num_embedded_layers») (padTo 64 0 (map layerNumber (take (min (x .«num_embedded_layers») 63) l)))))) (own .3)
     ∙ ap (λ (l : List ℕ). padTo 63 noLayer (map layerOf l)) (list-back (x .«num_embedded_layers») (own .0) (own .1) (own .2))
     ∙ ap (padTo 63 noLayer) (layers-back (own .0))

@@ -30,7 +30,8 @@ use Rattle.es_loop.specs.declared.entries.Entry.{Entry}
 use Rattle.es_loop.specs.declared.entries.Stream.{Stream}
 use Rattle.es_loop.specs.Entries.{entryHead, esInfoLength, seenIn, streamOf, streamsOf}
 use Rattle.es_loop.specs.Meant.{by-head}
-use Rattle.loop_layout.specs.Layout.{filled, bytesIn, tooWideIn, bitOf, hierarchyFields, extensionFields, layerTable, recordTables, infoBytes, loopBytes, tooWide}
+use Rattle.loop_layout.specs.Layout.{filled, bytesIn, tooWideIn, hierarchyFields, extensionFields, layerTable, recordTables, infoBytes, loopBytes, tooWide}
+use Rattle.loop_layout.specs.Fields.{hierarchy-fields, extension-fields}
 use Rattle.loop_layout.specs.Sizes.{fit-first, fit-others, hierarchy-fit, extension-fit, layers-fit, count-small, head-fit, record-fit, length-layers}
 use Rattle.loop_layout.specs.Bytes.{extension-bytes}
 use Rattle.loop_verdict.specs.Verdict.{streamFor}
@@ -74,17 +75,6 @@ extension-sound = record { whole = refl; fixed-fit = refl }
 
 pub layer-sound : Sound embeddedLayer
 layer-sound = record { whole = refl; fixed-fit = refl }
-
-bit-back : (b : Bool) → eqb (bitOf b) 1 ≡ b
-bit-back true = refl
-bit-back false = refl
-
-hierarchy-fields : (h : HierarchyRecord) → hierarchyFrom (hierarchyFields h) ≡ h
-hierarchy-fields h =
-    rw (bit-back (h .«no_view»), bit-back (h .«no_temporal»), bit-back (h .«no_spatial»), bit-back (h .«no_quality»), bit-back (h .«tref_present_flag»))
-
-extension-fields : (x : ExtensionRecord) → extensionFrom (extensionFields x) ≡ x
-extension-fields x = rw (bit-back (x .«tref_present_flag»))
 
 hierarchy-back : (h : HierarchyRecord) → Fit (hierarchyDescriptor Edition2015) (hierarchyFields h)
     → hierarchyOf Edition2015 (writeTable (hierarchyDescriptor Edition2015) (hierarchyFields h)) ≡ h

@@ -1,16 +1,14 @@
 -- The answer of writing a loop and the buffer's content, from what the tests on the way say.
 -- Assumes nothing.
-use Prim.Native.Nat.{ℕ, _≤_, _<_, min}
+use Prim.Native.Nat.{ℕ, _≤_, _<_}
 use mathlib.Core.Path.{_≡_, sym, _∙_, ap}
 use mathlib.Core.Bool.{true, false, cond, _||_}
 use mathlib.Core.List.{List, _++_}
 use native.Mathlib.Omega.{arith}
 use native.Mathlib.Nat.{zero-add}
-use native.Mathlib.Decide.{decLt}
 use borrow.Author.Tests.{lt-ltb, le-ltb}
 use lib.Dec.{ltb}
 use lib.ListN.{length, take, drop}
-use lib.Seq.{take-all}
 use Rattle.combinators.specs.Bools.{either-left, either-right}
 use Rattle.combinators.specs.Lists.{any}
 use Rattle.combinators.specs.Lowest.{Lowest, lowestNumber, earliestPlace, lowest-number, earliest-place}
@@ -25,14 +23,6 @@ use Rattle.loop_verdict.specs.Verdict.{appliesTo}
 use Rattle.loop_writer.specs.declared.Written.{Written}
 use Rattle.loop_writer.specs.declared.Written.the-variants.{Bytes, Refused}
 use Rattle.loop_writer.specs.Writing.{inRoom, answer, contentAfter, content}
-
--- a count beyond the array takes all of it
-pub within-array : (array : List Entry) (count given : ℕ) → length array ≡ 201 → given ≡ min count 201 → take given array ≡ take count array
-within-array array count given long e = go (decLt count 201)
-  where
-    go : Dec (count < 201) → take given array ≡ take count array
-    go (yes h) = let same : given ≡ count = omega arith in rw same
-    go (no h) = take-all given array (omega arith) ∙ sym (take-all count array (omega arith))
 
 module _ (count : ℕ) (array : List Entry) (old : List ℕ) where
   abbrev given : List Entry

@@ -53,7 +53,8 @@ abbrev pub loopWritten : Written → ℕ
 loopWritten (Bytes count) = accepted count
 loopWritten (NotWritten refusal) = refused refusal
 
--- 'Refusals: 25 first, where a value is too wide for its field, a `record` above 2 and a flag above 1 among them; then 1, 3, 6 to 10, at an entry; then 17.'
+-- 'Refusals: 25 first, where a value is too wide for its field, a `record` above 2 and a flag above 1 among them; then 1, which more than 201
+-- entries give too; then 3 and 6 to 10, at an entry; then 17.'
 abbrev pub writeLoop : List ℕ → List ℕ → Reply
 writeLoop numbers out =
     cond (someTooWide numbers) (unchanged TooWide out)

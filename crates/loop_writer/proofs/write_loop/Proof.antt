@@ -14,7 +14,8 @@ use Rattle.text.specs.Text.{Laid}
 use Rattle.es_loop.specs.declared.entries.Entry.{Entry}
 use Rattle.loop_layout.specs.Layout.{loopBytes, tooWide}
 use Rattle.loop_verdict.specs.Verdict.{appliesTo}
-use Rattle.loop_writer.proofs.Answers.{within-array, Promised, some-wide, too-many, too-large, applies-to-one, no-room, written}
+use Rattle.combinators.specs.Lists.{take-within}
+use Rattle.loop_writer.proofs.Answers.{Promised, some-wide, too-many, too-large, applies-to-one, no-room, written}
 use borrow.Author.Needs.{needs}
 use Rattle.loop_writer.proofs.write_loop.Statement.{statement}
 use Rattle.loop_writer.proofs.write_loop.Tie as tie
@@ -30,7 +31,7 @@ returns c =
     let a = c .before .before .before .before .args in
     let long : length (a .entries) ≡ 201 = omega arith in
     let same : take (c .before .before .lesser .result) (a .entries) ≡ take (a .count) (a .entries) =
-    within-array (a .entries) (a .count) (c .before .before .lesser .result) long (c .before .before .lesser .ensures) in
+    take-within (a .entries) (a .count) (c .before .before .lesser .result) 201 long (c .before .before .lesser .ensures) in
     some-wide (a .count) (a .entries) (a .out .now) (sym (ap (any tooWide) same) ∙ sym (c .before .some-too-wide .ensures) ∙ c .if1 .taken)
 
 returns-2 : tie.Need-returns-2
@@ -38,7 +39,7 @@ returns-2 c =
     let a = c .before .before .before .before .before .args in
     let long : length (a .entries) ≡ 201 = omega arith in
     let same : take (c .before .before .before .lesser .result) (a .entries) ≡ take (a .count) (a .entries) =
-    within-array (a .entries) (a .count) (c .before .before .before .lesser .result) long (c .before .before .before .lesser .ensures) in
+    take-within (a .entries) (a .count) (c .before .before .before .lesser .result) 201 long (c .before .before .before .lesser .ensures) in
     let fine : any tooWide (take (a .count) (a .entries)) ≡ false =
     sym (ap (any tooWide) same) ∙ sym (c .before .before .some-too-wide .ensures) ∙ c .before .if1 .left in
     too-many (a .count) (a .entries) (a .out .now) fine (c .if2 .taken)
@@ -51,7 +52,7 @@ returns-3 c =
     let a = c .before .before .before .before .before .before .before .args in
     let long : length (a .entries) ≡ 201 = omega arith in
     let same : take (c .before .before .before .before .before .lesser .result) (a .entries) ≡ take (a .count) (a .entries) =
-    within-array (a .entries) (a .count) (c .before .before .before .before .before .lesser .result) long (c .before .before .before .before .before .lesser .ensures) in
+    take-within (a .entries) (a .count) (c .before .before .before .before .before .lesser .result) 201 long (c .before .before .before .before .before .lesser .ensures) in
     let fine : any tooWide (take (a .count) (a .entries)) ≡ false =
     sym (ap (any tooWide) same) ∙ sym (c .before .before .before .before .some-too-wide .ensures) ∙ c .before .before .before .if1 .left in
     let size : c .before .loop-size .result ≡ length (loopBytes (take (a .count) (a .entries))) =
@@ -69,7 +70,7 @@ returns-4 c =
     let a = c .before .before .before .before .before .before .before .before .before .before .before .args in
     let long : length (a .entries) ≡ 201 = omega arith in
     let same : take (c .before .before .before .before .before .before .before .before .before .lesser .result) (a .entries) ≡ take (a .count) (a .entries) =
-    within-array (a .entries) (a .count) (c .before .before .before .before .before .before .before .before .before .lesser .result) long (c .before .before .before .before .before .before .before .before .before .lesser .ensures) in
+    take-within (a .entries) (a .count) (c .before .before .before .before .before .before .before .before .before .lesser .result) 201 long (c .before .before .before .before .before .before .before .before .before .lesser .ensures) in
     let fine : any tooWide (take (a .count) (a .entries)) ≡ false =
     sym (ap (any tooWide) same) ∙ sym (c .before .before .before .before .before .before .before .before .some-too-wide .ensures) ∙ c .before .before .before .before .before .before .before .if1 .left in
     let size : c .before .before .before .before .before .loop-size .result ≡ length (loopBytes (take (a .count) (a .entries))) =
@@ -85,7 +86,7 @@ returns-5 c =
     let a = c .before .before .before .before .before .before .before .before .before .before .before .args in
     let long : length (a .entries) ≡ 201 = omega arith in
     let same : take (c .before .before .before .before .before .before .before .before .before .lesser .result) (a .entries) ≡ take (a .count) (a .entries) =
-    within-array (a .entries) (a .count) (c .before .before .before .before .before .before .before .before .before .lesser .result) long (c .before .before .before .before .before .before .before .before .before .lesser .ensures) in
+    take-within (a .entries) (a .count) (c .before .before .before .before .before .before .before .before .before .lesser .result) 201 long (c .before .before .before .before .before .before .before .before .before .lesser .ensures) in
     let fine : any tooWide (take (a .count) (a .entries)) ≡ false =
     sym (ap (any tooWide) same) ∙ sym (c .before .before .before .before .before .before .before .before .some-too-wide .ensures) ∙ c .before .before .before .before .before .before .before .if1 .left in
     let size : c .before .before .before .before .before .loop-size .result ≡ length (loopBytes (take (a .count) (a .entries))) =
@@ -106,7 +107,7 @@ returns-6 c =
     let a = c .before .before .before .before .before .before .before .before .before .before .before .before .before .before .before .args in
     let long : length (a .entries) ≡ 201 = omega arith in
     let same : take (c .before .before .before .before .before .before .before .before .before .before .before .before .before .lesser .result) (a .entries) ≡ take (a .count) (a .entries) =
-    within-array (a .entries) (a .count) (c .before .before .before .before .before .before .before .before .before .before .before .before .before .lesser .result) long (c .before .before .before .before .before .before .before .before .before .before .before .before .before .lesser .ensures) in
+    take-within (a .entries) (a .count) (c .before .before .before .before .before .before .before .before .before .before .before .before .before .lesser .result) 201 long (c .before .before .before .before .before .before .before .before .before .before .before .before .before .lesser .ensures) in
     let fine : any tooWide (take (a .count) (a .entries)) ≡ false =
     sym (ap (any tooWide) same) ∙ sym (c .before .before .before .before .before .before .before .before .before .before .before .before .some-too-wide .ensures) ∙ c .before .before .before .before .before .before .before .before .before .before .before .if1 .left in
     let size : c .before .before .before .before .before .before .before .before .before .loop-size .result ≡ length (loopBytes (take (a .count) (a .entries))) =

@@ -7,7 +7,7 @@ use Rattle.combinators.specs.Lists.{gather-next}
 use Rattle.text.specs.Text.{Laid}
 use Rattle.text.specs.Laws.{laid-then, laid-as, laid-nothing, laid-length}
 use Rattle.entry_rows.specs.Rows.{rowOf, rowsOf}
-use Rattle.entry_rows.specs.Laws.{within}
+use Rattle.combinators.specs.Lists.{take-within}
 use borrow.Author.Needs.{needs}
 use native.Mathlib.Omega.{arith}
 use Rattle.entry_rows.proofs.laying.put_entries.Statement.{statement}
@@ -50,7 +50,7 @@ returns : tie.Need-returns Inv-loop μ-loop
 returns c =
     let a = c .before .before .before .before .args in
     let loop = c .before .loop in
-    laid-as (ap rowsOf (within (a .t3) (a .count) (loop .i) 201 (omega arith) (omega arith))) (loop .inv .1)
+    laid-as (ap rowsOf (take-within (a .t3) (a .count) (loop .i) 201 (omega arith) (omega arith))) (loop .inv .1)
 
 same-length : tie.Need-same-length Inv-loop μ-loop
 same-length c = laid-length (returns c)

@@ -6,7 +6,7 @@ use mathlib.Core.List.{List}
 use lib.ListN.{length, take}
 use Rattle.combinators.specs.Padding.{padTo}
 use Rattle.closure.specs.declared.Layers.{Layers}
-use Rattle.entry_rows.specs.Laws.{within}
+use Rattle.combinators.specs.Lists.{take-within}
 use Rattle.thoquenry.proofs.Replies.{store-take}
 use borrow.Author.Needs.{needs}
 use native.Mathlib.Omega.{arith}
@@ -55,7 +55,7 @@ returns c =
     let list = a .embedded .now in
     let loop = c .before .loop in
     let all : loop .i ≡ min 64 (length list) = omega arith in
-    let held : loop .named ≡ padTo 64 0 (take 64 list) = loop .inv .1 ∙ ap (padTo 64 0) (within list 64 (loop .i) (length list) refl all) in
+    let held : loop .named ≡ padTo 64 0 (take 64 list) = loop .inv .1 ∙ ap (padTo 64 0) (take-within list 64 (loop .i) (length list) refl all) in
     rw held
 
 pub layers-given-spec : {M : Type 1} → statement M
