@@ -21,12 +21,6 @@ pub struct Members {
     pub list: [u8; 64],
 }
 
-// The rows chosen, one for each layer index, the number of rows standing for none; and whether each edge was met.
-pub struct Assembly {
-    pub complete: bool,
-    pub rows: [usize; 64],
-}
-
 fn upper_of(edge: usize) -> usize
     ensures { λ r. ⌜ r ≡ upperOf edge ⌝ }
 {
@@ -182,7 +176,7 @@ fn paired_row(
     row_at(indices, decodings, starts, order, layer, time)
 }
 
-// The assembly that the row `head` of the layer `top` is at the head of.
+// Lays the assembly that the row `head` of the layer `top` is at the head of into `rows`, and answers whether each edge was met.
 pub fn assemble(
     indices: &[u8],
     decodings: &[u64],
@@ -192,22 +186,21 @@ pub fn assemble(
     edges: &[u16],
     top: usize,
     head: usize,
-) -> Assembly
+    rows: &mut [usize; 64],
+) -> bool
     requires { ⌜ Ready (table (now indices) (now decodings) (now matches)) (now starts) (now order) (now edges) × (top < 64) ⌝ }
-    ensures { λ r. ⌜ r ≡ assembled (table (now (indices .entry)) (now (decodings .entry)) (now (matches .entry))) (now (edges .entry)) top head ⌝ }
+    ensures complete { λ r. ⌜ r ≡ assembled (table (now (indices .entry)) (now (decodings .entry)) (now (matches .entry))) (now (edges .entry)) top head .complete ⌝ }
+    ensures content { λ _. ⌜ now (rows .exit) ≡ assembled (table (now (indices .entry)) (now (decodings .entry)) (now (matches .entry))) (now (edges .entry)) top head .rows ⌝ }
 {
     let none = indices.len();
-    let mut rows = [none; 64];
+    *rows = [none; 64];
     rows[top] = head;
     let mut at = 0;
     while at < edges.len() {
         let edge = edges[at] as usize;
         let upper = rows[63 - edge / 64 % 64];
         if none <= upper {
-            return Assembly {
-                complete: false,
-                rows,
-            };
+            return false;
         }
         let lower = edge % 64;
         let row = paired_row(
@@ -220,16 +213,10 @@ pub fn assemble(
             matches[upper],
         );
         if none <= row {
-            return Assembly {
-                complete: false,
-                rows,
-            };
+            return false;
         }
         rows[lower] = row;
         at += 1;
     }
-    Assembly {
-        complete: true,
-        rows,
-    }
+    true
 }
