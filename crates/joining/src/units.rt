@@ -87,6 +87,7 @@ pub fn judge(
     ensures { λ r. ⌜ Judges (table (now (indices .entry)) (now (decodings .entry)) (now (matches .entry))) (frame target (now (members .entry)) (now (edges .entry))) r ⌝ }
 {
     let none = indices.len();
+    let mut next = [0usize; 64];
     let mut rows = [none; 64];
     let mut used = [false; 512];
     let mut shared = none;
@@ -103,6 +104,7 @@ pub fn judge(
                 edges,
                 target,
                 row,
+                &mut next,
                 &mut rows,
             );
             if !complete {

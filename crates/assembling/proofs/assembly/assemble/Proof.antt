@@ -15,12 +15,12 @@ parts : (a b : Assembly) → a ≡ b → (a .complete ≡ b .complete) × (a .ro
 parts a b e = (ap (λ (x : Assembly). x .complete) e, ap (λ (x : Assembly). x .rows) e)
 
 abbrev Inv-loop : tie.InvT-loop
-Inv-loop indices decodings matches starts order edges top head rows₀ none at₀ rows at =
+Inv-loop indices decodings matches starts order edges top head next₀ rows₀ none at₀ next rows at =
     (at ≤ length edges)
     × (assembledFrom (table indices decodings matches) (drop at edges) rows ≡ assembled (table indices decodings matches) edges top head)
 
 abbrev μ-loop : tie.MeasureT-loop
-μ-loop indices decodings matches starts order edges top head rows₀ none at₀ rows at =
+μ-loop indices decodings matches starts order edges top head next₀ rows₀ none at₀ next rows at =
     length edges - at
 
 mul-rows : tie.Need-mul-rows Inv-loop μ-loop
@@ -75,17 +75,17 @@ shared-slice-read-paired-row c =
 
 paired-row-requires : tie.Need-paired-row-requires Inv-loop μ-loop
 paired-row-requires c κs =
-    let begin = c .before .before .before .before .before .before .before .before .before .before .before .before in
-    let loop = c .before .before .before .before .before .before .loop in
-    (begin .pre .0 .sorted, omega arith, begin .pre .0 .rising (loop .at) (c .before .before .before .before .before .loop-test .taken))
+    let begin = c .before .before .before .before .before .before .before .before .before .before .before .before .before in
+    let loop = c .before .before .before .before .before .before .before .loop in
+    (begin .pre .0 .sorted, omega arith, begin .pre .0 .rising (loop .at) (c .before .before .before .before .before .before .loop-test .taken))
 
 returns-2 : tie.Need-returns-2 Inv-loop μ-loop
 returns-2 c =
-    let begin = c .before .before .before .before .before .before .before .before .before .before .before .before .before .before in
-    let loop = c .before .before .before .before .before .before .before .before .loop in
+    let begin = c .before .before .before .before .before .before .before .before .before .before .before .before .before .before .before in
+    let loop = c .before .before .before .before .before .before .before .before .before .loop in
     parts _ _
     (no-lower-row (table (begin .args .indices .now) (begin .args .decodings .now) (begin .args .matches .now)) (begin .args .edges .now) (loop .at) (loop .rows)
-    (c .before .before .before .before .before .before .before .loop-test .taken) _ (c .before .before .before .before .if1 .left) (c .before .paired-row .ensures) (c .if2 .taken)
+    (c .before .before .before .before .before .before .before .before .loop-test .taken) _ (c .before .before .before .before .before .if1 .left) (c .before .paired-row .ensures) (c .if2 .taken)
     ∙ loop .inv .1)
 
 mul-rows-2 : tie.Need-mul-rows-2 Inv-loop μ-loop
@@ -102,11 +102,11 @@ loop-less c = omega arith
 
 loop-again : tie.Need-loop-again Inv-loop μ-loop
 loop-again c =
-    let begin = c .before .before .before .before .before .before .before .before .before .before .before .before .before .before in
-    let loop = c .before .before .before .before .before .before .before .before .loop in (
+    let begin = c .before .before .before .before .before .before .before .before .before .before .before .before .before .before .before in
+    let loop = c .before .before .before .before .before .before .before .before .before .loop in (
       omega arith,
       lower-row (table (begin .args .indices .now) (begin .args .decodings .now) (begin .args .matches .now)) (begin .args .edges .now) (loop .at) (loop .rows)
-          (c .before .before .before .before .before .before .before .loop-test .taken) _ (c .before .before .before .before .if1 .left) (c .before .paired-row .ensures) (c .if2 .left)
+          (c .before .before .before .before .before .before .before .before .loop-test .taken) _ (c .before .before .before .before .before .if1 .left) (c .before .paired-row .ensures) (c .if2 .left)
           ∙ loop .inv .1,
     )
 

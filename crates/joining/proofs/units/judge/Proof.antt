@@ -19,11 +19,11 @@ use Rattle.joining.proofs.units.judge.Statement.{statement}
 use Rattle.joining.proofs.units.judge.Tie as tie
 
 abbrev Inv-loop : tie.InvT-loop
-Inv-loop indices decodings matches starts order edges members target none rows₀ used₀ shared₀ units₀ row₀ rows used shared units row =
+Inv-loop indices decodings matches starts order edges members target none next₀ rows₀ used₀ shared₀ units₀ row₀ next rows used shared units row =
     Walked (table indices decodings matches) (frame target members edges) row shared units used
 
 abbrev μ-loop : tie.MeasureT-loop
-μ-loop indices decodings matches starts order edges members target none rows₀ used₀ shared₀ units₀ row₀ rows used shared units row =
+μ-loop indices decodings matches starts order edges members target none next₀ rows₀ used₀ shared₀ units₀ row₀ next rows used shared units row =
     length indices - row
 
 loop-holds : tie.Need-loop-holds Inv-loop μ-loop
@@ -37,25 +37,25 @@ cast-if1 c = omega (arith, c .shared-slice-known6 .given (c .before .before .loo
 
 assemble-requires : tie.Need-assemble-requires Inv-loop μ-loop
 assemble-requires c κs =
-    let begin = c .before .before .before .before .before .before .before .before .before .before in
+    let begin = c .before .before .before .before .before .before .before .before .before .before .before in
     (begin .pre .0, begin .pre .1 .top)
 
 returns : tie.Need-returns Inv-loop μ-loop
 returns c =
-    let begin = c .before .before .before .before .before .before .before .before .before .before .before .before in
-    let loop = c .before .before .before .before .before .before .loop in
-    let inside = c .before .before .before .before .before .loop-test .taken in
+    let begin = c .before .before .before .before .before .before .before .before .before .before .before .before .before in
+    let loop = c .before .before .before .before .before .before .before .loop in
+    let inside = c .before .before .before .before .before .before .loop-test .taken in
     stopped _ _ _ inside
-    (no-assembly _ _ _ _ _ _ (loop .inv) inside (eq-eqb _ _ (c .before .before .before .if1 .taken))
+    (no-assembly _ _ _ _ _ _ (loop .inv) inside (eq-eqb _ _ (c .before .before .before .before .if1 .taken))
     (sym (c .before .assemble .ensures .0) ∙ not-true _ (c .if2 .taken)))
 
 claim-requires : tie.Need-claim-requires Inv-loop μ-loop
 claim-requires c κs =
-    let begin = c .before .before .before .before .before .before .before .before .before .before .before .before .before .before in
-    let loop = c .before .before .before .before .before .before .before .before .loop in
-    let inside = c .before .before .before .before .before .before .before .loop-test .taken in
+    let begin = c .before .before .before .before .before .before .before .before .before .before .before .before .before .before .before in
+    let loop = c .before .before .before .before .before .before .before .before .before .loop in
+    let inside = c .before .before .before .before .before .before .before .before .loop-test .taken in
     subst (Chosen (begin .args .members .now)) (sym (c .before .before .before .assemble .ensures .1))
-    (chosen _ _ _ _ _ _ (loop .inv) inside (eq-eqb _ _ (c .before .before .before .before .before .if1 .taken)) (begin .pre .1) (begin .pre .0 .sorted .short)
+    (chosen _ _ _ _ _ _ (loop .inv) inside (eq-eqb _ _ (c .before .before .before .before .before .before .if1 .taken)) (begin .pre .1) (begin .pre .0 .sorted .short)
     (sym (c .before .before .before .assemble .ensures .0) ∙ not-false _ (c .before .before .if2 .left)))
 
 first-sharing-requires : tie.Need-first-sharing-requires Inv-loop μ-loop
@@ -63,8 +63,8 @@ first-sharing-requires c κs = search needs
 
 add-units : tie.Need-add-units Inv-loop μ-loop
 add-units c =
-    let begin = c .before .before .before .before .before .before .before .before .before .before .before .before .before .before .before .before in
-    let loop = c .before .before .before .before .before .before .before .before .before .before .loop in
+    let begin = c .before .before .before .before .before .before .before .before .before .before .before .before .before .before .before .before .before in
+    let loop = c .before .before .before .before .before .before .before .before .before .before .before .loop in
     omega (
       arith,
       loop .inv .counted,
@@ -84,13 +84,13 @@ loop-again c =
     let loop = c .before .before .before .loop in
     let inside = c .before .before .loop-test .taken in
     ⊎-elim
-    (λ w. rw (w .9, w .10, w .11)
+    (λ w. rw (w .11, w .12, w .13)
     (walked-target _ _ _ _ _ _ (loop .inv) inside (eq-eqb _ _ (w .0 .taken)) (begin .pre .1) (begin .pre .0 .sorted .short)
-    (sym (w .2 .ensures .0) ∙ not-false _ (w .3 .left)) _ _ _
-    (w .6 .ensures .0 ∙ ap (λ (rows : List ℕ). any (λ row. getD (loop .used) row false) (unitFrom (begin .args .members .now) rows)) (w .2 .ensures .1))
-    (w .7 .ensures)
-    (w .6 .ensures .1 ∙ ap (λ (rows : List ℕ). marked (unitFrom (begin .args .members .now) rows) (loop .used)) (w .2 .ensures .1))))
-    (λ w. rw (w .2, w .3, w .4) (walked-other _ _ _ _ _ _ (loop .inv) inside (ne-eqb _ _ (w .0 .left))))
+    (sym (w .3 .ensures .0) ∙ not-false _ (w .4 .left)) _ _ _
+    (w .7 .ensures .0 ∙ ap (λ (rows : List ℕ). any (λ row. getD (loop .used) row false) (unitFrom (begin .args .members .now) rows)) (w .3 .ensures .1))
+    (w .8 .ensures)
+    (w .7 .ensures .1 ∙ ap (λ (rows : List ℕ). marked (unitFrom (begin .args .members .now) rows) (loop .used)) (w .3 .ensures .1))))
+    (λ w. rw (w .3, w .4, w .5) (walked-other _ _ _ _ _ _ (loop .inv) inside (ne-eqb _ _ (w .0 .left))))
     (c .if1 .came)
 
 returns-2 : tie.Need-returns-2 Inv-loop μ-loop
