@@ -10,9 +10,8 @@ use borrow.Author.Tests.{lt-ltb, le-ltb}
 use lib.Dec.{ltb}
 use lib.ListN.{length, getD, set, drop, drop-of-length-le}
 use lib.Seq.{drop-cons}
-use Rattle.assembling.specs.declared.assembly.Assembly.{Assembly}
 use Rattle.rows.specs.Table.{Table, rowsIn, matchOf}
-use Rattle.assembling.specs.Assemblies.{upperOf, lowerOf, pairedRow, partner, assembledFrom}
+use Rattle.assembling.specs.Assemblies.{Assembly, upperOf, lowerOf, pairedRow, partner, assembledFrom}
 
 abbrev incomplete : List ℕ → Assembly
 incomplete rows = record { complete = false; rows = rows }

@@ -1,7 +1,7 @@
 -- A row found by its decoding time: the places of a layer's rows climb, so that halving finds the one place where the row can be.
 -- Assumes nothing.
 use Prim.Native.Nat.{ℕ, _+_, _-_, _≤_, _<_}
-use mathlib.Core.Path.{_≡_, refl, sym, _∙_, ap}
+use mathlib.Core.Path.{_≡_, refl, sym, _∙_, ap, subst}
 use mathlib.Core.Bool.{Bool, true, false, _&&_}
 use mathlib.Core.List.{List, []}
 use native.Mathlib.Omega.{arith}
@@ -181,6 +181,23 @@ module _ (indices decodings starts order : List ℕ) (sorted : Sorted indices de
       another f =
           seek-end sought (length indices) (length indices) refl
           (λ k l. unsought k (λ e d. let w = stands k l e d in f (ap (λ (j : ℕ). getD decodings j 0) (w .1) ∙ d)))
+
+    -- any place of the layer's is where its own row's time is reached, so that a row that has the time is the answer, however it was come by
+    pub at-guess : (time place : ℕ) → getD starts layer 0 ≤ place → place < getD starts (layer + 1) 0 → getD decodings (getD order place 0) 0 ≡ time
+        → getD order place 0 ≡ rowAt (table indices decodings []) layer time
+    at-guess time place h l d =
+        the-row time (distanceOf origin time) place refl
+        (record {
+          from = h;
+          to = omega arith;
+          before = λ q a b. subst (λ (x : ℕ). distanceOf origin (getD decodings (getD order q 0) 0) < distanceOf origin x) d (climbing .climbs q place a b l);
+          after = λ q a b. subst (λ (x : ℕ). distanceOf origin x ≤ distanceOf origin (getD decodings (getD order q 0) 0)) d (further q a b (ℕ-discrete q place));
+        }) l d
+      where
+        further : (q : ℕ) → place ≤ q → q < getD starts (layer + 1) 0 → Dec (q ≡ place)
+            → distanceOf origin (getD decodings (getD order place 0) 0) ≤ distanceOf origin (getD decodings (getD order q 0) 0)
+        further q a b (yes e) = rw e (omega arith)
+        further q a b (no e) = let less = climbing .climbs place q h (omega arith) b in omega arith
 
   -- a layer with no rows
   pub no-rows : getD starts (layer + 1) 0 ≤ getD starts layer 0 → (time : ℕ) → length indices ≡ rowAt (table indices decodings []) layer time

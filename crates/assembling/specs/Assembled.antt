@@ -14,9 +14,8 @@ use lib.ListN.{length, getD, set, replicate, length-set, length-replicate, getD-
 use lib.Seq.{getD-set-same, getD-set-other}
 use Rattle.combinators.specs.Below.{seek-first}
 use Rattle.combinators.specs.Bools.{both-left, both-right}
-use Rattle.assembling.specs.declared.assembly.Assembly.{Assembly}
 use Rattle.rows.specs.Table.{Table, rowsIn, layerOf, decodingOf, matchOf}
-use Rattle.assembling.specs.Assemblies.{upperOf, lowerOf, rowAt, pairedRow, partner, assembledFrom, assembled}
+use Rattle.assembling.specs.Assemblies.{Assembly, upperOf, lowerOf, rowAt, pairedRow, partner, assembledFrom, assembled}
 
 -- an edge is met: both its layers have a row, and 'the decoding time of the lower row equals the match time of the upper row'
 pub record Met (t : Table) (rows : List ℕ) (edge : ℕ) : Type 0 where

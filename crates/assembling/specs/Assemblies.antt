@@ -12,7 +12,6 @@ use Rattle.closure.specs.declared.Layers.{Layers}
 use Rattle.combinators.specs.Below.{seek}
 use Rattle.combinators.specs.Those.{those}
 use Rattle.sets.specs.Sets.{has}
-use Rattle.assembling.specs.declared.assembly.Assembly.{Assembly}
 use Rattle.rows.specs.Table.{Table, rowsIn, layerOf, decodingOf, matchOf}
 
 -- An edge, 'each layer and each of its embedded layers', is held as one number: the pairs of indices in this order have the highest
@@ -58,6 +57,11 @@ partner t rows edge =
     cond (ltb (getD rows (upperOf edge) 0) (rowsIn t))
     (pairedRow t (getD rows (lowerOf edge) 0) (lowerOf edge) (matchOf t (getD rows (upperOf edge) 0)))
     (rowsIn t)
+
+-- the rows chosen, one for each layer index, the number of rows standing for none; and whether each edge was met
+pub record Assembly : Type 0 where
+  pub complete : Bool
+  pub rows : List ℕ
 
 -- Edge after edge, each lower layer is given its row; the first edge that finds none ends it.
 abbrev pub assembledFrom : Table → List ℕ → List ℕ → Assembly

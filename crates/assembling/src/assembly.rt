@@ -1,7 +1,7 @@
 // The assembly of a row: one row for each layer that its own layer rests on.
 ghost use mathlib.Core.List.{[]};
 ghost use mathlib.Core.Path.{_≡_};
-ghost use Prim.Native.Nat.{_<_};
+ghost use Prim.Native.Nat.{_≤_, _<_};
 ghost use lib.ListN.{length};
 ghost use Rattle.combinators.specs.Padding.{padTo};
 ghost use Rattle.rows.specs.Table.{table};
@@ -19,12 +19,6 @@ pub struct Edges {
 pub struct Members {
     pub count: usize,
     pub list: [u8; 64],
-}
-
-// The rows chosen, one for each layer index, the number of rows standing for none; and whether each edge was met.
-pub struct Assembly {
-    pub complete: bool,
-    pub rows: [usize; 64],
 }
 
 fn upper_of(edge: usize) -> usize
@@ -123,14 +117,16 @@ fn first_as_far(
     low
 }
 
-// The row of a layer that has a decoding time, or the number of rows. The layer's rows lie farther and farther ahead of its first.
-fn row_at(
+// The row of a layer that has a decoding time, or the number of rows, by a search in halves: the layer's rows lie farther and farther ahead
+// of its first. The place after the row found is noted as the layer's next.
+fn row_sought(
     indices: &[u8],
     decodings: &[u64],
     starts: &[usize; 65],
     order: &[usize; 512],
     layer: usize,
     time: u64,
+    next: &mut [usize; 64],
 ) -> usize
     requires { ⌜ Sorted (now indices) (now decodings) (now starts) (now order) × (layer < 64) × Rising (table (now indices) (now decodings) []) layer ⌝ }
     ensures { λ r. ⌜ r ≡ rowAt (table (now (indices .entry)) (now (decodings .entry)) []) layer time ⌝ }
@@ -155,9 +151,45 @@ fn row_at(
     }
     let row = order[place];
     if decodings[row] == time {
+        next[layer] = place + 1;
         return row;
     }
     none
+}
+
+// The place to be looked at first: the one noted, or the layer's first where that is later.
+fn guess_of(first: usize, noted: usize) -> usize
+    ensures { λ r. ⌜ first ≤ r ⌝ }
+{
+    if noted < first {
+        return first;
+    }
+    noted
+}
+
+// The row of a layer that has a decoding time, or the number of rows. Time goes on from unit to unit, so that it is mostly the row after the
+// one found last; only one row of the layer has the time, so that this row is the answer wherever it has.
+fn row_at(
+    indices: &[u8],
+    decodings: &[u64],
+    starts: &[usize; 65],
+    order: &[usize; 512],
+    layer: usize,
+    time: u64,
+    next: &mut [usize; 64],
+) -> usize
+    requires { ⌜ Sorted (now indices) (now decodings) (now starts) (now order) × (layer < 64) × Rising (table (now indices) (now decodings) []) layer ⌝ }
+    ensures { λ r. ⌜ r ≡ rowAt (table (now (indices .entry)) (now (decodings .entry)) []) layer time ⌝ }
+{
+    let guess = guess_of(starts[layer], next[layer]);
+    if guess < starts[layer + 1] {
+        let row = order[guess];
+        if decodings[row] == time {
+            next[layer] = guess + 1;
+            return row;
+        }
+    }
+    row_sought(indices, decodings, starts, order, layer, time, next)
 }
 
 // The row for the lower layer of an edge, given the row that the layer has so far, or the number of rows.
@@ -169,6 +201,7 @@ fn paired_row(
     row: usize,
     layer: usize,
     time: u64,
+    next: &mut [usize; 64],
 ) -> usize
     requires { ⌜ Sorted (now indices) (now decodings) (now starts) (now order) × (layer < 64) × Rising (table (now indices) (now decodings) []) layer ⌝ }
     ensures { λ r. ⌜ r ≡ pairedRow (table (now (indices .entry)) (now (decodings .entry)) []) row layer time ⌝ }
@@ -179,10 +212,11 @@ fn paired_row(
         }
         return indices.len();
     }
-    row_at(indices, decodings, starts, order, layer, time)
+    row_at(indices, decodings, starts, order, layer, time, next)
 }
 
-// The assembly that the row `head` of the layer `top` is at the head of.
+// Lays the assembly that the row `head` of the layer `top` is at the head of into `rows`, and answers whether each edge was met. In `next`
+// it notes for each layer the place after the row found last, for a guess: whatever stands there, the answer is the same.
 pub fn assemble(
     indices: &[u8],
     decodings: &[u64],
@@ -192,22 +226,22 @@ pub fn assemble(
     edges: &[u16],
     top: usize,
     head: usize,
-) -> Assembly
+    next: &mut [usize; 64],
+    rows: &mut [usize; 64],
+) -> bool
     requires { ⌜ Ready (table (now indices) (now decodings) (now matches)) (now starts) (now order) (now edges) × (top < 64) ⌝ }
-    ensures { λ r. ⌜ r ≡ assembled (table (now (indices .entry)) (now (decodings .entry)) (now (matches .entry))) (now (edges .entry)) top head ⌝ }
+    ensures complete { λ r. ⌜ r ≡ assembled (table (now (indices .entry)) (now (decodings .entry)) (now (matches .entry))) (now (edges .entry)) top head .complete ⌝ }
+    ensures content { λ _. ⌜ now (rows .exit) ≡ assembled (table (now (indices .entry)) (now (decodings .entry)) (now (matches .entry))) (now (edges .entry)) top head .rows ⌝ }
 {
     let none = indices.len();
-    let mut rows = [none; 64];
+    *rows = [none; 64];
     rows[top] = head;
     let mut at = 0;
     while at < edges.len() {
         let edge = edges[at] as usize;
         let upper = rows[63 - edge / 64 % 64];
         if none <= upper {
-            return Assembly {
-                complete: false,
-                rows,
-            };
+            return false;
         }
         let lower = edge % 64;
         let row = paired_row(
@@ -218,18 +252,13 @@ pub fn assemble(
             rows[lower],
             lower,
             matches[upper],
+            next,
         );
         if none <= row {
-            return Assembly {
-                complete: false,
-                rows,
-            };
+            return false;
         }
         rows[lower] = row;
         at += 1;
     }
-    Assembly {
-        complete: true,
-        rows,
-    }
+    true
 }

@@ -3,7 +3,6 @@
 mod assembly;
 mod index;
 
-pub use assembly::Assembly;
 pub use assembly::Edges;
 pub use assembly::Members;
 pub use assembly::assemble;

@@ -16,7 +16,7 @@ use Rattle.closure.specs.Meaning.{RestsOn, by}
 use Rattle.clock.specs.Clock.{distanceOf}
 use Rattle.combinators.specs.Below.{seek-here}
 use Rattle.combinators.specs.Bools.{both-left, both-right}
-use Rattle.assembling.specs.declared.assembly.Assembly.{Assembly}
+use Rattle.assembling.specs.Assemblies.{Assembly}
 use Rattle.joining.specs.Table.{Table, rowsIn, layerOf, decodingOf, matchOf, firstRow, ahead}
 use Rattle.assembling.specs.Index.{Rising}
 use Rattle.joining.specs.Assemblies.{upperOf, lowerOf, rowAt, pairedRow, partner, edgesOf, assembledFrom, assembled}

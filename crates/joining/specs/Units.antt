@@ -12,7 +12,7 @@ use Rattle.combinators.specs.Lists.{any, gather}
 use Rattle.combinators.specs.Members.{member}
 use Rattle.combinators.specs.Those.{those}
 use Rattle.sets.specs.Sets.{has}
-use Rattle.assembling.specs.declared.assembly.Assembly.{Assembly}
+use Rattle.assembling.specs.Assemblies.{Assembly}
 use Rattle.joining.specs.Table.{Table, rowsIn, layerOf, decodingOf}
 use Rattle.joining.specs.Assemblies.{assembled}
 

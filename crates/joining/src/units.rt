@@ -87,13 +87,15 @@ pub fn judge(
     ensures { λ r. ⌜ Judges (table (now (indices .entry)) (now (decodings .entry)) (now (matches .entry))) (frame target (now (members .entry)) (now (edges .entry))) r ⌝ }
 {
     let none = indices.len();
+    let mut next = [0usize; 64];
+    let mut rows = [none; 64];
     let mut used = [false; 512];
     let mut shared = none;
     let mut units = 0;
     let mut row = 0;
     while row < none {
         if indices[row] as usize == target {
-            let assembly = assemble(
+            let complete = assemble(
                 indices,
                 decodings,
                 matches,
@@ -102,8 +104,10 @@ pub fn judge(
                 edges,
                 target,
                 row,
+                &mut next,
+                &mut rows,
             );
-            if !assembly.complete {
+            if !complete {
                 return Judged {
                     unpaired: row,
                     shared,
@@ -111,7 +115,6 @@ pub fn judge(
                     used,
                 };
             }
-            let rows = assembly.rows;
             let shares = claim(&rows, members, &mut used);
             shared = first_sharing(shared, none, shares, row);
             units += 1;

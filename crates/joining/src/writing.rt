@@ -51,11 +51,13 @@ pub fn write_units(
     ensures content { λ _. ⌜ now (numbers .exit) ≡ sets (now (numbers .entry)) 0 (rowsBelow (table (now (indices .entry)) (now (decodings .entry)) (now (matches .entry))) (frame target (now (members .entry)) (now (edges .entry))) (length (now (indices .entry)))) ⌝ }
     ensures beside { λ _. ⌜ now (lags .exit) ≡ sets (now (lags .entry)) 0 (lagsBelow (table (now (indices .entry)) (now (decodings .entry)) (now (matches .entry))) (frame target (now (members .entry)) (now (edges .entry))) (length (now (indices .entry)))) ⌝ }
 {
+    let mut next = [0usize; 64];
+    let mut rows = [0usize; 64];
     let mut at = 0;
     let mut row = 0;
     while row < indices.len() {
         if indices[row] as usize == target {
-            let assembly = assemble(
+            assemble(
                 indices,
                 decodings,
                 matches,
@@ -64,8 +66,9 @@ pub fn write_units(
                 edges,
                 target,
                 row,
+                &mut next,
+                &mut rows,
             );
-            let rows = assembly.rows;
             write_unit(&rows, members, decodings, decodings[row], at, numbers, lags);
             at += members.len();
         }

@@ -23,7 +23,7 @@ row-at-requires : tie.Need-row-at-requires
 row-at-requires c κs = search needs
 
 returns-3 : tie.Need-returns-3
-returns-3 c = rw (le-ltb _ _ (c .before .if1 .left)) (c .row-at .ensures)
+returns-3 c = rw (le-ltb _ _ (c .before .before .if1 .left)) (c .row-at .ensures)
 
 pub paired-row-spec : {M : Type 1} → statement M
 paired-row-spec =

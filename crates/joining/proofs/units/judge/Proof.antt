@@ -11,7 +11,6 @@ use borrow.Author.Tests.{eq-eqb, ne-eqb, not-true, not-false}
 use lib.ListN.{length, getD}
 use Rattle.combinators.specs.Below.{count-short}
 use Rattle.combinators.specs.Lists.{any}
-use Rattle.assembling.specs.declared.assembly.Assembly.{Assembly}
 use Rattle.joining.specs.Table.{table}
 use Rattle.joining.specs.Units.{frame, isTarget, unitFrom}
 use Rattle.joining.specs.Judging.{Chosen, marked}
@@ -20,11 +19,11 @@ use Rattle.joining.proofs.units.judge.Statement.{statement}
 use Rattle.joining.proofs.units.judge.Tie as tie
 
 abbrev Inv-loop : tie.InvT-loop
-Inv-loop indices decodings matches starts order edges members target none used₀ shared₀ units₀ row₀ used shared units row =
+Inv-loop indices decodings matches starts order edges members target none next₀ rows₀ used₀ shared₀ units₀ row₀ next rows used shared units row =
     Walked (table indices decodings matches) (frame target members edges) row shared units used
 
 abbrev μ-loop : tie.MeasureT-loop
-μ-loop indices decodings matches starts order edges members target none used₀ shared₀ units₀ row₀ used shared units row =
+μ-loop indices decodings matches starts order edges members target none next₀ rows₀ used₀ shared₀ units₀ row₀ next rows used shared units row =
     length indices - row
 
 loop-holds : tie.Need-loop-holds Inv-loop μ-loop
@@ -38,26 +37,26 @@ cast-if1 c = omega (arith, c .shared-slice-known6 .given (c .before .before .loo
 
 assemble-requires : tie.Need-assemble-requires Inv-loop μ-loop
 assemble-requires c κs =
-    let begin = c .before .before .before .before .before .before .before .before .before in
+    let begin = c .before .before .before .before .before .before .before .before .before .before .before in
     (begin .pre .0, begin .pre .1 .top)
 
 returns : tie.Need-returns Inv-loop μ-loop
 returns c =
-    let begin = c .before .before .before .before .before .before .before .before .before .before .before .before in
-    let loop = c .before .before .before .before .before .before .loop in
-    let inside = c .before .before .before .before .before .loop-test .taken in
+    let begin = c .before .before .before .before .before .before .before .before .before .before .before .before .before in
+    let loop = c .before .before .before .before .before .before .before .loop in
+    let inside = c .before .before .before .before .before .before .loop-test .taken in
     stopped _ _ _ inside
-    (no-assembly _ _ _ _ _ _ (loop .inv) inside (eq-eqb _ _ (c .before .before .before .if1 .taken))
-    (sym (ap (λ (a : Assembly). a .complete) (c .before .before .assemble .ensures)) ∙ not-true _ (c .if2 .taken)))
+    (no-assembly _ _ _ _ _ _ (loop .inv) inside (eq-eqb _ _ (c .before .before .before .before .if1 .taken))
+    (sym (c .before .assemble .ensures .0) ∙ not-true _ (c .if2 .taken)))
 
 claim-requires : tie.Need-claim-requires Inv-loop μ-loop
 claim-requires c κs =
     let begin = c .before .before .before .before .before .before .before .before .before .before .before .before .before .before .before in
     let loop = c .before .before .before .before .before .before .before .before .before .loop in
     let inside = c .before .before .before .before .before .before .before .before .loop-test .taken in
-    subst (λ (a : Assembly). Chosen (begin .args .members .now) (a .rows)) (sym (c .before .before .before .before .before .assemble .ensures))
+    subst (Chosen (begin .args .members .now)) (sym (c .before .before .before .assemble .ensures .1))
     (chosen _ _ _ _ _ _ (loop .inv) inside (eq-eqb _ _ (c .before .before .before .before .before .before .if1 .taken)) (begin .pre .1) (begin .pre .0 .sorted .short)
-    (sym (ap (λ (a : Assembly). a .complete) (c .before .before .before .before .before .assemble .ensures)) ∙ not-false _ (c .before .before .before .if2 .left)))
+    (sym (c .before .before .before .assemble .ensures .0) ∙ not-false _ (c .before .before .if2 .left)))
 
 first-sharing-requires : tie.Need-first-sharing-requires Inv-loop μ-loop
 first-sharing-requires c κs = search needs
@@ -85,13 +84,13 @@ loop-again c =
     let loop = c .before .before .before .loop in
     let inside = c .before .before .loop-test .taken in
     ⊎-elim
-    (λ w. rw (w .9, w .10, w .11)
+    (λ w. rw (w .11, w .12, w .13)
     (walked-target _ _ _ _ _ _ (loop .inv) inside (eq-eqb _ _ (w .0 .taken)) (begin .pre .1) (begin .pre .0 .sorted .short)
-    (sym (ap (λ (a : Assembly). a .complete) (w .1 .ensures)) ∙ not-false _ (w .3 .left)) _ _ _
-    (w .7 .ensures .0 ∙ ap (λ (a : Assembly). any (λ row. getD (loop .used) row false) (unitFrom (begin .args .members .now) (a .rows))) (w .1 .ensures))
+    (sym (w .3 .ensures .0) ∙ not-false _ (w .4 .left)) _ _ _
+    (w .7 .ensures .0 ∙ ap (λ (rows : List ℕ). any (λ row. getD (loop .used) row false) (unitFrom (begin .args .members .now) rows)) (w .3 .ensures .1))
     (w .8 .ensures)
-    (w .7 .ensures .1 ∙ ap (λ (a : Assembly). marked (unitFrom (begin .args .members .now) (a .rows)) (loop .used)) (w .1 .ensures))))
-    (λ w. rw (w .1, w .2, w .3) (walked-other _ _ _ _ _ _ (loop .inv) inside (ne-eqb _ _ (w .0 .left))))
+    (w .7 .ensures .1 ∙ ap (λ (rows : List ℕ). marked (unitFrom (begin .args .members .now) rows) (loop .used)) (w .3 .ensures .1))))
+    (λ w. rw (w .3, w .4, w .5) (walked-other _ _ _ _ _ _ (loop .inv) inside (ne-eqb _ _ (w .0 .left))))
     (c .if1 .came)
 
 returns-2 : tie.Need-returns-2 Inv-loop μ-loop

@@ -9,7 +9,6 @@ use borrow.Author.Needs.{needs}
 use borrow.Author.Tests.{eq-eqb, ne-eqb}
 use lib.ListN.{length, getD}
 use lib.Seq.{sets}
-use Rattle.assembling.specs.declared.assembly.Assembly.{Assembly}
 use Rattle.joining.specs.Table.{table}
 use Rattle.joining.specs.Units.{frame, unitFrom, lagsFrom}
 use Rattle.joining.specs.Writing.{Placed}
@@ -18,11 +17,11 @@ use Rattle.joining.proofs.writing.write_units.Statement.{statement}
 use Rattle.joining.proofs.writing.write_units.Tie as tie
 
 abbrev Inv-loop : tie.InvT-loop
-Inv-loop indices decodings matches starts order edges members target numbers₀ lags₀ at₀ row₀ numbers lags at row =
+Inv-loop indices decodings matches starts order edges members target numbers₀ lags₀ next₀ rows₀ at₀ row₀ numbers lags next rows at row =
     Filled (table indices decodings matches) (frame target members edges) numbers₀ lags₀ row at numbers lags
 
 abbrev μ-loop : tie.MeasureT-loop
-μ-loop indices decodings matches starts order edges members target numbers₀ lags₀ at₀ row₀ numbers lags at row =
+μ-loop indices decodings matches starts order edges members target numbers₀ lags₀ next₀ rows₀ at₀ row₀ numbers lags next rows at row =
     length indices - row
 
 loop-holds : tie.Need-loop-holds Inv-loop μ-loop
@@ -35,21 +34,21 @@ cast-if1 : tie.Need-cast-if1 Inv-loop μ-loop
 cast-if1 c = omega (arith, c .shared-slice-known6 .given (c .before .before .loop .row))
 
 assemble-requires : tie.Need-assemble-requires Inv-loop μ-loop
-assemble-requires c κs = (c .before .before .before .before .before .before .before .before .before .before .pre .0, c .before .before .before .before .before .before .before .before .before .before .pre .1 .whole .top)
+assemble-requires c κs = (c .before .before .before .before .before .before .before .before .before .before .before .before .pre .0, c .before .before .before .before .before .before .before .before .before .before .before .before .pre .1 .whole .top)
 
 mul-write-unit : tie.Need-mul-write-unit Inv-loop μ-loop
-mul-write-unit c = omega (arith, c .before .before .before .before .before .before .before .before .before .before .before .before .before .pre .0 .sorted .short, c .before .before .before .before .before .loop-test .taken)
+mul-write-unit c = omega (arith, c .before .before .before .before .before .before .before .before .before .before .before .before .before .before .pre .0 .sorted .short, c .before .before .before .before .before .before .loop-test .taken)
 
 shared-slice-read-write-unit : tie.Need-shared-slice-read-write-unit Inv-loop μ-loop
-shared-slice-read-write-unit c = omega (arith, c .before .before .before .before .before .before .before .before .before .before .before .before .before .before .pre .0 .sorted .same-length, c .before .before .before .before .before .before .loop-test .taken)
+shared-slice-read-write-unit c = omega (arith, c .before .before .before .before .before .before .before .before .before .before .before .before .before .before .before .pre .0 .sorted .same-length, c .before .before .before .before .before .before .before .loop-test .taken)
 
 write-unit-requires : tie.Need-write-unit-requires Inv-loop μ-loop
 write-unit-requires c κs =
-    let begin = c .before .before .before .before .before .before .before .before .before .before .before .before .before .before .before .before in
-    let loop = c .before .before .before .before .before .before .before .before .before .loop in
-    let inside = c .before .before .before .before .before .before .before .before .loop-test .taken in
-    let m = eq-eqb _ _ (c .before .before .before .before .before .before .if1 .taken) in (
-      subst (λ (a : Assembly). Placed (begin .args .members .now) (a .rows) (begin .args .decodings .now)) (sym (c .before .before .before .before .before .assemble .ensures))
+    let begin = c .before .before .before .before .before .before .before .before .before .before .before .before .before .before .before .before .before in
+    let loop = c .before .before .before .before .before .before .before .before .before .before .loop in
+    let inside = c .before .before .before .before .before .before .before .before .before .loop-test .taken in
+    let m = eq-eqb _ _ (c .before .before .before .before .before .before .before .if1 .taken) in (
+      subst (λ (rows : List ℕ). Placed (begin .args .members .now) rows (begin .args .decodings .now)) (sym (c .before .before .before .before .assemble .ensures .1))
           (unit-placed _ _ _ _ _ _ _ _ (loop .inv) inside m (begin .pre .1) (begin .pre .0 .sorted .same-length)),
       room-numbers _ _ _ _ _ _ _ _ (loop .inv) inside m (begin .pre .1),
       room-lags _ _ _ _ _ _ _ _ (loop .inv) inside m (begin .pre .1),
@@ -57,12 +56,12 @@ write-unit-requires c κs =
 
 add-at : tie.Need-add-at Inv-loop μ-loop
 add-at c =
-    let begin = c .before .before .before .before .before .before .before .before .before .before .before .before .before .before .before .before .before .before .before .before in
-    let loop = c .before .before .before .before .before .before .before .before .before .before .before .before .before .loop in
-    let inside = c .before .before .before .before .before .before .before .before .before .before .before .before .loop-test .taken in
+    let begin = c .before .before .before .before .before .before .before .before .before .before .before .before .before .before .before .before .before .before .before .before .before in
+    let loop = c .before .before .before .before .before .before .before .before .before .before .before .before .before .before .loop in
+    let inside = c .before .before .before .before .before .before .before .before .before .before .before .before .before .loop-test .taken in
     omega (
       arith,
-      room-numbers _ _ _ _ _ _ _ _ (loop .inv) inside (eq-eqb _ _ (c .before .before .before .before .before .before .before .before .before .before .if1 .taken)) (begin .pre .1),
+      room-numbers _ _ _ _ _ _ _ _ (loop .inv) inside (eq-eqb _ _ (c .before .before .before .before .before .before .before .before .before .before .before .if1 .taken)) (begin .pre .1),
       long-numbers _ _ _ _ _ _ _ _ (loop .inv),
       begin .good,
     )
@@ -79,13 +78,13 @@ loop-again c =
     let loop = c .before .before .before .loop in
     let inside = c .before .before .loop-test .taken in
     ⊎-elim
-    (λ w. rw (w .11, w .12, w .13)
+    (λ w. rw (w .12, w .13, w .16)
     (filled-target _ _ _ _ _ _ _ _ (loop .inv) inside (eq-eqb _ _ (w .0 .taken)) _ _
-    (w .7 .ensures .0 ∙ ap (λ (a : Assembly). sets (loop .numbers) (loop .at) (unitFrom (begin .args .members .now) (a .rows))) (w .1 .ensures))
-    (w .7 .ensures .1 ∙ ap (λ (a : Assembly). sets (loop .lags) (loop .at)
+    (w .8 .ensures .0 ∙ ap (λ (rows : List ℕ). sets (loop .numbers) (loop .at) (unitFrom (begin .args .members .now) rows)) (w .3 .ensures .1))
+    (w .8 .ensures .1 ∙ ap (λ (rows : List ℕ). sets (loop .lags) (loop .at)
     (lagsFrom (table (begin .args .indices .now) (begin .args .decodings .now) (begin .args .matches .now)) (getD (begin .args .decodings .now) (loop .row) 0)
-    (unitFrom (begin .args .members .now) (a .rows)))) (w .1 .ensures))))
-    (λ w. rw (w .1, w .2, w .3) (filled-other _ _ _ _ _ _ _ _ (loop .inv) inside (ne-eqb _ _ (w .0 .left))))
+    (unitFrom (begin .args .members .now) rows))) (w .3 .ensures .1))))
+    (λ w. rw (w .1, w .2, w .5) (filled-other _ _ _ _ _ _ _ _ (loop .inv) inside (ne-eqb _ _ (w .0 .left))))
     (c .if1 .came)
 
 same-length : tie.Need-same-length Inv-loop μ-loop
