@@ -33,11 +33,12 @@ isEdge layers closure edge = joins closure (getD (layers .embedded) (upperOf edg
 unfoldable pub edgesOf : Layers → ℕ → List ℕ
 edgesOf layers closure = those (isEdge layers closure) 4096
 
--- the pair to be looked at after one: none in between has an upper layer of the closure
-pub record Next (closure edge next : ℕ) : Type 0 where
+-- the pair to be looked at after one, given what its upper layer embeds: those in between have the same upper layer, and none is an edge
+pub record Next (closure embedded edge next : ℕ) : Type 0 where
   pub after : edge < next
   pub within : next ≤ 4096
-  pub outside : (k : ℕ) → edge < k → k < next → has closure (upperOf k) ≡ false
+  pub same-upper : (k : ℕ) → edge < k → k < next → upperOf k ≡ upperOf edge
+  pub no-edge : (k : ℕ) → edge < k → k < next → joins closure embedded (upperOf edge) (lowerOf k) ≡ false
 
 unfoldable pub membersOf : ℕ → List ℕ
 membersOf closure = those (has closure) 64

@@ -46,15 +46,21 @@ fn is_edge(closure: u64, embedded: u64, upper: usize, lower: usize) -> bool
     sets::member(embedded, lower)
 }
 
-// The pair to be looked at after one: the next, or past all pairs of an upper layer outside the closure.
-fn next_edge(closure: u64, edge: usize) -> usize
+// The pair to be looked at after one, given what its upper layer embeds: the next edge of that layer, or the first pair of the next one.
+fn next_edge(closure: u64, embedded: u64, edge: usize) -> usize
     requires { ⌜ edge < 4096 ⌝ }
-    ensures { λ r. ⌜ Next closure edge r ⌝ }
+    ensures { λ r. ⌜ Next closure embedded edge r ⌝ }
 {
-    if sets::member(closure, upper_of(edge)) {
-        return edge + 1;
+    let upper = upper_of(edge);
+    let start = edge / 64 * 64;
+    if !sets::member(closure, upper) {
+        return start + 64;
     }
-    edge / 64 * 64 + 64
+    let next = sets::lowest(sets::without(embedded, sets::below(embedded, edge % 64 + 1))) as usize;
+    if upper <= next {
+        return start + 64;
+    }
+    start + next
 }
 
 // The edges of a closure, those of the highest layer first.
@@ -66,11 +72,12 @@ pub fn edges_of(layers: Layers, closure: u64) -> Edges
     let mut edge = 0;
     while edge < 4096 {
         let upper = upper_of(edge);
-        if is_edge(closure, layers.embedded[upper], upper, lower_of(edge)) {
+        let embedded = layers.embedded[upper];
+        if is_edge(closure, embedded, upper, lower_of(edge)) {
             list[count] = edge as u16;
             count += 1;
         }
-        edge = next_edge(closure, edge);
+        edge = next_edge(closure, embedded, edge);
     }
     Edges { count, list }
 }

@@ -37,11 +37,11 @@ loop-holds c = gathered-start _ _
 upper-of-requires : tie.Need-upper-of-requires Inv-loop μ-loop
 upper-of-requires c κs = search needs
 
-mul-is-edge : tie.Need-mul-is-edge Inv-loop μ-loop
-mul-is-edge c = omega (arith, c .upper-of .ensures)
+mul-embedded : tie.Need-mul-embedded Inv-loop μ-loop
+mul-embedded c = omega (arith, c .upper-of .ensures)
 
-element-copy-out-is-edge : tie.Need-element-copy-out-is-edge Inv-loop μ-loop
-element-copy-out-is-edge c = omega (arith, c .upper-of .ensures)
+element-copy-out-embedded : tie.Need-element-copy-out-embedded Inv-loop μ-loop
+element-copy-out-embedded c = omega (arith, c .upper-of .ensures)
 
 lower-of-requires : tie.Need-lower-of-requires Inv-loop μ-loop
 lower-of-requires c κs = search needs
@@ -72,12 +72,12 @@ loop-again c =
     let a = c .before .before .before .before .before .before .before .before .args in
     let at = c .before .before .before .before .before .before .before .loop in
     let more = c .before .before .before .before .before .before .loop-test .taken in
-    gathered-next (a .t1) (a .closure) (at .edge) _ _ _
+    gathered-next (a .t1) (a .closure) (at .edge) _ _ _ _
     (⊎-elim
     (λ w. rw (w .1, w .2) (gathered-more _ 4096 _ _ _ (at .inv) more (sym (tested (c .before .before)) ∙ w .0 .taken)))
     (λ w. rw (w .1, w .2) (gathered-same _ 4096 _ _ _ (at .inv) more (sym (tested (c .before .before)) ∙ w .0 .left)))
     (c .before .if1 .came))
-    (c .next-edge .ensures)
+    (c .before .before .before .before .before .upper-of .ensures) (c .next-edge .ensures)
 
 returns : tie.Need-returns Inv-loop μ-loop
 unfolding edgesOf
@@ -94,8 +94,8 @@ edges-of-spec =
     μ-loop
     loop-holds
     upper-of-requires
-    mul-is-edge
-    element-copy-out-is-edge
+    mul-embedded
+    element-copy-out-embedded
     lower-of-requires
     is-edge-requires
     cast-list
