@@ -1,5 +1,6 @@
 // The assembly of a row, as document 01 has it under 'Rows and units': one row for each layer that the row's own layer rests on, found by an
-// index of the table's rows by layer and a search in halves by forward distance; and the edges and the layers of a closure.
+// index of the table's rows by layer: at the place after the row found last, or by a search in halves by forward distance; and the edges and
+// the layers of a closure.
 mod assembly;
 mod index;
 
