@@ -1,6 +1,6 @@
 //! The inputs that are measured.
 
-use plain::{Embedded, Entry, Extension, Hierarchy, Layers, Record};
+use plain::{Columns, Embedded, Entry, Extension, Hierarchy, Layers, Record};
 
 /// Document 01's loop A, 37 bytes.
 pub const LOOP_A: [u8; 37] = [
@@ -102,31 +102,10 @@ pub fn layers(count: usize, names: usize) -> Layers {
     layers
 }
 
-/// A table of rows.
-pub struct Rows {
-    pub indices: Vec<u8>,
-    pub decodings: Vec<u64>,
-    pub matches: Vec<u64>,
-}
-
-impl Rows {
-    pub fn as_plain(&self) -> plain::Rows<'_> {
-        plain::Rows {
-            indices: &self.indices,
-            decodings: &self.decodings,
-            matches: &self.matches,
-        }
-    }
-}
-
 /// A table of 512 rows of so many layers, unit after unit, across the wrap of the clock. Where each layer names one only, their decoding
 /// times differ; layers that are named together have one decoding time.
-pub fn rows(count: usize, names: usize) -> Rows {
-    let mut rows = Rows {
-        indices: Vec::new(),
-        decodings: Vec::new(),
-        matches: Vec::new(),
-    };
+pub fn rows(count: usize, names: usize) -> Columns {
+    let mut rows = Columns::default();
     let apart = if names == 1 { 10 } else { 0 };
     for unit in 0..512 / count as u64 {
         let instant = (1 << 33) - 400_000 + 3600 * unit;

@@ -268,7 +268,7 @@ fn join(count: usize, names: usize) -> Measure {
     let mut lags = vec![0; 512];
     let plain = move |calls| {
         repeat(calls, || {
-            let (layers, rows) = hide((&layers, given.as_plain()));
+            let (layers, rows) = hide((&layers, given.rows()));
             let (numbers, lags) = hide((&mut numbers[..], &mut lags[..]));
             answer(plain::join(layers, hide(target), rows, numbers, lags))
         })
@@ -277,7 +277,7 @@ fn join(count: usize, names: usize) -> Measure {
     let mut lags = vec![0; 512];
     let search = move |calls| {
         repeat(calls, || {
-            let (layers, rows) = hide((&layers, rows.as_plain()));
+            let (layers, rows) = hide((&layers, rows.rows()));
             let (numbers, lags) = hide((&mut numbers[..], &mut lags[..]));
             answer(plain::join_by_search(
                 layers,
@@ -342,7 +342,7 @@ fn import(count: usize) -> Measure {
         repeat(calls, || {
             let (numbers, lags) = hide((&mut numbers[..], &mut lags[..]));
             let reading = hide(Reading::Of2015);
-            let (bytes, rows) = hide((&bytes[..], rows.as_plain()));
+            let (bytes, rows) = hide((&bytes[..], rows.rows()));
             let units = plain::import(reading, bytes, hide(target), rows, numbers, lags);
             answer(units.map(|units| hide(units).places()))
         })

@@ -2,26 +2,10 @@
 //! leave their buffers in the call itself, so that two calls are equal when every buffer is, inputs included.
 
 use crate::memory::{Memory, Placing};
-use plain::{Embedded, Entry, Extension, Hierarchy, Layers, Reading, Record, Refusal, Times};
+use plain::{
+    Columns, Embedded, Entry, Extension, Hierarchy, Layers, Reading, Record, Refusal, Times,
+};
 use thoquenry::raw;
-
-/// A table of rows.
-#[derive(Clone, Debug, Default, PartialEq, Eq)]
-pub struct Rows {
-    pub indices: Vec<u8>,
-    pub decodings: Vec<u64>,
-    pub matches: Vec<u64>,
-}
-
-impl Rows {
-    pub fn as_plain(&self) -> plain::Rows<'_> {
-        plain::Rows {
-            indices: &self.indices,
-            decodings: &self.decodings,
-            matches: &self.matches,
-        }
-    }
-}
 
 /// The output buffers of joining.
 #[derive(Clone, Debug, Default, PartialEq, Eq)]
@@ -63,14 +47,14 @@ pub enum Call {
         present: u64,
         embedded: Vec<u64>,
         target: u64,
-        rows: Rows,
+        rows: Columns,
         lists: Lists,
     },
     Import {
         reading: u64,
         bytes: Vec<u8>,
         target: u64,
-        rows: Rows,
+        rows: Columns,
         lists: Lists,
     },
 }
@@ -348,7 +332,7 @@ struct Joined {
 }
 
 impl Joined {
-    fn place(memory: &mut Memory, rows: &Rows, lists: &Lists) -> Joined {
+    fn place(memory: &mut Memory, rows: &Columns, lists: &Lists) -> Joined {
         Joined {
             indices: memory.place(&rows.indices),
             decodings: memory.place(&rows.decodings),
@@ -359,7 +343,7 @@ impl Joined {
         }
     }
 
-    fn take_back(&self, rows: &mut Rows, lists: &mut Lists) -> bool {
+    fn take_back(&self, rows: &mut Columns, lists: &mut Lists) -> bool {
         self.indices.take_back(&mut rows.indices)
             & self.decodings.take_back(&mut rows.decodings)
             & self.matches.take_back(&mut rows.matches)
@@ -408,12 +392,12 @@ fn read_times(bytes: &[u8], room: &mut [u64]) -> Result<usize, Refusal> {
     Ok(3)
 }
 
-fn join(layers: &Layers, target: u64, rows: &Rows, lists: &mut Lists) -> Result<usize, Refusal> {
+fn join(layers: &Layers, target: u64, rows: &Columns, lists: &mut Lists) -> Result<usize, Refusal> {
     let mut left = lists.clone();
     let units = plain::join(
         layers,
         target,
-        rows.as_plain(),
+        rows.rows(),
         &mut left.numbers,
         &mut left.lags,
     )?;

@@ -1,10 +1,10 @@
 //! The cases: each a call with its inputs and its output buffers, had from a seed and a number alone.
 
-use crate::calls::{self, Call, Lists, Rows, CALLS, ENTRY};
+use crate::calls::{self, Call, Lists, CALLS, ENTRY};
 use crate::loops::Quality;
 use crate::random::Random;
 use crate::{headers, loops, tables};
-use plain::Layers;
+use plain::{Columns, Layers};
 
 /// The case of this number.
 pub fn case(seed: u64, number: u64) -> (Call, Quality) {
@@ -154,10 +154,10 @@ fn layers_of(reading: u64, bytes: &[u8]) -> Layers {
 }
 
 /// The output lists of joining: mostly long enough, now and then one of them short.
-fn lists(random: &mut Random, layers: &Layers, target: u64, rows: &Rows) -> Lists {
+fn lists(random: &mut Random, layers: &Layers, target: u64, rows: &Columns) -> Lists {
     let mut numbers = vec![0; 512];
     let mut lags = vec![0; 512];
-    let needed = plain::join(layers, target, rows.as_plain(), &mut numbers, &mut lags)
+    let needed = plain::join(layers, target, rows.rows(), &mut numbers, &mut lags)
         .map_or(5, |units| units.places());
     let mut length = |needed: usize| {
         if random.once_in(4) {

@@ -1,6 +1,7 @@
 //! Calls and answers as text.
 
-use crate::calls::{number, value, Call, Lists, Rows, CALLS, NOT_A_CALL};
+use crate::calls::{number, value, Call, Lists, CALLS, NOT_A_CALL};
+use plain::Columns;
 use std::fmt::{Display, Write};
 
 /// An answer in words.
@@ -101,7 +102,7 @@ pub fn parts(call: &Call) -> Vec<(&'static str, String)> {
     }
 }
 
-fn joining(rows: &Rows, lists: &Lists) -> [(&'static str, String); 6] {
+fn joining(rows: &Columns, lists: &Lists) -> [(&'static str, String); 6] {
     [
         ("indices", numbers(&rows.indices)),
         ("decodings", numbers(&rows.decodings)),

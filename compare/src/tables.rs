@@ -1,10 +1,9 @@
 //! Layers and tables of rows over them.
 
-use crate::calls::Rows;
 use crate::headers::{time, wide_time};
 use crate::loops::Quality;
 use crate::random::Random;
-use plain::Layers;
+use plain::{Columns, Layers};
 
 const TURN: u64 = 1 << 33;
 
@@ -94,7 +93,7 @@ struct Row {
 }
 
 /// A table of rows for a target, and how it was made.
-pub fn rows(random: &mut Random, layers: &Layers, target: u64) -> (Rows, Quality) {
+pub fn rows(random: &mut Random, layers: &Layers, target: u64) -> (Columns, Quality) {
     let quality = Quality::pick(random);
     let mut rows = match plain::closure(layers, target) {
         Ok(closure) => sound(random, layers, closure, target as usize),
@@ -121,7 +120,7 @@ pub fn rows(random: &mut Random, layers: &Layers, target: u64) -> (Rows, Quality
             }
         }
     }
-    let mut rows = Rows {
+    let mut rows = Columns {
         indices: rows.iter().map(|row| row.index).collect(),
         decodings: rows.iter().map(|row| row.decoding).collect(),
         matches: rows.iter().map(|row| row.matching).collect(),
@@ -138,7 +137,7 @@ pub fn rows(random: &mut Random, layers: &Layers, target: u64) -> (Rows, Quality
     (rows, quality)
 }
 
-/// Rows of no order.
+/// Columns of no order.
 fn any(random: &mut Random) -> Vec<Row> {
     (0..random.below(8))
         .map(|_| Row {

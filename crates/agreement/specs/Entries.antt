@@ -21,7 +21,7 @@ use Rattle.descriptors.specs.declared.records.Record.{Record}
 use Rattle.descriptors.specs.declared.records.Record.the-variants.{NoRecord, Hierarchy, Extension}
 use Rattle.descriptors.specs.declared.looking.Seen.{Seen}
 use Rattle.descriptors.specs.Records.{noLayer}
-use Rattle.descriptors.specs.Looking.{Kind, does-not-fit, skipped, wrong-length, hierarchy, extension, kindsOf, Held, heldIn, isWrongLength, firstRecord, firstLayers, seenOf, nothingSeen}
+use Rattle.descriptors.specs.Looking.{Kind, does-not-fit, skipped, wrong-length, hierarchy, extension, kindsOf, Held, heldIn, isWrongLength, firstRecord, firstLayers, seenOf, nothingSeen, is-wrong-length}
 use Rattle.judging.specs.Meaning.{TypeNotAllowed, hierarchy-type, WrongFlags, type-9, more-than-one, Flag, view, temporal, spatial, quality, flag, WrongEmbedded, not-below, listed-twice, TooManyEmbedded, refusal-6, refusal-10}
 use Rattle.judging.specs.Judging.{indexOf}
 use Rattle.es_loop.specs.declared.entries.Entry.{Entry}
@@ -44,13 +44,6 @@ was-unfit skipped e = let z : _≡_ {A = ℕ} 0 1 = cc in absurd (omega arith)
 was-unfit wrong-length e = let z : _≡_ {A = ℕ} 0 1 = cc in absurd (omega arith)
 was-unfit (hierarchy h) e = let z : _≡_ {A = ℕ} 0 1 = cc in absurd (omega arith)
 was-unfit (extension x layers) e = let z : _≡_ {A = ℕ} 0 1 = cc in absurd (omega arith)
-
-is-wrong : (x : Kind) → isWrongLength x ≡ true → x ≡ wrong-length
-is-wrong does-not-fit e = absurd (false≢true e)
-is-wrong skipped e = absurd (false≢true e)
-is-wrong wrong-length e = refl
-is-wrong (hierarchy h) e = absurd (false≢true e)
-is-wrong (extension x layers) e = absurd (false≢true e)
 
 was-wrong : (x : Kind) → kindIn2009 x ≡ wrong-length → isWrongLength x ≡ true
 was-wrong does-not-fit e = let z : _≡_ {A = ℕ} 0 1 = cc in absurd (omega arith)
@@ -108,7 +101,7 @@ module _ (items : List Item) (none : (n k : ℕ) → Condition Edition2015 items
         right-length = not-eq-not {a = any isWrongLength kinds} {b = false} .0
             (λ e.
             let w = any-which isWrongLength kinds e in
-            none 4 k (length-wrong (known-too s) (subst (λ (x : Kind). Nth kinds (w .0) x) (is-wrong (w .1) (w .3)) (w .2))));
+            none 4 k (length-wrong (known-too s) (subst (λ (x : Kind). Nth kinds (w .0) x) (is-wrong-length (w .1) (w .3)) (w .2))));
         one-record = few (decLt (length (gather heldIn kinds)) 2);
         no-extension = first (gather heldIn kinds) refl;
       }
@@ -171,7 +164,7 @@ module _ (items : List Item) (none : (n k : ℕ) → Condition Edition2015 items
   none-in-2009 (length-wrong {k} {info = info} s {i} d) =
       let w = nth-of-map kindIn2009 (kindsOf Edition2015 info) (subst (λ (l : List Kind). Nth l i wrong-length) (kinds-alike (plain-at s)) d) in
       none 4 k
-      (length-wrong (known-too s) (subst (λ (x : Kind). Nth (kindsOf Edition2015 info) i x) (is-wrong (w .0) (was-wrong (w .0) (w .2))) (w .1)))
+      (length-wrong (known-too s) (subst (λ (x : Kind). Nth (kindsOf Edition2015 info) i x) (is-wrong-length (w .0) (was-wrong (w .0) (w .2))) (w .1)))
   none-in-2009 (two-records {k} {info = info} s h) =
       let as-many = ap length (held-alike (plain-at s)) ∙ length-map (gather heldIn (kindsOf Edition2015 info)) heldIn2009 in
       let few = plain-at s .one-record in

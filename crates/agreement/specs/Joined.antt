@@ -24,7 +24,9 @@ use Rattle.joining.specs.Assemblies.{upperOf, lowerOf, isEdge, edgesOf, members
 use Rattle.joining.specs.Units.{Frame, frame, rowsBelow, lagsBelow, firstUnpaired, firstShared}
 use Rattle.joining.specs.Frames.{frameOf}
 use Rattle.joining.specs.Writing.{over}
-use Rattle.joining.specs.Joining.{places, unitsJoined, tableJoined, joinedIn, joinedOf, numbersAfter, lagsAfter}
+use Rattle.rows.specs.Verdicts.{verdictOf}
+use Rattle.joining.specs.Cases.{IsOver, units-over, refused, is-over}
+use Rattle.joining.specs.Joining.{unitsJoined, joinedBy, joinedIn, joinedOf, numbersAfter, lagsAfter}
 
 module _ (few all : Layers) (closure : ℕ)
     (same : (i : ℕ) → has closure i ≡ true → getD (few .embedded) i 0 ≡ getD (all .embedded) i 0) where
@@ -48,39 +50,13 @@ module _ (few all : Layers) (closure : ℕ)
   frames-alike : (target : ℕ) → frameOf few closure target ≡ frameOf all closure target
   frames-alike target = ap (frame target (membersOf closure)) edges-alike
 
--- ---- an answer with units is over the closure that was found
-
-data IsOver (closure : ℕ) : Joined → Type 0 where
-  units-over : {units left : ℕ} → IsOver closure (Units closure units left)
-  refused : {refusal : Refusal} → IsOver closure (Refused refusal)
-
-unless : {closure : ℕ} (b : Bool) {x y : Joined} → IsOver closure x → IsOver closure y → IsOver closure (cond b x y)
-unless true p q = p
-unless false p q = q
-
 module _ (few all : Layers) (target : ℕ) (same-closure : closureOf few target ≡ closureOf all target)
     (same : (closure : ℕ) → closureOf all target ≡ Complete closure
     → (i : ℕ) → has closure i ≡ true → getD (few .embedded) i 0 ≡ getD (all .embedded) i 0)
     (t : Table) (numberRoom lagRoom : ℕ) where
-  is-over : (closure : ℕ) → IsOver closure (tableJoined all target t closure numberRoom lagRoom)
-  is-over closure =
-      let f : Frame = frameOf all closure target in
-      unless (wrongShape t) refused
-      (unless (ltb (firstOutOfRange t) (rowsIn t)) refused
-      (unless (ltb (firstBroken t closure) (rowsIn t)) refused
-      (unless (ltb (firstUnpaired t f) (rowsIn t)) refused
-      (unless (ltb (firstShared t f) (rowsIn t)) refused
-      (unless (ltb numberRoom (places t f)) refused
-      (unless (ltb lagRoom (places t f)) refused units-over))))))
-
   in-closure : (c : Closure) → closureOf all target ≡ c → joinedIn few target t numberRoom lagRoom c ≡ joinedIn all target t numberRoom lagRoom c
   in-closure (Complete closure) e =
-      ap
-      (λ (f : Frame). cond (wrongShape t) (Refused (OutOfRange 0))
-      (cond (ltb (firstOutOfRange t) (rowsIn t)) (Refused (OutOfRange (firstOutOfRange t)))
-      (cond (ltb (firstBroken t closure) (rowsIn t)) (Refused (TimeOrderBroken (firstBroken t closure)))
-      (unitsJoined t closure f numberRoom lagRoom))))
-      (frames-alike few all closure (same closure e) target)
+      ap (λ (f : Frame). joinedBy (unitsJoined t closure f numberRoom lagRoom) (verdictOf t closure)) (frames-alike few all closure (same closure e) target)
   in-closure (NoClosure refusal) e = refl
 
   -- THE SAME ANSWER,
@@ -97,7 +73,7 @@ module _ (few all : Layers) (target : ℕ) (same-closure : closureOf few target 
       from-over closure e (refused {refusal}) = with-refusal refusal
 
       go : (c : Closure) → closureOf all target ≡ c → P (joinedIn all target t numberRoom lagRoom c)
-      go (Complete closure) e = from-over closure e (is-over closure)
+      go (Complete closure) e = from-over closure e (is-over all target t closure numberRoom lagRoom)
       go (NoClosure refusal) e = with-refusal refusal
 
   -- and the same in both lists.

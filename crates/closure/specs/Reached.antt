@@ -8,17 +8,12 @@ use native.Mathlib.Nat.{eq-or-lt-of-le, le-refl, le-trans, le-of-lt, lt-irrefl, 
 use borrow.Author.Tests.{eqb-true, eq-eqb, ltb-true, lt-ltb}
 use lib.Dec.{ltb}
 use lib.ListN.{getD}
-use Rattle.combinators.specs.Bools.{both-left, both-right, either-left, either-right}
+use Rattle.combinators.specs.Bools.{both-left, both-right, either-left, either-right, either-which}
 use Rattle.sets.specs.Sets.{has, joined, only}
 use Rattle.sets.specs.Laws.{has-none, has-joined, has-only, has-below}
 use Rattle.closure.specs.declared.Layers.{Layers}
 use Rattle.closure.specs.Closures.{isLayer, namedBy, named, following, followedBelow, restedOn}
 use Rattle.closure.specs.Meaning.{Names, RestsOn, itself, by}
-
--- a test of either passed: one of the two did
-or-true : (a b : Bool) → a || b ≡ true → (a ≡ true) ⊎ (b ≡ true)
-or-true true b e = inl refl
-or-true false b e = inr e
 
 -- ---- an index that is a layer's is below 64
 
@@ -67,7 +62,7 @@ module _ (layers : Layers) where
 
       go : (b : Bool) → has set i ≡ b → has (cond b (joined set (named layers i)) set) j ≡ true
           → (has set j ≡ true) ⊎ ((has set i ≡ true) × Names layers i j)
-      go true h m = tell h (or-true (has set j) (has (named layers i) j) (sym (has-joined set (named layers i) j) ∙ m))
+      go true h m = tell h (either-which (has set j) (has (named layers i) j) (sym (has-joined set (named layers i) j) ∙ m))
       go false h m = inl m
 
   gained : (set i j : ℕ) → has set i ≡ true → Names layers i j → has (following layers set i) j ≡ true

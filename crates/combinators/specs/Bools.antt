@@ -1,7 +1,8 @@
 -- Tests joined and compared: the few laws of `&&`, `||`, of a test that is not both, and of two tests that agree.
 -- Assumes nothing.
 use mathlib.Core.Path.{_≡_, refl, sym, _∙_}
-use mathlib.Core.Bool.{Bool, true, false, _&&_, _||_, Bool·beq, true≢false}
+use mathlib.Core.Bool.{Bool, true, false, cond, _&&_, _||_, Bool·beq, true≢false}
+use mathlib.Core.Logic.{_⊎_, inl, inr}
 use lib.Dec.{T}
 
 pub T-true : (a : Bool) → T a → a ≡ true
@@ -41,6 +42,19 @@ either-right false b p = p
 
 pub either-left : (a b : Bool) → a ≡ true → a || b ≡ true
 either-left a b p = rw p
+
+pub either-which : (a b : Bool) → a || b ≡ true → (a ≡ true) ⊎ (b ≡ true)
+either-which true b e = inl refl
+either-which false b e = inr e
+
+-- what holds of both ways of a test holds of what it gives; the second may rest on the test having failed
+pub either-way : {A : Type 0} (P : A → Type 0) (test : Bool) (x y : A) → P x → P y → P (cond test x y)
+either-way P true x y p q = p
+either-way P false x y p q = q
+
+pub or-else : {A : Type 0} (P : A → Type 0) (test : Bool) (x y : A) → P x → (test ≡ false → P y) → P (cond test x y)
+or-else P true x y p q = p
+or-else P false x y p q = q refl
 
 -- two tests that pass together are one
 pub same-test : (a b : Bool) → (a ≡ true → b ≡ true) → (b ≡ true → a ≡ true) → a ≡ b

@@ -4,8 +4,10 @@
 use Prim.Native.Nat.{ℕ, suc, _+_, _*_}
 use mathlib.Core.Bool.{Bool, true, false, cond, not, _&&_, _||_}
 use mathlib.Core.List.{List, [], _∷_, map}
+use mathlib.Core.Path.{_≡_, refl}
 use lib.Dec.{eqb, ltb}
 use lib.ListN.{length, getD, take, drop}
+use Rattle.combinators.specs.Bools.{apart}
 use Rattle.combinators.specs.Lists.{any, gather}
 use Rattle.combinators.specs.Padding.{padTo}
 use Rattle.framing.specs.Pieces.{Item, whole, broken, cut}
@@ -93,6 +95,13 @@ isWrongLength skipped = false
 isWrongLength wrong-length = true
 isWrongLength (hierarchy h) = false
 isWrongLength (extension x layers) = false
+
+pub is-wrong-length : (k : Kind) → isWrongLength k ≡ true → k ≡ wrong-length
+is-wrong-length does-not-fit e = apart e
+is-wrong-length skipped e = apart e
+is-wrong-length wrong-length e = refl
+is-wrong-length (hierarchy h) e = apart e
+is-wrong-length (extension x layers) e = apart e
 
 -- the first record, or that there is none
 abbrev pub firstRecord : List Held → Record

@@ -22,7 +22,7 @@ use Rattle.descriptors.specs.Tables.{hierarchyDescriptor, extensionHead}
 use Rattle.descriptors.specs.Records.{noLayer, hierarchyFrom, extensionFrom}
 use Rattle.es_loop.specs.declared.entries.Entry.{Entry}
 use Rattle.loop_layout.specs.Layout.{bitOf, hierarchyFields, extensionFields}
-use Rattle.loop_layout.specs.Fields.{hierarchy-fields, extension-fields}
+use Rattle.loop_layout.specs.Fields.{hierarchy-fields, extension-fields, bit-there}
 use Rattle.entry_rows.specs.Names.{namesOf, picked}
 use Rattle.entry_rows.specs.Rows.{rowNames, entryTable, layerNumber, headOf, listOf, tailOf, rowOf, kindIn, countIn, fieldsIn, listIn, rowTooWide, layerOf, entryIn}
 use Rattle.entry_rows.specs.Judged.{kind-fine, within-tables}
@@ -77,11 +77,6 @@ pub record OwnRow (row : List ℕ) : Type 0 where
   pub fitting : rowTooWide row ≡ false
   pub head : take 16 row ≡ picked rowNames (namesOf (entryTable (kindIn row))) (fieldsIn (entryTable (kindIn row)) row)
   pub tail : drop 16 row ≡ padTo 64 0 (cond (eqb (kindIn row) 2) (listIn row) [])
-
-bit-there : (v : ℕ) → v < 2 → bitOf (eqb v 1) ≡ v
-bit-there zero h = refl
-bit-there (suc zero) h = refl
-bit-there (suc (suc v)) h = absurd (omega arith)
 
 pub hierarchy-there : (row : List ℕ) → Bounds (hierarchyDescriptor Edition2015) (fieldsIn (hierarchyDescriptor Edition2015) row)
     → hierarchyFields (hierarchyFrom (fieldsIn (hierarchyDescriptor Edition2015) row)) ≡ fieldsIn (hierarchyDescriptor Edition2015) row

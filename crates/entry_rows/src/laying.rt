@@ -7,6 +7,7 @@ ghost use Rattle.combinators.specs.Padding.{padTo};
 ghost use Rattle.text.specs.Text.{Laid};
 ghost use Rattle.loop_layout.specs.Layout.{bitOf};
 ghost use Rattle.entry_rows.specs.Rows.{layerNumber, headOf, tailOf, rowOf, rowsOf};
+use combinators::lesser;
 use descriptors::ExtensionRecord;
 use descriptors::HierarchyRecord;
 use descriptors::Record;
@@ -23,12 +24,6 @@ fn bit(flag: bool) -> u16
     ensures { λ r. ⌜ r ≡ bitOf flag ⌝ }
 {
     if flag { 1 } else { 0 }
-}
-
-pub fn lesser(a: usize, b: usize) -> usize
-    ensures { λ r. ⌜ r ≡ min a b ⌝ }
-{
-    if a < b { a } else { b }
 }
 
 // The 16 numbers of a stream that is no layer.

@@ -10,7 +10,7 @@ ghost use Rattle.vocabulary.specs.declared.stream_types.Reading.the-variants.{E
 ghost use Rattle.descriptors.specs.Tables.{hierarchyDescriptor, extensionHead};
 ghost use Rattle.descriptors.specs.Records.{noLayer, hierarchyFrom, extensionFrom};
 ghost use Rattle.entry_rows.specs.Rows.{fieldsIn, tooWideFor, layerTooWide, rowTooWide, layerOf, entryIn, someTooWide, entriesIn};
-use super::laying::lesser;
+use combinators::lesser;
 use descriptors::ExtensionRecord;
 use descriptors::HierarchyRecord;
 use descriptors::Record;

@@ -26,7 +26,7 @@ use Rattle.descriptors.specs.declared.records.Record.{Record}
 use Rattle.descriptors.specs.declared.records.Record.the-variants.{NoRecord, Hierarchy, Extension}
 use Rattle.descriptors.specs.declared.looking.Seen.{Seen}
 use Rattle.descriptors.specs.Records.{noLayer}
-use Rattle.descriptors.specs.Looking.{Kind, does-not-fit, skipped, wrong-length, hierarchy, extension, kindsOf, Held, heldIn, isUnfit, isWrongLength, firstRecord, firstLayers, seenOf, nothingSeen}
+use Rattle.descriptors.specs.Looking.{Kind, does-not-fit, skipped, wrong-length, hierarchy, extension, kindsOf, Held, heldIn, isUnfit, isWrongLength, firstRecord, firstLayers, seenOf, nothingSeen, is-wrong-length}
 use Rattle.judging.specs.Judging.{isLayer, indexOf, sameIndex, typeNotAllowed, wrongFlags, wrongEmbedded, tooManyEmbedded}
 use Rattle.judging.specs.Meaning.{TypeNotAllowed, WrongFlags, WrongEmbedded, TooManyEmbedded, refusal-6, refusal-7, refusal-9, refusal-10}
 use Rattle.es_loop.specs.declared.entries.Stream.{Stream}
@@ -214,14 +214,7 @@ module _ (reading : Reading) (entries : List Item) (last : (j : ℕ) → Nth ent
       seen-where (λ (x : Seen). x .«wrong_length») refl d e
       (λ t info s p.
       let w = any-which isWrongLength (kindsOf reading info) p in
-      length-wrong s (subst (λ (x : Kind). Nth (kindsOf reading info) (w .0) x) (is-wrong (w .1) (w .3)) (w .2)))
-    where
-      is-wrong : (x : Kind) → isWrongLength x ≡ true → x ≡ wrong-length
-      is-wrong does-not-fit e = apart e
-      is-wrong skipped e = apart e
-      is-wrong wrong-length e = refl
-      is-wrong (hierarchy h) e = apart e
-      is-wrong (extension x layers) e = apart e
+      length-wrong s (subst (λ (x : Kind). Nth (kindsOf reading info) (w .0) x) (is-wrong-length (w .1) (w .3)) (w .2)))
 
   named-5 : (k : ℕ) → EntryCase k → (streamAt seens k) .seen .«second_record» ≡ true → Condition reading entries 5 k
   named-5 k d e =

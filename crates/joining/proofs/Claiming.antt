@@ -11,6 +11,7 @@ use borrow.Author.Count.{below-more}
 use lib.Dec.{eqb}
 use lib.ListN.{length, getD, set, replicate, length-set, length-replicate, getD-replicate, length-map}
 use lib.Seq.{getD-set-same, getD-set-other, append-snoc}
+use Rattle.joining.specs.Shared.{unit-at}
 use Rattle.combinators.specs.Below.{count, seek, count-more, count-same, first-seek, seek-here}
 use Rattle.combinators.specs.Lists.{any, any-same, gather, gather-append}
 use Rattle.combinators.specs.Members.{member, member-last}
@@ -18,7 +19,7 @@ use Rattle.combinators.specs.Those.{those, those-more, those-same}
 use Rattle.joining.specs.declared.units.Judged.{Judged}
 use Rattle.joining.specs.Table.{Table, rowsIn}
 use Rattle.joining.specs.Units.{Frame, isTarget, assemblyOf, unitFrom, unitOf, rowsBelow, unpaired, shares, firstUnpaired, firstSharing}
-use Rattle.joining.specs.Judging.{Chosen, Whole, marked, MarkedAt, Judges}
+use Rattle.joining.specs.Judging.{Placed, Whole, marked, MarkedAt, Judges}
 
 -- ---- the first that passes, as the numbers are walked
 
@@ -142,7 +143,7 @@ module _ (t : Table) (f : Frame) (k shared units : ℕ) (used : List Bool) (know
 
     -- a target row with one
     module _ (whole : Whole t f) (short : rowsIn t ≤ 512) (e : assemblyOf t f k .complete ≡ true) where
-      pub chosen : Chosen (f .members) (assemblyOf t f k .rows)
+      pub chosen : Placed (f .members) (assemblyOf t f k .rows) 512
       chosen =
           record {
             index = whole .index;
@@ -153,12 +154,7 @@ module _ (t : Table) (f : Frame) (k shared units : ℕ) (used : List Bool) (know
       unit-small p h = go (rw (length-map (f .members) (λ layer. getD (assemblyOf t f k .rows) layer 0)) at h)
         where
           go : p < length (f .members) → getD (unitOf t f k) p 0 < 512
-          go l = subst (λ (x : ℕ). x < 512) (sym (at-unit (f .members) (assemblyOf t f k .rows) p l)) (chosen .row p l)
-            where
-              at-unit : (members rows : List ℕ) (p : ℕ) → p < length members → getD (unitFrom members rows) p 0 ≡ getD rows (getD members p 0) 0
-              at-unit [] rows p h = absurd (omega arith)
-              at-unit (x ∷ members) rows zero h = refl
-              at-unit (x ∷ members) rows (suc p) h = at-unit members rows p (omega arith)
+          go l = subst (λ (x : ℕ). x < 512) (sym (unit-at (f .members) (assemblyOf t f k .rows) p l)) (chosen .row p l)
 
       -- what the marks say is what the definition asks
       shares-is : any (λ row. getD used row false) (unitOf t f k) ≡ shares t f k

@@ -11,13 +11,14 @@ use borrow.Author.Tests.{not-false}
 use lib.IntN.{ℤ}
 use lib.ListN.{length, getD, length-map}
 use lib.Seq.{sets, length-sets}
+use Rattle.joining.specs.Judging.{Placed}
 use Rattle.combinators.specs.Below.{count, count-more, count-same, count-less}
 use Rattle.combinators.specs.Lists.{gather, gather-append}
 use Rattle.combinators.specs.Those.{those, length-those, those-more, those-same}
 use Rattle.joining.specs.Table.{Table, rowsIn, decodingOf}
 use Rattle.joining.specs.Units.{Frame, isTarget, assemblyOf, unitOf, lagsOf, rowsBelow, lagsBelow, unitsIn}
 use Rattle.joining.specs.Contents.{length-pieces}
-use Rattle.joining.specs.Writing.{sets-append, Placed, Writable}
+use Rattle.joining.specs.Writing.{sets-append, Writable}
 
 -- ---- what is gathered from one row more, and how long it is
 
@@ -102,7 +103,7 @@ module _ (t : Table) (f : Frame) (numbers₀ : List ℕ) (lags₀ : List ℤ) wh
           pub room-lags : at + length (f .members) ≤ length lags
           room-lags = omega (arith, below-all, ready .room-lags, long-lags)
 
-          pub unit-placed : length (t .decodings) ≡ rowsIn t → Placed (f .members) (assemblyOf t f k .rows) (t .decodings)
+          pub unit-placed : length (t .decodings) ≡ rowsIn t → Placed (f .members) (assemblyOf t f k .rows) (length (t .decodings))
           unit-placed long =
               record {
                 index = ready .whole .index;

@@ -9,10 +9,12 @@ use lib.Dec.{leb, ltb}
 use Rattle.clock.specs.Clock.{ticks}
 use Rattle.closure.specs.declared.Layers.{Layers}
 use Rattle.combinators.specs.Below.{seek-first}
-use Rattle.combinators.specs.Bools.{neither-left}
+use Rattle.combinators.specs.Bools.{neither-left, either-way}
 use Rattle.rows.specs.declared.Verdict.{Verdict}
 use Rattle.rows.specs.declared.Verdict.the-variants.{InOrder, OutOfRange as Outside, OrderBroken}
+use Rattle.rows.specs.Verdicts as verdict
 use Rattle.rows.specs.Verdicts.{verdictOf, shape-decoded, shape-matched, shape-short}
+use Rattle.vocabulary.specs.declared.refusal.Refusal.{Refusal}
 use Rattle.vocabulary.specs.declared.refusal.Refusal.the-variants.{OutOfRange, TimeOrderBroken, Unpaired, UsedTwice, NoRoom}
 use Rattle.joining.specs.declared.answer.Joined.{Joined}
 use Rattle.joining.specs.declared.answer.Joined.the-variants.{Units, Refused}
@@ -20,7 +22,7 @@ use Rattle.joining.specs.Table.{Table, rowsIn, layerOf, decodingOf, matc
 use Rattle.joining.specs.Units.{Frame, firstUnpaired, firstShared, unitsIn, leftOut}
 use Rattle.joining.specs.Frames.{frameOf}
 use Rattle.joining.specs.Orderly.{Closed, Orderly}
-use Rattle.joining.specs.Joining.{places, unitsJoined, tableJoined}
+use Rattle.joining.specs.Joining.{places, unitsJoined, joinedBy, tableJoined}
 
 taken : {A : Type 0} (x y : A) (b : Bool) → b ≡ true → x ≡ cond b x y
 taken x y b e = sym (ap (λ (b : Bool). cond b x y) e)
@@ -86,48 +88,24 @@ module _ (t : Table) (closure : ℕ) (f : Frame) (numberRoom lagRoom : ℕ) wher
 -- ---- 13 and 14
 
 module _ (layers : Layers) (target : ℕ) (t : Table) (closure numberRoom lagRoom : ℕ) where
-  abbrev pastOrder : Joined
-  pastOrder = unitsJoined t closure (frameOf layers closure target) numberRoom lagRoom
-
-  abbrev pastRange : Joined
-  pastRange = cond (ltb (firstBroken t closure) (rowsIn t)) (Refused (TimeOrderBroken (firstBroken t closure))) pastOrder
-
-  abbrev pastShape : Joined
-  pastShape = cond (ltb (firstOutOfRange t) (rowsIn t)) (Refused (OutOfRange (firstOutOfRange t))) pastRange
+  abbrev units : Joined
+  units = unitsJoined t closure (frameOf layers closure target) numberRoom lagRoom
 
   pub bad-shape : wrongShape t ≡ true → Refused (OutOfRange 0) ≡ tableJoined layers target t closure numberRoom lagRoom
-  bad-shape e = taken (Refused (OutOfRange 0)) pastShape (wrongShape t) e
+  bad-shape e = ap (joinedBy units) (verdict.is-misshapen t closure e)
 
   module _ (shape : wrongShape t ≡ false) where
-    after-shape : pastShape ≡ tableJoined layers target t closure numberRoom lagRoom
-    after-shape = passed (Refused (OutOfRange 0)) pastShape (wrongShape t) shape
-
     pub is-outside : (k : ℕ) → k ≡ firstOutOfRange t → k < rowsIn t
         → Refused (OutOfRange k) ≡ tableJoined layers target t closure numberRoom lagRoom
-    is-outside k e h =
-        ap (λ (k : ℕ). Refused (OutOfRange k)) e
-        ∙ taken (Refused (OutOfRange (firstOutOfRange t))) pastRange (ltb (firstOutOfRange t) (rowsIn t))
-        (lt-ltb (firstOutOfRange t) (rowsIn t) (subst (λ (k : ℕ). k < rowsIn t) e h))
-        ∙ after-shape
+    is-outside k e h = ap (joinedBy units) (verdict.is-outside t closure shape k e h)
 
     module _ (in-range : rowsIn t ≤ firstOutOfRange t) where
-      after-range : pastRange ≡ tableJoined layers target t closure numberRoom lagRoom
-      after-range =
-          passed (Refused (OutOfRange (firstOutOfRange t))) pastRange (ltb (firstOutOfRange t) (rowsIn t)) (le-ltb (firstOutOfRange t) (rowsIn t) in-range)
-          ∙ after-shape
-
       pub is-broken : (k : ℕ) → k ≡ firstBroken t closure → k < rowsIn t
           → Refused (TimeOrderBroken k) ≡ tableJoined layers target t closure numberRoom lagRoom
-      is-broken k e h =
-          ap (λ (k : ℕ). Refused (TimeOrderBroken k)) e
-          ∙ taken (Refused (TimeOrderBroken (firstBroken t closure))) pastOrder (ltb (firstBroken t closure) (rowsIn t))
-          (lt-ltb (firstBroken t closure) (rowsIn t) (subst (λ (k : ℕ). k < rowsIn t) e h))
-          ∙ after-range
+      is-broken k e h = ap (joinedBy units) (verdict.is-broken t closure shape in-range k e h)
 
-      pub after-order : rowsIn t ≤ firstBroken t closure → pastOrder ≡ tableJoined layers target t closure numberRoom lagRoom
-      after-order h =
-          passed (Refused (TimeOrderBroken (firstBroken t closure))) pastOrder (ltb (firstBroken t closure) (rowsIn t)) (le-ltb (firstBroken t closure) (rowsIn t) h)
-          ∙ after-range
+      pub after-order : rowsIn t ≤ firstBroken t closure → units ≡ tableJoined layers target t closure numberRoom lagRoom
+      after-order h = ap (joinedBy units) (verdict.is-in-order t closure shape in-range h)
 
       pub orderly : Closed layers target closure → rowsIn t ≤ firstBroken t closure → Orderly layers target closure t
       orderly closed-over h =
@@ -144,25 +122,23 @@ module _ (layers : Layers) (target : ℕ) (t : Table) (closure numberRoom lagRoo
           none-outside : (k : ℕ) → k < rowsIn t → outOfRange t k ≡ false
           none-outside k i = seek-first (outOfRange t) (rowsIn t) .before k (omega arith)
 
--- ---- the same by the verdict on the table
+-- ---- an answer with units is over the closure that was found
 
-abbrev pub joinedBy : Joined → Verdict → Joined
-joinedBy units InOrder = units
-joinedBy units (Outside row) = Refused (OutOfRange row)
-joinedBy units (OrderBroken row) = Refused (TimeOrderBroken row)
+pub data IsOver (closure : ℕ) : Joined → Type 0 where
+  units-over : {units left : ℕ} → IsOver closure (Units closure units left)
+  refused : {refusal : Refusal} → IsOver closure (Refused refusal)
 
-pub by-verdict : (layers : Layers) (target : ℕ) (t : Table) (closure numberRoom lagRoom : ℕ)
-    → joinedBy (unitsJoined t closure (frameOf layers closure target) numberRoom lagRoom) (verdictOf t closure)
-    ≡ tableJoined layers target t closure numberRoom lagRoom
-by-verdict layers target t closure numberRoom lagRoom =
-    go (wrongShape t) (ltb (firstOutOfRange t) (rowsIn t)) (ltb (firstBroken t closure) (rowsIn t)) (firstOutOfRange t) (firstBroken t closure)
+pub is-over : (layers : Layers) (target : ℕ) (t : Table) (closure numberRoom lagRoom : ℕ) → IsOver closure (tableJoined layers target t closure numberRoom lagRoom)
+is-over layers target t closure numberRoom lagRoom = by-verdict (verdictOf t closure)
   where
-    go : (b₁ b₂ b₃ : Bool) (i j : ℕ)
-        → joinedBy (unitsJoined t closure (frameOf layers closure target) numberRoom lagRoom)
-        (cond b₁ (Outside 0) (cond b₂ (Outside i) (cond b₃ (OrderBroken j) InOrder)))
-        ≡ cond b₁ (Refused (OutOfRange 0)) (cond b₂ (Refused (OutOfRange i)) (cond b₃ (Refused (TimeOrderBroken j))
-        (unitsJoined t closure (frameOf layers closure target) numberRoom lagRoom)))
-    go true b₂ b₃ i j = refl
-    go false true b₃ i j = refl
-    go false false true i j = refl
-    go false false false i j = refl
+    f : Frame
+    f = frameOf layers closure target
+
+    by-verdict : (v : Verdict) → IsOver closure (joinedBy (unitsJoined t closure f numberRoom lagRoom) v)
+    by-verdict InOrder =
+        either-way (IsOver closure) (ltb (firstUnpaired t f) (rowsIn t)) _ _ refused
+        (either-way (IsOver closure) (ltb (firstShared t f) (rowsIn t)) _ _ refused
+        (either-way (IsOver closure) (ltb numberRoom (places t f)) _ _ refused
+        (either-way (IsOver closure) (ltb lagRoom (places t f)) _ _ refused units-over)))
+    by-verdict (Outside row) = refused
+    by-verdict (OrderBroken row) = refused

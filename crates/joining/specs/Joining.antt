@@ -12,9 +12,12 @@ use Rattle.closure.specs.declared.Closure.the-variants.{Complete, Refused as No
 use Rattle.closure.specs.Closures.{closureOf}
 use Rattle.sets.specs.Sets.{has}
 use Rattle.vocabulary.specs.declared.refusal.Refusal.the-variants.{OutOfRange, TimeOrderBroken, Unpaired, UsedTwice, NoRoom}
+use Rattle.rows.specs.declared.Verdict.{Verdict}
+use Rattle.rows.specs.declared.Verdict.the-variants.{InOrder, OutOfRange as Outside, OrderBroken}
+use Rattle.rows.specs.Verdicts.{verdictOf}
 use Rattle.joining.specs.declared.answer.Joined.{Joined}
 use Rattle.joining.specs.declared.answer.Joined.the-variants.{Units, Refused}
-use Rattle.joining.specs.Table.{Table, rowsIn, wrongShape, firstOutOfRange, firstBroken}
+use Rattle.joining.specs.Table.{Table, rowsIn}
 use Rattle.joining.specs.Units.{Frame, rowsBelow, lagsBelow, firstUnpaired, firstShared, unitsIn, leftOut}
 use Rattle.joining.specs.Frames.{frameOf}
 use Rattle.joining.specs.Writing.{over}
@@ -32,13 +35,15 @@ unitsJoined t closure f numberRoom lagRoom =
     (cond (ltb lagRoom (places t f)) (Refused NoRoom)
     (Units closure (unitsIn t f) (leftOut t closure f)))))
 
--- before these 13, of unequal or too long columns and then of single rows, and 14
+-- before these 13 and 14, the verdict on the table itself
+abbrev pub joinedBy : Joined → Verdict → Joined
+joinedBy units InOrder = units
+joinedBy units (Outside row) = Refused (OutOfRange row)
+joinedBy units (OrderBroken row) = Refused (TimeOrderBroken row)
+
 abbrev pub tableJoined : Layers → ℕ → Table → ℕ → ℕ → ℕ → Joined
 tableJoined layers target t closure numberRoom lagRoom =
-    cond (wrongShape t) (Refused (OutOfRange 0))
-    (cond (ltb (firstOutOfRange t) (rowsIn t)) (Refused (OutOfRange (firstOutOfRange t)))
-    (cond (ltb (firstBroken t closure) (rowsIn t)) (Refused (TimeOrderBroken (firstBroken t closure)))
-    (unitsJoined t closure (frameOf layers closure target) numberRoom lagRoom)))
+    joinedBy (unitsJoined t closure (frameOf layers closure target) numberRoom lagRoom) (verdictOf t closure)
 
 -- and before all of them 11 and 12, of the target
 abbrev pub joinedIn : Layers → ℕ → Table → ℕ → ℕ → Closure → Joined

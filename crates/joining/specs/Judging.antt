@@ -10,10 +10,10 @@ use Rattle.joining.specs.declared.units.Judged.{Judged}
 use Rattle.joining.specs.Table.{Table, rowsIn}
 use Rattle.joining.specs.Units.{Frame, assemblyOf, rowsBelow, firstUnpaired, firstShared, unitsIn}
 
--- a row number for each member, below 512 as every row is
-pub record Chosen (members rows : List ℕ) : Type 0 where
+-- a row number for each member, below a bound
+pub record Placed (members rows : List ℕ) (bound : ℕ) : Type 0 where
   pub index : (p : ℕ) → p < length members → getD members p 0 < 64
-  pub row : (p : ℕ) → p < length members → getD rows (getD members p 0) 0 < 512
+  pub row : (p : ℕ) → p < length members → getD rows (getD members p 0) 0 < bound
 
 -- a frame in which a complete assembly has a row for each member
 pub record Whole (t : Table) (f : Frame) : Type 0 where

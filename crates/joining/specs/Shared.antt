@@ -11,7 +11,7 @@ use lib.Dec.{eqb}
 use lib.ListN.{length, getD, length-map}
 use Rattle.closure.specs.declared.Layers.{Layers}
 use Rattle.closure.specs.Meaning.{RestsOn}
-use Rattle.combinators.specs.Bools.{both-left, both-right, either-left, either-right}
+use Rattle.combinators.specs.Bools.{both-left, both-right, either-left, either-right, either-which}
 use Rattle.combinators.specs.Lists.{any, gather, Nth, here, any-true, any-which, nth-getD, getD-nth, nth-inside}
 use Rattle.combinators.specs.Members.{member, member-at, member-which}
 use Rattle.combinators.specs.Those.{those, those-at, those-which}
@@ -30,13 +30,9 @@ member-either : (x : ℕ) (a b : List ℕ) → member x (a ++ b) ≡ member x a 
 member-either x [] b = refl
 member-either x (y ∷ a) b = ap (λ (c : Bool). eqb x y || c) (member-either x a b) ∙ sym (mathlib.Core.Bool.or-assoc (eqb x y) (member x a) (member x b))
 
-or-which : (a b : Bool) → a || b ≡ true → (a ≡ true) ⊎ (b ≡ true)
-or-which true b e = inl refl
-or-which false b e = inr e
-
 pub gathered-from : (g : ℕ → List ℕ) (x : ℕ) (l : List ℕ) → member x (gather g l) ≡ true → (i : ℕ) × (i < length l) × (member x (g (getD l i 0)) ≡ true)
 gathered-from g x [] e = absurd (true≢false (sym e))
-gathered-from g x (k ∷ l) e = go (or-which (member x (g k)) (member x (gather g l)) (sym (member-either x (g k) (gather g l)) ∙ e)) (gathered-from g x l)
+gathered-from g x (k ∷ l) e = go (either-which (member x (g k)) (member x (gather g l)) (sym (member-either x (g k) (gather g l)) ∙ e)) (gathered-from g x l)
   where
     go : (member x (g k) ≡ true) ⊎ (member x (gather g l) ≡ true)
         → (member x (gather g l) ≡ true → (i : ℕ) × (i < length l) × (member x (g (getD l i 0)) ≡ true))

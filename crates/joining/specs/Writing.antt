@@ -30,11 +30,6 @@ module _ {A : Type 0} where
   sets-over list before h =
       sets-eq list before 0 (omega arith) ∙ ap (λ (n : ℕ). list ++ drop n before) (zero-add (length list))
 
--- a row number for each member, within a column
-pub record Placed (members rows column : List ℕ) : Type 0 where
-  pub index : (p : ℕ) → p < length members → getD members p 0 < 64
-  pub row : (p : ℕ) → p < length members → getD rows (getD members p 0) 0 < length column
-
 -- what writing all units asks: every target row has its assembly, and there is room for them in both lists
 pub record Writable (t : Table) (f : Frame) (numbers : List ℕ) (lags : List ℤ) : Type 0 where
   pub whole : Whole t f

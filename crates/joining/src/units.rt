@@ -7,7 +7,7 @@ ghost use Rattle.combinators.specs.Lists.{any};
 ghost use Rattle.joining.specs.Table.{table};
 ghost use Rattle.assembling.specs.Index.{Ready};
 ghost use Rattle.joining.specs.Units.{frame, unitFrom, firstSharing};
-ghost use Rattle.joining.specs.Judging.{Chosen, Whole, marked, Judges};
+ghost use Rattle.joining.specs.Judging.{Placed, Whole, marked, Judges};
 use assembling::assemble;
 
 // What was found of the target rows: the first with no assembly and the first that shares a row, each the number of rows where there is
@@ -21,7 +21,7 @@ pub struct Judged {
 
 // Whether a row of the unit is marked as used.
 fn any_used(rows: &[usize; 64], members: &[u8], used: &[bool; 512]) -> bool
-    requires { ⌜ Chosen (now members) (now rows) ⌝ }
+    requires { ⌜ Placed (now members) (now rows) 512 ⌝ }
     ensures { λ r. ⌜ r ≡ any (λ row. getD (now (used .entry)) row false) (unitFrom (now (members .entry)) (now (rows .entry))) ⌝ }
 {
     let mut at = 0;
@@ -37,7 +37,7 @@ fn any_used(rows: &[usize; 64], members: &[u8], used: &[bool; 512]) -> bool
 
 // Marks each row of the unit as used.
 fn mark(rows: &[usize; 64], members: &[u8], used: &mut [bool; 512])
-    requires { ⌜ Chosen (now members) (now rows) ⌝ }
+    requires { ⌜ Placed (now members) (now rows) 512 ⌝ }
     ensures { λ _. ⌜ now (used .exit) ≡ marked (unitFrom (now (members .entry)) (now (rows .entry))) (now (used .entry)) ⌝ }
 {
     let mut at = 0;
@@ -51,7 +51,7 @@ fn mark(rows: &[usize; 64], members: &[u8], used: &mut [bool; 512])
 
 // Marks each row of the unit as used, and answers whether one of them was marked before.
 fn claim(rows: &[usize; 64], members: &[u8], used: &mut [bool; 512]) -> bool
-    requires { ⌜ Chosen (now members) (now rows) ⌝ }
+    requires { ⌜ Placed (now members) (now rows) 512 ⌝ }
     ensures shared { λ r. ⌜ r ≡ any (λ row. getD (now (used .entry)) row false) (unitFrom (now (members .entry)) (now (rows .entry))) ⌝ }
     ensures marks { λ _. ⌜ now (used .exit) ≡ marked (unitFrom (now (members .entry)) (now (rows .entry))) (now (used .entry)) ⌝ }
 {

@@ -7,7 +7,8 @@ ghost use lib.Seq.{sets};
 ghost use Rattle.joining.specs.Table.{table};
 ghost use Rattle.assembling.specs.Index.{Ready};
 ghost use Rattle.joining.specs.Units.{frame, unitFrom, lagsFrom, rowsBelow, lagsBelow};
-ghost use Rattle.joining.specs.Writing.{Placed, Writable};
+ghost use Rattle.joining.specs.Judging.{Placed};
+ghost use Rattle.joining.specs.Writing.{Writable};
 use assembling::assemble;
 
 // Writes the rows of one unit, and the lag of each, from place `at` on.
@@ -20,7 +21,7 @@ fn write_unit(
     numbers: &mut [u64],
     lags: &mut [i64],
 )
-    requires { ⌜ Placed (now members) (now rows) (now decodings) × (at + length (now members) ≤ length (now numbers)) × (at + length (now members) ≤ length (now lags)) ⌝ }
+    requires { ⌜ Placed (now members) (now rows) (length (now decodings)) × (at + length (now members) ≤ length (now numbers)) × (at + length (now members) ≤ length (now lags)) ⌝ }
     ensures content { λ _. ⌜ now (numbers .exit) ≡ sets (now (numbers .entry)) at (unitFrom (now (members .entry)) (now (rows .entry))) ⌝ }
     ensures beside { λ _. ⌜ now (lags .exit) ≡ sets (now (lags .entry)) at (lagsFrom (table [] (now (decodings .entry)) []) time (unitFrom (now (members .entry)) (now (rows .entry)))) ⌝ }
 {

@@ -3,7 +3,7 @@
 -- Assumes nothing.
 use Prim.Native.Nat.{ℕ, _≤_, _<_}
 use mathlib.Core.Path.{_≡_, refl, sym, _∙_, ap}
-use mathlib.Core.Logic.{_≢_, _↔_}
+use mathlib.Core.Logic.{_≢_, _↔_, ⊎-elim}
 use mathlib.Core.Bool.{Bool, true, false, not, _&&_, _||_}
 use mathlib.Core.List.{List}
 use native.Mathlib.Omega.{arith}
@@ -11,7 +11,7 @@ use borrow.Author.Tests.{ltb-true, lt-ltb, leb-true, le-leb, eqb-true, eqb-false
 use lib.Dec.{eqb, leb, ltb}
 use lib.ListN.{length, getD, take}
 use lib.Seq.{length-take-le, getD-take}
-use Rattle.combinators.specs.Bools.{both-left, both-right, either-left, either-right, apart}
+use Rattle.combinators.specs.Bools.{both-left, both-right, either-left, either-right, apart, either-which}
 use Rattle.combinators.specs.Below.{some, some-at, some-which}
 use Rattle.combinators.specs.Members.{member, member-at, member-which}
 use Rattle.vocabulary.specs.StreamTypes.{mayStandOn}
@@ -56,8 +56,7 @@ pub data TooManyEmbedded : Record → Type 0 where
 
 -- one of two tests holds
 which : {A : Type 0} (a b : Bool) → a || b ≡ true → (a ≡ true → A) → (b ≡ true → A) → A
-which true b e f g = f refl
-which false b e f g = g e
+which a b e f g = ⊎-elim f g (either-which a b e)
 
 -- THE LAWS.
 type-means : (t : ℕ) (r : Record) → typeNotAllowed t r ≡ true → TypeNotAllowed t r

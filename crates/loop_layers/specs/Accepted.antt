@@ -11,7 +11,7 @@ use borrow.Author.Tests.{eq-eqb, ltb-false, leb-false, lt-ltb}
 use lib.Dec.{eqb, leb, ltb}
 use lib.ListN.{length, getD, take}
 use Rattle.combinators.specs.Below.{none-at}
-use Rattle.combinators.specs.Bools.{neither-left}
+use Rattle.combinators.specs.Bools.{neither-left, either-way}
 use Rattle.combinators.specs.Lists.{Nth, nth-inside, nth-getD, nth-of-map, gather}
 use Rattle.combinators.specs.Lowest.{lowestNumber, earliestPlace, lowest-is}
 use Rattle.combinators.specs.Members.{member, member-which}
@@ -38,10 +38,6 @@ use Rattle.loop_layers.specs.Meant.{layers-meant, entries-read}
 
 -- ---- a layer index that was read has six bits
 
-cond-both : {A : Type 0} (P : A → Type 0) (b : Bool) (x y : A) → P x → P y → P (cond b x y)
-cond-both P true x y p q = p
-cond-both P false x y p q = q
-
 -- the index in a descriptor, if it has one
 abbrev SixBits : Kind → Type 0
 SixBits does-not-fit = Unit {0}
@@ -60,15 +56,15 @@ extension-index payload = omega arith
 kind-index : (reading : Reading) (x : Item) → SixBits (kindOf reading x)
 kind-index reading broken = tt
 kind-index reading (whole head payload) =
-    cond-both SixBits (eqb (descriptorTag head) 4) (tag4Kind reading payload) (cond (eqb (descriptorTag head) 63) (tag63Kind reading payload) skipped)
-    (cond-both SixBits (eqb (length payload) 4) (hierarchy (hierarchyOf reading payload)) wrong-length (hierarchy-index reading payload) tt)
-    (cond-both SixBits (eqb (descriptorTag head) 63) (tag63Kind reading payload) skipped (tag63 reading) tt)
+    either-way SixBits (eqb (descriptorTag head) 4) (tag4Kind reading payload) (cond (eqb (descriptorTag head) 63) (tag63Kind reading payload) skipped)
+    (either-way SixBits (eqb (length payload) 4) (hierarchy (hierarchyOf reading payload)) wrong-length (hierarchy-index reading payload) tt)
+    (either-way SixBits (eqb (descriptorTag head) 63) (tag63Kind reading payload) skipped (tag63 reading) tt)
   where
     tag63 : (r : Reading) → SixBits (tag63Kind r payload)
     tag63 Edition2009 = tt
     tag63 Edition2015 =
-        cond-both SixBits (ltb 0 (length payload) && eqb (getD payload 0 0) 0x06) _ skipped
-        (cond-both SixBits (eqb (length payload) _) (extension (extensionOf payload) (embeddedOf payload)) wrong-length (extension-index payload) tt)
+        either-way SixBits (ltb 0 (length payload) && eqb (getD payload 0 0) 0x06) _ skipped
+        (either-way SixBits (eqb (length payload) _) (extension (extensionOf payload) (embeddedOf payload)) wrong-length (extension-index payload) tt)
         tt
 
 first-index : (reading : Reading) (items : List Item) → indexOf (firstRecord (gather heldIn (map (kindOf reading) items))) < 64

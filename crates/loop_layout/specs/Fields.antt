@@ -1,7 +1,9 @@
 -- The fields that are written of a record, and the record that is made of them: the same again.
 -- Assumes nothing.
+use Prim.Native.Nat.{ℕ, zero, suc, _<_}
 use mathlib.Core.Bool.{Bool, true, false}
 use mathlib.Core.Path.{_≡_, refl}
+use native.Mathlib.Omega.{arith}
 use lib.Dec.{eqb}
 use Rattle.descriptors.specs.declared.records.HierarchyRecord.{HierarchyRecord}
 use Rattle.descriptors.specs.declared.records.ExtensionRecord.{ExtensionRecord}
@@ -18,3 +20,9 @@ hierarchy-fields h =
 
 pub extension-fields : (x : ExtensionRecord) → extensionFrom (extensionFields x) ≡ x
 extension-fields x = rw (bit-back (x .«tref_present_flag»))
+
+-- a bit is the flag that it stands for
+pub bit-there : (v : ℕ) → v < 2 → bitOf (eqb v 1) ≡ v
+bit-there zero h = refl
+bit-there (suc zero) h = refl
+bit-there (suc (suc v)) h = absurd (omega arith)

@@ -11,6 +11,7 @@ use borrow.Author.Tests.{lt-ltb, le-ltb, eq-eqb, eqb-true, ltb-false}
 use lib.Dec.{eqb, ltb}
 use lib.ListN.{length, getD, take, drop, replicate, length-append, length-map, length-drop, take-append-drop, List·getD-eq-default}
 use lib.Seq.{take-at, take-all}
+use Rattle.loop_layout.specs.Fields.{bit-there}
 use Rattle.combinators.specs.Bools.{both-left, neither-left, neither-right}
 use Rattle.combinators.specs.Lists.{Nth, here, there, nth-inside, getD-nth, getD-map, any, gather}
 use Rattle.combinators.specs.Lowest.{lowestNumber, earliestPlace, lowest-is}
@@ -69,12 +70,6 @@ again {t} s l b long f ones = write-read s l b (omega arith) f ones ∙ take-all
 
 fits-filled : (t : Table) (l : List ℕ) → tooWideIn (filled t (readTable t l)) ≡ false
 fits-filled t l = ap not (fit-fits (read-fits t l))
-
--- a bit that is read as a flag
-bit-there : (v : ℕ) → v < 2 → bitOf (eqb v 1) ≡ v
-bit-there zero h = refl
-bit-there (suc zero) h = refl
-bit-there (suc (suc v)) h = absurd (omega arith)
 
 hierarchy-values : (a b c d t i f e ch : ℕ) → a < 2 → b < 2 → c < 2 → d < 2 → f < 2
     → hierarchyFields (hierarchyFrom (a ∷ b ∷ c ∷ d ∷ t ∷ i ∷ f ∷ e ∷ ch ∷ [])) ≡ a ∷ b ∷ c ∷ d ∷ t ∷ i ∷ f ∷ e ∷ ch ∷ []

@@ -3,9 +3,9 @@
 //
 // What is to be written is judged, and its size found, before the first byte is laid into the buffer.
 ghost use mathlib.Core.Path.{_≡_};
-ghost use Prim.Native.Nat.{min};
 ghost use lib.ListN.{length};
 ghost use Rattle.loop_writer.specs.Writing.{answer, content};
+use combinators::lesser;
 use es_loop::Entry;
 use es_loop::refusal_of;
 use vocabulary::Refusal;
@@ -14,12 +14,6 @@ use vocabulary::Refusal;
 pub enum Written {
     Bytes(usize),
     Refused(Refusal),
-}
-
-fn lesser(a: usize, b: usize) -> usize
-    ensures { λ r. ⌜ r ≡ min a b ⌝ }
-{
-    if a < b { a } else { b }
 }
 
 // Writes the first `count` entries into `out`, from its front on.

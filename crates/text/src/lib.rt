@@ -1,14 +1,8 @@
 // Text laid into a buffer, piece after piece: fixed texts and decimal numbers. A text that is longer than the room for it is cut off at
 // the end of the buffer; specs/Text.antt says what the buffer then holds, and specs/Laws.antt that pieces join.
 ghost use mathlib.Core.Path.{_≡_};
-ghost use Prim.Native.Nat.{min};
 ghost use Rattle.text.specs.Text.{Laid, decimal};
-
-fn lesser(a: usize, b: usize) -> usize
-    ensures { λ r. ⌜ r ≡ min a b ⌝ }
-{
-    if a < b { a } else { b }
-}
+use combinators::lesser;
 
 // Lays `text` into `out` from place `at` on, and answers the place after it.
 pub fn put(out: &mut [u8], at: usize, text: &[u8]) -> usize

@@ -11,7 +11,7 @@ use borrow.Author.Tests.{ltb-false}
 use lib.Dec.{eqb, leb, ltb}
 use lib.ListN.{length, getD, take, drop, length-map, length-take, length-append}
 use Rattle.combinators.specs.Below.{some, seek, seek-first, count-short}
-use Rattle.combinators.specs.Bools.{neither-left, neither-right}
+use Rattle.combinators.specs.Bools.{neither-left, neither-right, either-way, or-else}
 use Rattle.combinators.specs.Lists.{any}
 use Rattle.combinators.specs.Lowest.{lowestNumber, earliestPlace}
 use Rattle.syntax.specs.Table.{number}
@@ -55,28 +55,21 @@ use Rattle.loop_verdict.specs.Verdict.{appliesTo}
 use Rattle.loop_writer.specs.Writing.{inRoom, judgedIn, answer}
 use Rattle.loop_layers.specs.Layers.{layersOf}
 use Rattle.loop_layers.specs.Closures.{entriesRead, closureFor, loopClosure}
+use Rattle.rows.specs.declared.Verdict.{Verdict}
+use Rattle.rows.specs.declared.Verdict.the-variants.{InOrder, OutOfRange as OutsideAt, OrderBroken as BrokenAt}
+use Rattle.rows.specs.Verdicts.{shape-short}
 use Rattle.joining.specs.declared.answer.Joined.{Joined}
 use Rattle.joining.specs.declared.answer.Joined.the-variants.{Units, Refused}
 use Rattle.joining.specs.Table.{Table, rowsIn, wrongShape, outOfRange, firstOutOfRange, breaksOrder, firstBroken}
 use Rattle.joining.specs.Units.{Frame, isTarget, unpaired, shares, firstUnpaired, firstShared, unitsIn, leftOut}
 use Rattle.joining.specs.Frames.{frameOf}
-use Rattle.joining.specs.Joining.{places, unitsJoined, tableJoined, joinedIn, joinedOf}
+use Rattle.joining.specs.Joining.{places, unitsJoined, joinedBy, tableJoined, joinedIn, joinedOf}
 use Rattle.importing.specs.Importing.{layersRead, importFor, importOf}
 use Rattle.thoquenry.specs.Answers.{accepted, refused, number-of, value-of}
 
 -- a place, or what a loop's bytes bound
 abbrev pub Placed : Refusal → Type 0
 Placed refusal = placeOf refusal ≤ 1008
-
--- either case of a test
-module _ {A : Type 0} (P : A → Type 0) where
-  either : (test : Bool) (a b : A) → P a → P b → P (cond test a b)
-  either true a b p q = p
-  either false a b p q = q
-
-  or-else : (test : Bool) (a b : A) → P a → (test ≡ false → P b) → P (cond test a b)
-  or-else true a b p q = p
-  or-else false a b p q = q refl
 
 -- ---- the caller's two macros
 
@@ -125,8 +118,8 @@ SmallTimes (NotRead refusal) = Placed refusal
 
 small-judged : (marked : Bool) (pts decoding matching : ℕ) → SmallTimes (timesJudged marked pts decoding matching)
 small-judged marked pts decoding matching =
-    either SmallTimes marked (cond (isBefore pts decoding) (NotRead PtsBeforeDts) (Times pts decoding matching)) (NotRead WrongMarker)
-    (either SmallTimes (isBefore pts decoding) (NotRead PtsBeforeDts) (Times pts decoding matching) (omega arith) tt) (omega arith)
+    either-way SmallTimes marked (cond (isBefore pts decoding) (NotRead PtsBeforeDts) (Times pts decoding matching)) (NotRead WrongMarker)
+    (either-way SmallTimes (isBefore pts decoding) (NotRead PtsBeforeDts) (Times pts decoding matching) (omega arith) tt) (omega arith)
 
 small-times : (stamps : Stamps) (extension : Extension) → SmallTimes (timesOf stamps extension)
 small-times stamps DataDoNotFit = omega arith
@@ -135,8 +128,8 @@ small-times stamps (WithTref tref) = small-judged (stamps .marked && tref .marke
 
 pub small-read : (bytes : List ℕ) → SmallTimes (readOf bytes)
 small-read bytes =
-    either SmallTimes (isVideoHeader bytes) (videoHeaderOf bytes) (NotRead NotVideoHeader)
-    (either SmallTimes (leb 0b10 (named "PTS_DTS_flags" packetHead (number 9 bytes))) (fieldsOf (flagsOf packetHead (number 9 bytes)) (dataOf bytes)) (NotRead NoPts)
+    either-way SmallTimes (isVideoHeader bytes) (videoHeaderOf bytes) (NotRead NotVideoHeader)
+    (either-way SmallTimes (leb 0b10 (named "PTS_DTS_flags" packetHead (number 9 bytes))) (fieldsOf (flagsOf packetHead (number 9 bytes)) (dataOf bytes)) (NotRead NoPts)
     (small-times (stampsOf (flagsOf packetHead (number 9 bytes) .ptsDts) (dataOf bytes)) (headerDataOf (flagsOf packetHead (number 9 bytes)) (dataOf bytes))) (omega arith))
     (omega arith)
 
@@ -147,17 +140,17 @@ SmallHeader (NoHeader refusal) = Placed refusal
 header-short : (pts decoding matching : ℕ) → length (headerOf pts decoding matching) ≤ 32768
 header-short pts decoding matching =
     let times : length (timeFields pts decoding) ≤ 10 =
-    either (λ (l : List ℕ). length l ≤ 10) (eqb pts decoding) (timeField ptsAlone pts) (timeField ptsBeforeDts pts ++ timeField dts decoding) (omega arith) (omega arith) in
+    either-way (λ (l : List ℕ). length l ≤ 10) (eqb pts decoding) (timeField ptsAlone pts) (timeField ptsBeforeDts pts ++ timeField dts decoding) (omega arith) (omega arith) in
     let last : length (trefFields decoding matching) ≤ 8 =
-    either (λ (l : List ℕ). length l ≤ 8) (eqb matching decoding) [] (trefHead ++ timeField tref matching) (omega arith) (omega arith) in
+    either-way (λ (l : List ℕ). length l ≤ 8) (eqb matching decoding) [] (trefHead ++ timeField tref matching) (omega arith) (omega arith) in
     let first : length (headOf pts decoding matching) ≡ 9 = refl in
     omega (arith, length-append (headOf pts decoding matching) (dataFields pts decoding matching), length-append (timeFields pts decoding) (trefFields decoding matching))
 
 pub small-header : (pts decoding matching room : ℕ) → SmallHeader (writeOf pts decoding matching room)
 small-header pts decoding matching room =
-    either SmallHeader (timesTooWide pts decoding matching) (NoHeader TooWide) _ (omega arith)
-    (either SmallHeader (leb (length (headerOf pts decoding matching)) room) _ (NoHeader NoRoom)
-    (either SmallHeader (isBefore pts decoding) (NoHeader PtsBeforeDts) (HeaderBytes (length (headerOf pts decoding matching))) (omega arith) (header-short pts decoding matching))
+    either-way SmallHeader (timesTooWide pts decoding matching) (NoHeader TooWide) _ (omega arith)
+    (either-way SmallHeader (leb (length (headerOf pts decoding matching)) room) _ (NoHeader NoRoom)
+    (either-way SmallHeader (isBefore pts decoding) (NoHeader PtsBeforeDts) (HeaderBytes (length (headerOf pts decoding matching))) (omega arith) (header-short pts decoding matching))
     (omega arith))
 
 -- ---- loops
@@ -167,7 +160,7 @@ few-pieces zero l = omega arith
 few-pieces (suc most) [] = omega arith
 few-pieces (suc most) (b ∷ bs) =
     let later = few-pieces most (drop (5 + esInfoLength (b ∷ bs)) (b ∷ bs)) in
-    either (λ (l : List Item). length l ≤ suc most) (leb (5 + esInfoLength (b ∷ bs)) (length (b ∷ bs))) _ (broken ∷ []) (omega arith) (omega arith)
+    either-way (λ (l : List Item). length l ≤ suc most) (leb (5 + esInfoLength (b ∷ bs)) (length (b ∷ bs))) _ (broken ∷ []) (omega arith) (omega arith)
 
 few-streams : (reading : Reading) (bytes : List ℕ) → length (streamsOf reading bytes) ≤ length bytes
 few-streams reading bytes =
@@ -200,7 +193,7 @@ small-entries streams h =
     let place : ℕ = earliestPlace (applies streams) lowest (length streams) in
     let within = seek-first (applies streams lowest) (length streams) .within in
     let at = refusal-place lowest place in
-    either SmallLoop (ltb lowest 11) (refusedWith (refusalOf lowest place)) (loopAccepted streams) (omega arith, omega arith) (tt, omega arith)
+    either-way SmallLoop (ltb lowest 11) (refusedWith (refusalOf lowest place)) (loopAccepted streams) (omega arith, omega arith) (tt, omega arith)
 
 pub small-loop : (reading : Reading) (bytes : List ℕ) → SmallLoop (loopRead reading bytes)
 small-loop reading bytes =
@@ -220,9 +213,9 @@ small-written room count array =
     let at = refusal-place lowest place in
     or-else SmallWritten (any tooWide entries) (NotWritten TooWide) _ (omega arith) (λ fine.
     or-else SmallWritten (ltb 201 count || ltb 1008 (length (loopBytes entries))) (NotWritten LoopTooLong) (judgedIn room entries) (omega arith) (λ short.
-    either SmallWritten (ltb lowest 11) (NotWritten (refusalOf lowest place)) (inRoom room (length (loopBytes entries)))
+    either-way SmallWritten (ltb lowest 11) (NotWritten (refusalOf lowest place)) (inRoom room (length (loopBytes entries)))
     (omega (arith, length-take count array, ltb-false 201 count (neither-left (ltb 201 count) (ltb 1008 (length (loopBytes entries))) short)))
-    (either SmallWritten (ltb room (length (loopBytes entries))) (NotWritten NoRoom) (Bytes (length (loopBytes entries))) (omega arith)
+    (either-way SmallWritten (ltb room (length (loopBytes entries))) (NotWritten NoRoom) (Bytes (length (loopBytes entries))) (omega arith)
     (omega (arith, ltb-false 1008 (length (loopBytes entries)) (neither-right (ltb 201 count) (ltb 1008 (length (loopBytes entries))) short))))))
 
 -- ---- closures
@@ -235,7 +228,7 @@ small-answer : (layers : Layers) (there : Bool) (set : ℕ) → SmallClosure (an
 small-answer layers false set = omega arith
 small-answer layers true set =
     let within = seek-first (lacks layers set) 64 .within in
-    either SmallClosure (some (lacks layers set) 64) (NoClosure (EmbeddedLayerAbsent (record { 0 = seek (lacks layers set) 64 }))) (Complete set) (omega arith) tt
+    either-way SmallClosure (some (lacks layers set) 64) (NoClosure (EmbeddedLayerAbsent (record { 0 = seek (lacks layers set) 64 }))) (Complete set) (omega arith) tt
 
 small-closure-of : (layers : Layers) (target : ℕ) → SmallClosure (closureOf layers target)
 small-closure-of layers target = small-answer layers (isLayer layers target) (restedOn layers target)
@@ -263,22 +256,24 @@ few-units : (t : Table) (closure : ℕ) (f : Frame) (numberRoom lagRoom : ℕ) �
 few-units t closure f numberRoom lagRoom h =
     let first = seek-first (unpaired t f) (rowsIn t) .within in
     let second = seek-first (shares t f) (rowsIn t) .within in
-    either Few (ltb (firstUnpaired t f) (rowsIn t)) (Refused (Unpaired (firstUnpaired t f))) _ (omega arith)
-    (either Few (ltb (firstShared t f) (rowsIn t)) (Refused (UsedTwice (firstShared t f))) _ (omega arith)
-    (either Few (ltb numberRoom (places t f)) (Refused NoRoom) _ (omega arith)
-    (either Few (ltb lagRoom (places t f)) (Refused NoRoom) (Units closure (unitsIn t f) (leftOut t closure f)) (omega arith)
+    either-way Few (ltb (firstUnpaired t f) (rowsIn t)) (Refused (Unpaired (firstUnpaired t f))) _ (omega arith)
+    (either-way Few (ltb (firstShared t f) (rowsIn t)) (Refused (UsedTwice (firstShared t f))) _ (omega arith)
+    (either-way Few (ltb numberRoom (places t f)) (Refused NoRoom) _ (omega arith)
+    (either-way Few (ltb lagRoom (places t f)) (Refused NoRoom) (Units closure (unitsIn t f) (leftOut t closure f)) (omega arith)
     (omega (arith, count-short (isTarget t f) (rowsIn t))))))
 
 few-table : (layers : Layers) (target : ℕ) (t : Table) (closure numberRoom lagRoom : ℕ) → Few (tableJoined layers target t closure numberRoom lagRoom)
 few-table layers target t closure numberRoom lagRoom =
-    or-else Few (wrongShape t) (Refused (OutOfRange 0)) _ (omega arith) (λ shape.
-    let short : rowsIn t ≤ 512 =
-    ltb-false 512 (rowsIn t) (neither-right (not (eqb (length (t .matches)) (rowsIn t))) (ltb 512 (rowsIn t)) (neither-right (not (eqb (length (t .decodings)) (rowsIn t))) _ shape)) in
+    or-else OfTable (wrongShape t) (OutsideAt 0) _ (omega arith) (λ shape.
     let first = seek-first (outOfRange t) (rowsIn t) .within in
     let second = seek-first (breaksOrder t closure) (rowsIn t) .within in
-    either Few (ltb (firstOutOfRange t) (rowsIn t)) (Refused (OutOfRange (firstOutOfRange t))) _ (omega arith)
-    (either Few (ltb (firstBroken t closure) (rowsIn t)) (Refused (TimeOrderBroken (firstBroken t closure))) _ (omega arith)
+    let short = shape-short t shape in
+    either-way OfTable (ltb (firstOutOfRange t) (rowsIn t)) (OutsideAt (firstOutOfRange t)) _ (omega arith)
+    (either-way OfTable (ltb (firstBroken t closure) (rowsIn t)) (BrokenAt (firstBroken t closure)) InOrder (omega arith)
     (few-units t closure (frameOf layers closure target) numberRoom lagRoom short)))
+  where
+    OfTable : Verdict → Type 0
+    OfTable v = Few (joinedBy (unitsJoined t closure (frameOf layers closure target) numberRoom lagRoom) v)
 
 few-closure : (layers : Layers) (target : ℕ) (t : Table) (numberRoom lagRoom : ℕ) (c : Closure) → SmallClosure c → Few (joinedIn layers target t numberRoom lagRoom c)
 few-closure layers target t numberRoom lagRoom (Complete closure) h = few-table layers target t closure numberRoom lagRoom

@@ -10,7 +10,7 @@ use lib.Dec.{ltb}
 use lib.IntN.{ℤ}
 use lib.ListN.{length}
 use Rattle.vocabulary.specs.declared.stream_types.Reading.{Reading}
-use Rattle.vocabulary.specs.declared.refusal.Refusal.the-variants.{OutOfRange, TimeOrderBroken, Unpaired, UsedTwice, NoRoom}
+use Rattle.vocabulary.specs.declared.refusal.Refusal.the-variants.{Unpaired, UsedTwice, NoRoom}
 use Rattle.closure.specs.declared.Layers.{Layers}
 use Rattle.closure.specs.declared.Closure.{Closure}
 use Rattle.closure.specs.declared.Closure.the-variants.{Complete, Refused as NoClosure}
@@ -20,10 +20,13 @@ use Rattle.es_loop.specs.declared.reader.Outcome.the-variants.{Accepted, Refuse
 use Rattle.es_loop.specs.Reading.{loopRead}
 use Rattle.joining.specs.declared.answer.Joined.{Joined}
 use Rattle.joining.specs.declared.answer.Joined.the-variants.{Units, Refused}
-use Rattle.joining.specs.Table.{Table, rowsIn, wrongShape, firstOutOfRange, firstBroken}
+use Rattle.rows.specs.declared.Verdict.{Verdict}
+use Rattle.rows.specs.declared.Verdict.the-variants.{InOrder, OutOfRange, OrderBroken}
+use Rattle.rows.specs.Verdicts.{verdictOf}
+use Rattle.joining.specs.Table.{Table, rowsIn}
 use Rattle.joining.specs.Units.{Frame, firstUnpaired, firstShared, unitsIn, leftOut}
 use Rattle.joining.specs.Frames.{frameOf}
-use Rattle.joining.specs.Joining.{places, unitsJoined, tableJoined, joinedIn, joinedOf, numbersAfter, lagsAfter}
+use Rattle.joining.specs.Joining.{places, unitsJoined, joinedBy, joinedIn, joinedOf, numbersAfter, lagsAfter}
 use Rattle.importing.specs.Importing.{layersRead, importFor, importOf}
 use Rattle.thoquenry.specs.Joins.{withSummary, summaryAfter}
 
@@ -73,11 +76,15 @@ module _ (layers : Layers) (target : ℕ) (t : Table) (n l m k : ℕ) where
       ∙ sym (no-room-either (ltb m (places t f)) (ltb k (places t f)) closure (unitsIn t f) (leftOut t closure f))))
 
   alike-in : (c : Closure) → barred (joinedIn layers target t n l c) ≡ barred (joinedIn layers target t m k c)
-  alike-in (Complete closure) =
-      alike-cond (wrongShape t) (Refused (OutOfRange 0)) _ _
-      (alike-cond (ltb (firstOutOfRange t) (rowsIn t)) (Refused (OutOfRange (firstOutOfRange t))) _ _
-      (alike-cond (ltb (firstBroken t closure) (rowsIn t)) (Refused (TimeOrderBroken (firstBroken t closure))) _ _
-      (alike-units closure (frameOf layers closure target))))
+  alike-in (Complete closure) = by-verdict (verdictOf t closure)
+    where
+      f : Frame
+      f = frameOf layers closure target
+
+      by-verdict : (v : Verdict) → barred (joinedBy (unitsJoined t closure f n l) v) ≡ barred (joinedBy (unitsJoined t closure f m k) v)
+      by-verdict InOrder = alike-units closure f
+      by-verdict (OutOfRange row) = refl
+      by-verdict (OrderBroken row) = refl
   alike-in (NoClosure refusal) = refl
 
   pub alike-joined : barred (joinedOf layers target t n l) ≡ barred (joinedOf layers target t m k)

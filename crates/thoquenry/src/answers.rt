@@ -1,6 +1,5 @@
-// Answers as one number, readings by their year, and the lesser of two numbers.
+// Answers as one number, and readings by their year.
 ghost use mathlib.Core.Path.{_≡_};
-ghost use Prim.Native.Nat.{min};
 ghost use Rattle.thoquenry.specs.Answers.{answerOf, accepted as acceptedOf, refused as refusedOf, notACall, askedFor};
 use vocabulary::Reading;
 use vocabulary::Refusal;
@@ -45,10 +44,4 @@ pub fn reading_of(year: u64) -> Asked
         return Asked::Known(Reading::Edition2015);
     }
     Asked::Neither
-}
-
-pub fn lesser(a: usize, b: usize) -> usize
-    ensures { λ r. ⌜ r ≡ min a b ⌝ }
-{
-    if a < b { a } else { b }
 }

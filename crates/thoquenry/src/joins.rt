@@ -7,11 +7,11 @@ ghost use Rattle.thoquenry.specs.Joins.{layersGiven, withSummary, joined
 ghost use Rattle.thoquenry.specs.Bounds.{Few};
 use super::answers::Asked;
 use super::answers::accepted;
-use super::answers::lesser;
 use super::answers::not_a_call;
 use super::answers::reading_of;
 use super::answers::refused;
 use closure::Layers;
+use combinators::lesser;
 use joining::Joined;
 use vocabulary::Reading;
 use vocabulary::Refusal;

@@ -6,8 +6,8 @@ use lib.ListN.{length}
 use Rattle.rows.specs.Verdicts.{sound}
 use Rattle.joining.specs.Table.{table}
 use Rattle.joining.specs.Frames.{frameOf}
-use Rattle.joining.specs.Joining.{unitsJoined}
-use Rattle.joining.specs.Cases.{orderly, joinedBy, by-verdict}
+use Rattle.joining.specs.Joining.{unitsJoined, joinedBy}
+use Rattle.joining.specs.Cases.{orderly}
 use Rattle.joining.proofs.answer.join_closure.Statement.{statement}
 use Rattle.joining.proofs.answer.join_closure.Tie as tie
 
@@ -44,8 +44,7 @@ returns c =
     let is = sym (c .before .before .before .before .before .before .before .before .judge .ensures) ∙ c .before .before .before .before .before .before .enum-told .given .1 in
     let joined = c .before .before .before .join-ordered in (
       joined .ensures .0
-          ∙ sym (ap (joinedBy (unitsJoined t (a .closure) (frameOf (a .layers) (a .closure) (a .target)) (length (a .numbers .now)) (length (a .lags .now)))) is)
-          ∙ by-verdict (a .layers) (a .target) t (a .closure) (length (a .numbers .now)) (length (a .lags .now)),
+          ∙ sym (ap (joinedBy (unitsJoined t (a .closure) (frameOf (a .layers) (a .closure) (a .target)) (length (a .numbers .now)) (length (a .lags .now)))) is),
       joined .ensures .1,
     )
 
@@ -54,8 +53,7 @@ returns-2 c =
     let a = c .before .before .before .before .before .before .before .before .args in
     let t = table (a .indices .now) (a .decodings .now) (a .matches .now) in
     let is = sym (c .before .before .before .judge .ensures) ∙ c .before .verdict .given .1 in (
-      sym (ap (joinedBy (unitsJoined t (a .closure) (frameOf (a .layers) (a .closure) (a .target)) (length (a .numbers .now)) (length (a .lags .now)))) is)
-          ∙ by-verdict (a .layers) (a .target) t (a .closure) (length (a .numbers .now)) (length (a .lags .now)),
+      sym (ap (joinedBy (unitsJoined t (a .closure) (frameOf (a .layers) (a .closure) (a .target)) (length (a .numbers .now)) (length (a .lags .now)))) is),
       (refl, refl),
     )
 
@@ -64,8 +62,7 @@ returns-3 c =
     let a = c .before .before .before .before .before .before .before .before .args in
     let t = table (a .indices .now) (a .decodings .now) (a .matches .now) in
     let is = sym (c .before .before .before .judge .ensures) ∙ c .before .verdict2 .given .1 in (
-      sym (ap (joinedBy (unitsJoined t (a .closure) (frameOf (a .layers) (a .closure) (a .target)) (length (a .numbers .now)) (length (a .lags .now)))) is)
-          ∙ by-verdict (a .layers) (a .target) t (a .closure) (length (a .numbers .now)) (length (a .lags .now)),
+      sym (ap (joinedBy (unitsJoined t (a .closure) (frameOf (a .layers) (a .closure) (a .target)) (length (a .numbers .now)) (length (a .lags .now)))) is),
       (refl, refl),
     )
 

@@ -13,7 +13,7 @@ use Rattle.combinators.specs.Below.{count-short}
 use Rattle.combinators.specs.Lists.{any}
 use Rattle.joining.specs.Table.{table}
 use Rattle.joining.specs.Units.{frame, isTarget, unitFrom}
-use Rattle.joining.specs.Judging.{Chosen, marked}
+use Rattle.joining.specs.Judging.{Placed, marked}
 use Rattle.joining.proofs.Claiming.{Walked, walked-start, walked-other, no-assembly, chosen, walked-target, stopped, walked-end}
 use Rattle.joining.proofs.units.judge.Statement.{statement}
 use Rattle.joining.proofs.units.judge.Tie as tie
@@ -54,7 +54,7 @@ claim-requires c κs =
     let begin = c .before .before .before .before .before .before .before .before .before .before .before .before .before .before .before in
     let loop = c .before .before .before .before .before .before .before .before .before .loop in
     let inside = c .before .before .before .before .before .before .before .before .loop-test .taken in
-    subst (Chosen (begin .args .members .now)) (sym (c .before .before .before .assemble .ensures .1))
+    subst (λ (rows : List ℕ). Placed (begin .args .members .now) rows 512) (sym (c .before .before .before .assemble .ensures .1))
     (chosen _ _ _ _ _ _ (loop .inv) inside (eq-eqb _ _ (c .before .before .before .before .before .before .if1 .taken)) (begin .pre .1) (begin .pre .0 .sorted .short)
     (sym (c .before .before .before .assemble .ensures .0) ∙ not-false _ (c .before .before .if2 .left)))
 

@@ -11,7 +11,7 @@ use lib.ListN.{length, getD}
 use lib.Seq.{sets}
 use Rattle.joining.specs.Table.{table}
 use Rattle.joining.specs.Units.{frame, unitFrom, lagsFrom}
-use Rattle.joining.specs.Writing.{Placed}
+use Rattle.joining.specs.Judging.{Placed}
 use Rattle.joining.proofs.Filling.{Filled, filled-start, filled-other, filled-target, filled-end, long-numbers, long-lags, room-numbers, room-lags, unit-placed}
 use Rattle.joining.proofs.writing.write_units.Statement.{statement}
 use Rattle.joining.proofs.writing.write_units.Tie as tie
@@ -48,7 +48,7 @@ write-unit-requires c κs =
     let loop = c .before .before .before .before .before .before .before .before .before .before .loop in
     let inside = c .before .before .before .before .before .before .before .before .before .loop-test .taken in
     let m = eq-eqb _ _ (c .before .before .before .before .before .before .before .if1 .taken) in (
-      subst (λ (rows : List ℕ). Placed (begin .args .members .now) rows (begin .args .decodings .now)) (sym (c .before .before .before .before .assemble .ensures .1))
+      subst (λ (rows : List ℕ). Placed (begin .args .members .now) rows (length (begin .args .decodings .now))) (sym (c .before .before .before .before .assemble .ensures .1))
           (unit-placed _ _ _ _ _ _ _ _ (loop .inv) inside m (begin .pre .1) (begin .pre .0 .sorted .same-length)),
       room-numbers _ _ _ _ _ _ _ _ (loop .inv) inside m (begin .pre .1),
       room-lags _ _ _ _ _ _ _ _ (loop .inv) inside m (begin .pre .1),
