@@ -7,6 +7,7 @@ ghost use Rattle.combinators.specs.Padding.{padTo};
 ghost use Rattle.text.specs.Text.{Laid};
 ghost use Rattle.loop_layout.specs.Layout.{bitOf};
 ghost use Rattle.entry_rows.specs.Rows.{layerNumber, headOf, tailOf, rowOf, rowsOf};
+use buffers::put_u16;
 use combinators::lesser;
 use descriptors::ExtensionRecord;
 use descriptors::HierarchyRecord;
@@ -140,22 +141,6 @@ fn tail_of(record: Record, embedded: [LayerIndex; 63]) -> [u16; 64]
     }
 }
 
-// Lays numbers into a buffer from place `at` on, and answers the place after them.
-fn put(out: &mut [u16], at: usize, numbers: &[u16]) -> usize
-    ensures { λ r. ⌜ Laid (now (out .entry)) at (now (numbers .entry)) r (now (out .exit)) ⌝ }
-{
-    if out.len() <= at {
-        return out.len();
-    }
-    let count = lesser(out.len() - at, numbers.len());
-    let mut i = 0;
-    while i < count {
-        out[at + i] = numbers[i];
-        i += 1;
-    }
-    at + count
-}
-
 fn put_entry(out: &mut [u16], at: usize, entry: Entry) -> usize
     ensures { λ r. ⌜ Laid (now (out .entry)) at (rowOf entry) r (now (out .exit)) ⌝ }
 {
@@ -163,8 +148,8 @@ fn put_entry(out: &mut [u16], at: usize, entry: Entry) -> usize
     let embedded = entry.embedded;
     let head = head_of(entry);
     let tail = tail_of(record, embedded);
-    let next = put(out, at, &head);
-    put(out, next, &tail)
+    let next = put_u16(out, at, &head);
+    put_u16(out, next, &tail)
 }
 
 // The rows of the first `count` entries, of which there are at most 201, from the front of the buffer on.

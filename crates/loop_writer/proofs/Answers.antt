@@ -3,17 +3,15 @@
 use Prim.Native.Nat.{ℕ, _≤_, _<_}
 use mathlib.Core.Path.{_≡_, sym, _∙_, ap}
 use mathlib.Core.Bool.{true, false, cond, _||_}
-use mathlib.Core.List.{List, _++_}
-use native.Mathlib.Omega.{arith}
-use native.Mathlib.Nat.{zero-add}
+use mathlib.Core.List.{List}
 use borrow.Author.Tests.{lt-ltb, le-ltb}
 use lib.Dec.{ltb}
-use lib.ListN.{length, take, drop}
+use lib.ListN.{length, take}
 use Rattle.combinators.specs.Bools.{either-left, either-right}
 use Rattle.combinators.specs.Lists.{any}
 use Rattle.combinators.specs.Lowest.{Lowest, lowestNumber, earliestPlace, lowest-number, earliest-place}
 use Rattle.text.specs.Text.{Laid}
-use Rattle.text.specs.Laws.{placed-whole}
+use Rattle.buffers.proofs.Laws.{laid-over}
 use Rattle.vocabulary.specs.declared.refusal.Refusal.{Refusal}
 use Rattle.vocabulary.specs.declared.refusal.Refusal.the-variants.{LoopTooLong, NoRoom, TooWide}
 use Rattle.es_loop.specs.declared.entries.Entry.{Entry}
@@ -79,6 +77,6 @@ module _ (count : ℕ) (array : List Entry) (old : List ℕ) where
             let size : ℕ = length (loopBytes given) in
             let e : answer (length old) count array ≡ Bytes size = in-room ∙ rw (le-ltb (length old) size h) in (
               sym e,
-              laid .content ∙ placed-whole old 0 (loopBytes given) (omega arith) ∙ ap (λ (n : ℕ). loopBytes given ++ drop n old) (zero-add size)
+              laid-over laid h
                   ∙ sym (ap (λ (w : Written). contentAfter w (loopBytes given) old) e),
             )

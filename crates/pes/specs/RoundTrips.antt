@@ -277,9 +277,9 @@ accepted pts decoding matching out {size} e =
 -- Reading what the writer wrote gives back what was given, whatever stands in the room beyond.
 pub reading-what-was-written : (pts decoding matching : ℕ) (out : List ℕ) {size : ℕ} → writeOf pts decoding matching (length out) ≡ Bytes size
     → readOf (bufferOf (Bytes size) (headerOf pts decoding matching) out) ≡ Answer.Times pts decoding matching
-reading-what-was-written pts decoding matching out {size} e =
+reading-what-was-written pts decoding matching out e =
     let a : Narrow pts decoding matching × (isBefore pts decoding ≡ false) = accepted pts decoding matching out e in
-    own-reads (own-is pts decoding matching (a .0)) (drop size out)
+    own-reads (own-is pts decoding matching (a .0)) (drop (length (headerOf pts decoding matching)) out)
     ∙ ap (λ (b : Bool). cond b (Answer.Refused PtsBeforeDts) (Answer.Times pts decoding matching)) (a .1)
 
 -- Rewriting what was read from a header in the writer's own shape gives the same bytes: with room for them the writer accepts, and

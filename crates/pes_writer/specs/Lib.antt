@@ -1,4 +1,3 @@
-pub mod Placed
 pub mod Writing
 pub mod OwnShape
 pub mod WritingLaws

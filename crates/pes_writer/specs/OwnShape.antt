@@ -6,7 +6,8 @@ use Prim.Native.Nat.{ℕ, _≤_, _<_}
 use mathlib.Core.Path.{_≡_}
 use mathlib.Core.Bool.{true, false}
 use mathlib.Core.List.{List, [], _∷_, _++_}
-use lib.ListN.{length, drop}
+use lib.ListN.{length}
+use Rattle.buffers.specs.Buffers.{over}
 use Rattle.syntax.specs.Table.{Written}
 use Rattle.clock.specs.Clock.{ticks, isBefore}
 use Rattle.vocabulary.specs.declared.refusal.Refusal.the-variants.{NoRoom, PtsBeforeDts, TooWide}
@@ -64,4 +65,4 @@ pub data Writes (pts decoding matching : ℕ) (out : List ℕ) : answer.Written 
       → Writes pts decoding matching out (Refused PtsBeforeDts) out
   written : {header : List ℕ} → Narrow pts decoding matching → OwnShape header pts decoding matching → length header ≤ length out
       → isBefore pts decoding ≡ false
-      → Writes pts decoding matching out (Bytes (length header)) (header ++ drop (length header) out)
+      → Writes pts decoding matching out (Bytes (length header)) (over header out)

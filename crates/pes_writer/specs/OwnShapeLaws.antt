@@ -8,7 +8,8 @@ use mathlib.Core.List.{List, [], _++_}
 use native.Mathlib.Omega.{arith}
 use borrow.Author.Tests.{eq-eqb, ne-eqb, eqb-true, eqb-false, leb-true, leb-false, le-leb, lt-leb}
 use lib.Dec.{eqb, leb, lit<}
-use lib.ListN.{length, drop}
+use lib.ListN.{length}
+use Rattle.buffers.specs.Buffers.{over}
 use Rattle.syntax.specs.Table.{writeTable, Fit, none, at-value, at-reserved, at-fixed, Written}
 use Rattle.syntax.specs.Laws.{written, written-unique}
 use Rattle.clock.specs.Clock.{ticks, isBefore}
@@ -166,7 +167,7 @@ module _ (pts decoding matching : ℕ) (out : List ℕ) where
   writes-only (own.written {header = h} n o room b) = (
     ap (λ (l : List ℕ). Bytes (length l)) (own-only o)
         ∙ sym (by-tests false true false (narrow-only n) (le-leb (length header) (length out) (rw (own-only o) at room)) b),
-    ap (λ (l : List ℕ). l ++ drop (length h) out) (own-only o),
+    ap (λ (l : List ℕ). over l out) (own-only o),
   )
 
   record Some : Type 0 where

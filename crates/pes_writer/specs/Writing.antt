@@ -5,7 +5,8 @@ use Prim.Native.Nat.{ℕ}
 use mathlib.Core.Bool.{Bool, cond, _||_}
 use mathlib.Core.List.{List, [], _∷_, _++_}
 use lib.Dec.{eqb, leb}
-use lib.ListN.{length, drop}
+use lib.ListN.{length}
+use Rattle.buffers.specs.Buffers.{over}
 use Rattle.syntax.specs.Table.{writeTable}
 use Rattle.clock.specs.Clock.{ticks, isBefore}
 use Rattle.vocabulary.specs.declared.refusal.Refusal.the-variants.{NoRoom, PtsBeforeDts, TooWide}
@@ -64,5 +65,5 @@ writeOf pts decoding matching room =
 
 -- 'every output buffer is untouched' on a refusal, and on acceptance 'the room beyond what was written'
 abbrev pub bufferOf : Written → List ℕ → List ℕ → List ℕ
-bufferOf (Bytes n) header out = header ++ drop n out
+bufferOf (Bytes n) header out = over header out
 bufferOf (Refused refusal) header out = out

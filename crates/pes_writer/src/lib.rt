@@ -3,10 +3,11 @@
 ghost use mathlib.Core.Path.{_≡_};
 ghost use Prim.Native.Nat.{_+_, _^_, _≤_, _<_};
 ghost use lib.ListN.{length};
+ghost use Rattle.buffers.specs.Buffers.{Laid};
 ghost use Rattle.syntax.specs.Table.{writeTable};
 ghost use Rattle.pes_fields.specs.Tables.{head};
 ghost use Rattle.pes_writer.specs.Writing.{timeFields, trefFields, dataFields, headValues, ptsDtsFlagsOf, extensionFlagOf, headOf, headerOf, tooWide, writeOf, bufferOf};
-ghost use Rattle.pes_writer.specs.Placed.{Put};
+use buffers::put_whole;
 use vocabulary::Refusal;
 
 // The number of bytes written, or why nothing was.
@@ -33,44 +34,35 @@ fn head_of(pts_dts_flags: u8, extension_flag: u8, data_length: u8) -> [u8; 9]
     ]
 }
 
-// A field laid over the buffer at a place, and the place after it.
-fn put(out: &mut [u8], at: usize, field: &[u8]) -> usize
-    requires { ⌜ at + length (now field) ≤ length (now out) ⌝ }
-    ensures { λ r. ⌜ Put at (now (field .entry)) (now (out .entry)) r (now (out .exit)) ⌝ }
-{
-    let written = bytes::copy(field, &mut out[at..]);
-    at + written
-}
-
 // PTS, and DTS if it differs, laid over the buffer, and the place after them.
 fn put_times(out: &mut [u8], at: usize, pts: u64, decoding: u64) -> usize
     requires { ⌜ (pts < 2 ^ 33) × (decoding < 2 ^ 33) ⌝ }
     requires { ⌜ at + length (timeFields pts decoding) ≤ length (now out) ⌝ }
-    ensures { λ r. ⌜ Put at (timeFields pts decoding) (now (out .entry)) r (now (out .exit)) ⌝ }
+    ensures { λ r. ⌜ Laid (now (out .entry)) at (timeFields pts decoding) r (now (out .exit)) ⌝ }
 {
     if pts == decoding {
         let alone = stamps::time_field(2, pts);
-        return put(out, at, &alone);
+        return put_whole(out, at, &alone);
     }
     let first = stamps::time_field(3, pts);
-    let next = put(out, at, &first);
+    let next = put_whole(out, at, &first);
     let second = stamps::time_field(1, decoding);
-    put(out, next, &second)
+    put_whole(out, next, &second)
 }
 
 // The extension with TREF, if match and decoding time differ, laid over the buffer, and the place after it.
 fn put_tref(out: &mut [u8], at: usize, decoding: u64, matching: u64) -> usize
     requires { ⌜ matching < 2 ^ 33 ⌝ }
     requires { ⌜ at + length (trefFields decoding matching) ≤ length (now out) ⌝ }
-    ensures { λ r. ⌜ Put at (trefFields decoding matching) (now (out .entry)) r (now (out .exit)) ⌝ }
+    ensures { λ r. ⌜ Laid (now (out .entry)) at (trefFields decoding matching) r (now (out .exit)) ⌝ }
 {
     if matching == decoding {
         return at;
     }
     let flags = [0x0Fu8, 0x86, 0xFE];
-    let next = put(out, at, &flags);
+    let next = put_whole(out, at, &flags);
     let tref = stamps::time_field(15, matching);
-    put(out, next, &tref)
+    put_whole(out, next, &tref)
 }
 
 // The bytes of PTS and DTS, and of the extension.
@@ -122,10 +114,10 @@ fn put_header(out: &mut [u8], pts: u64, decoding: u64, matching: u64) -> usize
     requires { ⌜ (pts < 2 ^ 33) × (decoding < 2 ^ 33) ⌝ }
     requires { ⌜ matching < 2 ^ 33 ⌝ }
     requires { ⌜ length (headerOf pts decoding matching) ≤ length (now out) ⌝ }
-    ensures { λ r. ⌜ Put 0 (headerOf pts decoding matching) (now (out .entry)) r (now (out .exit)) ⌝ }
+    ensures { λ r. ⌜ Laid (now (out .entry)) 0 (headerOf pts decoding matching) r (now (out .exit)) ⌝ }
 {
     let head = head_for(pts, decoding, matching);
-    let at = put(out, 0, &head);
+    let at = put_whole(out, 0, &head);
     let next = put_times(out, at, pts, decoding);
     put_tref(out, next, decoding, matching)
 }

@@ -2,7 +2,7 @@
 -- Assumes nothing.
 use mathlib.Core.List.{[], _∷_}
 use mathlib.Core.Path.{_≡_, refl}
-use Rattle.text.specs.Text.{ascii, decimal, decimalWidth, placed}
+use Rattle.text.specs.Text.{ascii, decimal, decimalWidth}
 
 letters : ascii "pid" ≡ 0x70 ∷ 0x69 ∷ 0x64 ∷ []
 letters = refl
@@ -18,9 +18,3 @@ a-pid = refl
 the-largest : decimal 18446744073709551615 ≡ ascii "18446744073709551615"
 unfolding decimal decimalWidth
 the-largest = refl
-
-with-room : placed (ascii "......") 1 (ascii "abc") ≡ ascii ".abc.."
-with-room = refl
-
-cut-off : placed (ascii "...") 1 (ascii "abc") ≡ ascii ".ab"
-cut-off = refl

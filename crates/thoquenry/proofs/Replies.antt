@@ -3,17 +3,14 @@
 use Prim.Native.Nat.{ℕ, _+_, _*_, _≤_, _<_, min}
 use mathlib.Core.Path.{_≡_, refl, sym, _∙_, ap}
 use mathlib.Core.Bool.{Bool, true, false, cond}
-use mathlib.Core.List.{List, [], _∷_, _++_}
-use native.Mathlib.Nat.{zero-add}
+use mathlib.Core.List.{List}
 use native.Mathlib.Numerals.{add-one}
 use native.Mathlib.Omega.{arith}
 use borrow.Author.Tests.{lt-ltb, le-ltb}
 use lib.Dec.{ltb}
-use lib.ListN.{length, getD, set, take, drop, length-take}
+use lib.ListN.{length, getD, set, take, length-take}
 use lib.Seq.{take-suc, length-take-le}
 use Rattle.combinators.specs.Padding.{padTo, store-padTo}
-use Rattle.text.specs.Text.{Laid}
-use Rattle.text.specs.Laws.{placed-whole}
 use Rattle.vocabulary.specs.declared.refusal.Refusal.the-variants.{NoRoom, TooWide}
 use Rattle.es_loop.specs.declared.entries.Entry.{Entry}
 use Rattle.loop_writer.specs.Writing.{answer, content}
@@ -38,11 +35,6 @@ no-room needed buffer else h = sym (ap (λ (t : Bool). cond t (unchanged NoRoom 
 pub has-room : (needed : ℕ) (buffer : List ℕ) (else : Reply) → needed ≤ length buffer
     → else ≡ cond (ltb (length buffer) needed) (unchanged NoRoom buffer) else
 has-room needed buffer else h = sym (ap (λ (t : Bool). cond t (unchanged NoRoom buffer) else) (le-ltb (length buffer) needed h))
-
--- numbers laid in from the front, where there is room for them
-pub laid-over : {old numbers : List ℕ} {next : ℕ} {new : List ℕ} → Laid old 0 numbers next new → length numbers ≤ length old → new ≡ over numbers old
-laid-over {old} {numbers} p h =
-    p .content ∙ placed-whole old 0 numbers (omega arith) ∙ ap (λ (n : ℕ). numbers ++ drop n old) (zero-add (length numbers))
 
 -- rows laid in, or 17
 module _ (count : ℕ) (array : List Entry) (long : length array ≡ 201) (buffer : List ℕ) where

@@ -6,7 +6,7 @@ use Prim.Native.Nat.{ℕ}
 use mathlib.Core.Path.{ap, _∙_}
 use mathlib.Core.List.{List, _++_, append-assoc}
 use lib.ListN.{length, length-append}
-use Rattle.pes_writer.specs.Placed.{put-as, put-both}
+use Rattle.buffers.proofs.Laws.{laid-as, laid-then}
 use Rattle.pes_writer.specs.Writing.{headOf, timeFields, trefFields}
 use Rattle.pes_writer.specs.WritingLaws.{data-length, header-length}
 use Rattle.pes_writer.proofs.put_header.Statement.{statement}
@@ -15,11 +15,11 @@ use Rattle.pes_writer.proofs.put_header.Tie as tie
 head-for-requires : tie.Need-head-for-requires
 head-for-requires c κs = search needs
 
-slice-aggregate-put : tie.Need-slice-aggregate-put
-slice-aggregate-put c = search needs
+slice-aggregate-put-whole : tie.Need-slice-aggregate-put-whole
+slice-aggregate-put-whole c = search needs
 
-put-requires : tie.Need-put-requires
-put-requires c κs = search needs
+put-whole-requires : tie.Need-put-whole-requires
+put-whole-requires c κs = search needs
 
 put-times-requires : tie.Need-put-times-requires
 put-times-requires c κs =
@@ -31,8 +31,8 @@ put-times-requires c κs =
         header-length (a .pts) (a .decoding) (a .matching),
         data-length (a .pts) (a .decoding) (a .matching),
         ap length (c .before .before .before .before .before .before .head-for .ensures),
-        c .before .before .before .put .ensures .next-is,
-        c .before .before .before .put .kept .0,
+        c .before .before .before .put-whole .ensures .place,
+        c .before .before .before .put-whole .kept .0,
       ),
     )
 
@@ -46,9 +46,9 @@ put-tref-requires c κs =
         header-length (a .pts) (a .decoding) (a .matching),
         data-length (a .pts) (a .decoding) (a .matching),
         ap length (c .before .before .before .before .before .before .before .before .before .before .head-for .ensures),
-        c .before .before .before .before .before .before .before .put .ensures .next-is,
-        c .before .before .before .before .before .before .before .put .kept .0,
-        c .before .before .before .put-times .ensures .next-is,
+        c .before .before .before .before .before .before .before .put-whole .ensures .place,
+        c .before .before .before .before .before .before .before .put-whole .kept .0,
+        c .before .before .before .put-times .ensures .place,
         c .before .before .before .put-times .kept .0,
       ),
     )
@@ -59,27 +59,12 @@ same-length c = search needs
 returns : tie.Need-returns
 returns c =
     let a = c .before .before .before .before .before .before .before .before .before .before .before .before .before .before .before .args in
-    put-as
+    laid-as
     (ap (λ (l : List ℕ). l ++ timeFields (a .pts) (a .decoding) ++ trefFields (a .decoding) (a .matching)) (c .before .before .before .before .before .before .before .before .before .before .before .before .before .head-for .ensures)
     ∙ append-assoc (headOf (a .pts) (a .decoding) (a .matching)) (timeFields (a .pts) (a .decoding)) (trefFields (a .decoding) (a .matching)))
-    (put-both
-    (omega (
-      arith,
-      c .before .before .before .before .before .before .before .before .before .before .before .before .before .before .before .pre .1 .1,
-      header-length (a .pts) (a .decoding) (a .matching),
-      data-length (a .pts) (a .decoding) (a .matching),
-      ap length (c .before .before .before .before .before .before .before .before .before .before .before .before .before .head-for .ensures),
-      length-append (c .before .before .before .before .before .before .before .before .before .before .before .before .before .head-for .result) (timeFields (a .pts) (a .decoding)),
-    ))
-    (put-both
-    (omega (
-      arith,
-      c .before .before .before .before .before .before .before .before .before .before .before .before .before .before .before .pre .1 .1,
-      header-length (a .pts) (a .decoding) (a .matching),
-      data-length (a .pts) (a .decoding) (a .matching),
-      ap length (c .before .before .before .before .before .before .before .before .before .before .before .before .before .head-for .ensures),
-    ))
-    (c .before .before .before .before .before .before .before .before .before .before .put .ensures)
+    (laid-then
+    (laid-then
+    (c .before .before .before .before .before .before .before .before .before .before .put-whole .ensures)
     (c .before .before .before .before .before .before .put-times .ensures))
     (c .before .before .put-tref .ensures))
 
@@ -88,8 +73,8 @@ put-header-spec =
     tie.close
     (tie.spec
     head-for-requires
-    slice-aggregate-put
-    put-requires
+    slice-aggregate-put-whole
+    put-whole-requires
     put-times-requires
     put-tref-requires
     same-length

@@ -5,7 +5,7 @@ use native.Mathlib.Omega.{arith}
 use mathlib.Core.Path.{ap, ap₂, sym, _∙_}
 use mathlib.Core.List.{_++_}
 use lib.ListN.{length}
-use Rattle.pes_writer.specs.Placed.{put-as, put-both}
+use Rattle.buffers.proofs.Laws.{laid-as, laid-then}
 use Rattle.pes_writer.specs.WritingLaws.{pts-alone, pts-and-dts}
 use Rattle.pes_writer.proofs.put_times.Statement.{statement}
 use Rattle.pes_writer.proofs.put_times.Tie as tie
@@ -13,11 +13,11 @@ use Rattle.pes_writer.proofs.put_times.Tie as tie
 time-field-requires : tie.Need-time-field-requires
 time-field-requires c κs = search needs
 
-slice-aggregate-put : tie.Need-slice-aggregate-put
-slice-aggregate-put c = search needs
+slice-aggregate-put-whole : tie.Need-slice-aggregate-put-whole
+slice-aggregate-put-whole c = search needs
 
-put-requires : tie.Need-put-requires
-put-requires c κs =
+put-whole-requires : tie.Need-put-whole-requires
+put-whole-requires c κs =
     omega (arith, c .before .before .before .before .before .pre .1, ap length (pts-alone (c .before .before .before .before .before .args .pts) (c .before .before .before .before .before .args .decoding) (c .before .before .before .if1 .taken)), ap length (c .before .before .time-field .ensures))
 
 same-length : tie.Need-same-length
@@ -25,34 +25,34 @@ same-length c = search needs
 
 returns : tie.Need-returns
 returns c =
-    put-as (c .before .before .before .before .before .time-field .ensures ∙ sym (pts-alone (c .before .before .before .before .before .before .before .before .args .pts) (c .before .before .before .before .before .before .before .before .args .decoding) (c .before .before .before .before .before .before .if1 .taken))) (c .before .before .put .ensures)
+    laid-as (c .before .before .before .before .before .time-field .ensures ∙ sym (pts-alone (c .before .before .before .before .before .before .before .before .args .pts) (c .before .before .before .before .before .before .before .before .args .decoding) (c .before .before .before .before .before .before .if1 .taken))) (c .before .before .put-whole .ensures)
 
 time-field-requires-2 : tie.Need-time-field-requires-2
 time-field-requires-2 c κs = search needs
 
-slice-aggregate-put-2 : tie.Need-slice-aggregate-put-2
-slice-aggregate-put-2 c = search needs
+slice-aggregate-put-whole-2 : tie.Need-slice-aggregate-put-whole-2
+slice-aggregate-put-whole-2 c = search needs
 
-put-requires-2 : tie.Need-put-requires-2
-put-requires-2 c κs =
+put-whole-requires-2 : tie.Need-put-whole-requires-2
+put-whole-requires-2 c κs =
     omega (arith, c .before .before .before .before .before .pre .1, ap length (pts-and-dts (c .before .before .before .before .before .args .pts) (c .before .before .before .before .before .args .decoding) (c .before .before .before .if1 .left)), ap length (c .before .before .time-field2 .ensures))
 
 time-field-requires-3 : tie.Need-time-field-requires-3
 time-field-requires-3 c κs = search needs
 
-slice-aggregate-put-3 : tie.Need-slice-aggregate-put-3
-slice-aggregate-put-3 c = search needs
+slice-aggregate-put-whole-3 : tie.Need-slice-aggregate-put-whole-3
+slice-aggregate-put-whole-3 c = search needs
 
-put-requires-3 : tie.Need-put-requires-3
-put-requires-3 c κs =
+put-whole-requires-3 : tie.Need-put-whole-requires-3
+put-whole-requires-3 c κs =
     omega (
       arith,
       c .before .before .before .before .before .before .before .before .before .before .before .pre .1,
       ap length (pts-and-dts (c .before .before .before .before .before .before .before .before .before .before .before .args .pts) (c .before .before .before .before .before .before .before .before .before .before .before .args .decoding) (c .before .before .before .before .before .before .before .before .before .if1 .left)),
       ap length (c .before .before .before .before .before .before .before .before .time-field2 .ensures),
       ap length (c .before .before .time-field3 .ensures),
-      c .before .before .before .before .before .put2 .ensures .next-is,
-      c .before .before .before .before .before .put2 .kept .0,
+      c .before .before .before .before .before .put-whole2 .ensures .place,
+      c .before .before .before .before .before .put-whole2 .kept .0,
     )
 
 same-length-2 : tie.Need-same-length-2
@@ -60,34 +60,27 @@ same-length-2 c = search needs
 
 returns-2 : tie.Need-returns-2
 returns-2 c =
-    put-as
+    laid-as
     (ap₂ _++_ (c .before .before .before .before .before .before .before .before .before .before .before .time-field2 .ensures) (c .before .before .before .before .before .time-field3 .ensures)
     ∙ sym (pts-and-dts (c .before .before .before .before .before .before .before .before .before .before .before .before .before .before .args .pts) (c .before .before .before .before .before .before .before .before .before .before .before .before .before .before .args .decoding) (c .before .before .before .before .before .before .before .before .before .before .before .before .if1 .left)))
-    (put-both
-    (omega (
-      arith,
-      c .before .before .before .before .before .before .before .before .before .before .before .before .before .before .pre .1,
-      ap length (pts-and-dts (c .before .before .before .before .before .before .before .before .before .before .before .before .before .before .args .pts) (c .before .before .before .before .before .before .before .before .before .before .before .before .before .before .args .decoding) (c .before .before .before .before .before .before .before .before .before .before .before .before .if1 .left)),
-      ap length (c .before .before .before .before .before .before .before .before .before .before .before .time-field2 .ensures),
-      ap length (c .before .before .before .before .before .time-field3 .ensures),
-    ))
-    (c .before .before .before .before .before .before .before .before .put2 .ensures)
-    (c .before .before .put3 .ensures))
+    (laid-then
+    (c .before .before .before .before .before .before .before .before .put-whole2 .ensures)
+    (c .before .before .put-whole3 .ensures))
 
 pub put-times-spec : {M : Type 1} → statement M
 put-times-spec =
     tie.close
     (tie.spec
     time-field-requires
-    slice-aggregate-put
-    put-requires
+    slice-aggregate-put-whole
+    put-whole-requires
     same-length
     returns
     time-field-requires-2
-    slice-aggregate-put-2
-    put-requires-2
+    slice-aggregate-put-whole-2
+    put-whole-requires-2
     time-field-requires-3
-    slice-aggregate-put-3
-    put-requires-3
+    slice-aggregate-put-whole-3
+    put-whole-requires-3
     same-length-2
     returns-2)

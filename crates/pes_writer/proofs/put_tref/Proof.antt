@@ -7,7 +7,7 @@ use mathlib.Core.Path.{ap, sym, _∙_}
 use mathlib.Core.List.{List, _++_}
 use denote.Ref.{now}
 use lib.ListN.{length}
-use Rattle.pes_writer.specs.Placed.{put-as, put-both, put-nothing}
+use Rattle.buffers.proofs.Laws.{laid-as, laid-then, laid-nothing}
 use Rattle.pes_writer.specs.Writing.{trefHead}
 use Rattle.pes_writer.specs.WritingLaws.{no-tref-fields, tref-fields}
 use Rattle.pes_writer.proofs.put_tref.Statement.{statement}
@@ -15,30 +15,30 @@ use Rattle.pes_writer.proofs.put_tref.Tie as tie
 
 returns : tie.Need-returns
 returns c =
-    put-as (sym (no-tref-fields (c .before .before .args .decoding) (c .before .before .args .matching) (c .if1 .taken))) (put-nothing (c .before .before .args .at) (now (c .before .before .args .out)))
+    laid-as (sym (no-tref-fields (c .before .before .args .decoding) (c .before .before .args .matching) (c .if1 .taken))) (laid-nothing (now (c .before .before .args .out)) (c .before .before .args .at) (c .before .before .args .at) (omega (arith, c .before .before .pre .1)))
 
-slice-aggregate-put : tie.Need-slice-aggregate-put
-slice-aggregate-put c = search needs
+slice-aggregate-put-whole : tie.Need-slice-aggregate-put-whole
+slice-aggregate-put-whole c = search needs
 
-put-requires : tie.Need-put-requires
-put-requires c κs =
+put-whole-requires : tie.Need-put-whole-requires
+put-whole-requires c κs =
     omega (arith, c .before .before .before .before .pre .1, ap length (tref-fields (c .before .before .before .before .args .decoding) (c .before .before .before .before .args .matching) (c .before .before .if1 .left)))
 
 time-field-requires : tie.Need-time-field-requires
 time-field-requires c κs = search needs
 
-slice-aggregate-put-2 : tie.Need-slice-aggregate-put-2
-slice-aggregate-put-2 c = search needs
+slice-aggregate-put-whole-2 : tie.Need-slice-aggregate-put-whole-2
+slice-aggregate-put-whole-2 c = search needs
 
-put-requires-2 : tie.Need-put-requires-2
-put-requires-2 c κs =
+put-whole-requires-2 : tie.Need-put-whole-requires-2
+put-whole-requires-2 c κs =
     omega (
       arith,
       c .before .before .before .before .before .before .before .before .before .before .pre .1,
       ap length (tref-fields (c .before .before .before .before .before .before .before .before .before .before .args .decoding) (c .before .before .before .before .before .before .before .before .before .before .args .matching) (c .before .before .before .before .before .before .before .before .if1 .left)),
       ap length (c .before .before .time-field .ensures),
-      c .before .before .before .before .before .put .ensures .next-is,
-      c .before .before .before .before .before .put .kept .0,
+      c .before .before .before .before .before .put-whole .ensures .place,
+      c .before .before .before .before .before .put-whole .kept .0,
     )
 
 same-length : tie.Need-same-length
@@ -46,28 +46,22 @@ same-length c = search needs
 
 returns-2 : tie.Need-returns-2
 returns-2 c =
-    put-as
+    laid-as
     (ap (λ (l : List ℕ). trefHead ++ l) (c .before .before .before .before .before .time-field .ensures)
     ∙ sym (tref-fields (c .before .before .before .before .before .before .before .before .before .before .before .before .before .args .decoding) (c .before .before .before .before .before .before .before .before .before .before .before .before .before .args .matching) (c .before .before .before .before .before .before .before .before .before .before .before .if1 .left)))
-    (put-both
-    (omega (
-      arith,
-      c .before .before .before .before .before .before .before .before .before .before .before .before .before .pre .1,
-      ap length (tref-fields (c .before .before .before .before .before .before .before .before .before .before .before .before .before .args .decoding) (c .before .before .before .before .before .before .before .before .before .before .before .before .before .args .matching) (c .before .before .before .before .before .before .before .before .before .before .before .if1 .left)),
-      ap length (c .before .before .before .before .before .time-field .ensures),
-    ))
-    (c .before .before .before .before .before .before .before .before .put .ensures)
-    (c .before .before .put2 .ensures))
+    (laid-then
+    (c .before .before .before .before .before .before .before .before .put-whole .ensures)
+    (c .before .before .put-whole2 .ensures))
 
 pub put-tref-spec : {M : Type 1} → statement M
 put-tref-spec =
     tie.close
     (tie.spec
     returns
-    slice-aggregate-put
-    put-requires
+    slice-aggregate-put-whole
+    put-whole-requires
     time-field-requires
-    slice-aggregate-put-2
-    put-requires-2
+    slice-aggregate-put-whole-2
+    put-whole-requires-2
     same-length
     returns-2)

@@ -3,13 +3,12 @@
 use borrow.Author.Needs.{needs}
 use borrow.Author.Tests.{le-leb, lt-leb}
 use native.Mathlib.Omega.{arith}
-use Prim.Native.Nat.{ℕ}
+use Prim.Native.Nat.{_≤_}
 use mathlib.Core.Path.{_≡_, refl, ap, sym, _∙_}
-use mathlib.Core.List.{_++_}
 use denote.Ref.{now}
-use lib.ListN.{length, drop}
+use lib.ListN.{length}
 use Rattle.pes_writer.specs.OwnShape.{Narrow}
-use Rattle.pes_writer.specs.Placed.{placed-first}
+use Rattle.buffers.proofs.Laws.{laid-over}
 use Rattle.pes_writer.specs.Writing.{headerOf}
 use Rattle.pes_writer.specs.WritingLaws.{narrow, header-length}
 use Rattle.pes_writer.specs.declared.Written.the-variants.{Bytes}
@@ -73,17 +72,16 @@ returns-4 : tie.Need-returns-4
 returns-4 c =
     let a = c .before .before .before .before .before .before .before .before .before .before .before .args in
     let put = c .before .before .put-header .ensures in
-    let e : c .before .before .put-header .result ≡ length (headerOf (a .pts) (a .decoding) (a .matching)) = omega (arith, put .next-is) in (
+    let room : length (headerOf (a .pts) (a .decoding) (a .matching)) ≤ length (now (a .out)) =
+    omega (arith, header-length (a .pts) (a .decoding) (a .matching), c .before .before .before .before .before .before .before .data-length .ensures, c .before .before .before .before .before .before .if2 .left) in
+    let e : c .before .before .put-header .result ≡ length (headerOf (a .pts) (a .decoding) (a .matching)) = omega (arith, put .place, room) in (
       simp (
         sym (c .before .before .before .before .before .before .before .before .before .any-too-wide .ensures) ∙ c .before .before .before .before .before .before .before .before .if1 .left,
-        le-leb (length (headerOf (a .pts) (a .decoding) (a .matching))) (length (now (a .out)))
-            (omega (arith, header-length (a .pts) (a .decoding) (a .matching), c .before .before .before .before .before .before .before .data-length .ensures, c .before .before .before .before .before .before .if2 .left)),
+        le-leb (length (headerOf (a .pts) (a .decoding) (a .matching))) (length (now (a .out))) room,
         sym (c .before .before .before .before .before .before2 .ensures) ∙ c .before .before .before .before .if3 .left,
       )
           (ap Bytes e),
-      put .buffer-is
-          ∙ placed-first (headerOf (a .pts) (a .decoding) (a .matching)) (now (a .out))
-          ∙ ap (λ (n : ℕ). headerOf (a .pts) (a .decoding) (a .matching) ++ drop n (now (a .out))) (sym e),
+      laid-over put room,
     )
 
 pub write-spec : {M : Type 1} → statement M

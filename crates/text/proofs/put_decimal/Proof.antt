@@ -4,8 +4,9 @@ use Prim.Native.Nat.{ℕ}
 use mathlib.Core.List.{List}
 use mathlib.Core.Path.{ap, _∙_, subst}
 use borrow.Author.Needs.{needs}
+use Rattle.buffers.specs.Buffers.{Laid}
 use Rattle.io.specs.Digits.{digits}
-use Rattle.text.specs.Text.{Laid, decimal}
+use Rattle.text.specs.Text.{decimal}
 use Rattle.text.specs.Laws.{fewest-width}
 use Rattle.text.proofs.put_decimal.Statement.{statement}
 use Rattle.text.proofs.put_decimal.Tie as tie

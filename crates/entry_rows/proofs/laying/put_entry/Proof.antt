@@ -12,23 +12,23 @@ head-of-requires c κs = search needs
 tail-of-requires : tie.Need-tail-of-requires
 tail-of-requires c κs = search needs
 
-slice-aggregate-put : tie.Need-slice-aggregate-put
-slice-aggregate-put c = search needs
+slice-aggregate-put-u16 : tie.Need-slice-aggregate-put-u16
+slice-aggregate-put-u16 c = search needs
 
-put-requires : tie.Need-put-requires
-put-requires c κs = search needs
+put-u16-requires : tie.Need-put-u16-requires
+put-u16-requires c κs = search needs
 
-slice-aggregate-put-2 : tie.Need-slice-aggregate-put-2
-slice-aggregate-put-2 c = search needs
+slice-aggregate-put-u16-2 : tie.Need-slice-aggregate-put-u16-2
+slice-aggregate-put-u16-2 c = search needs
 
-put-requires-2 : tie.Need-put-requires-2
-put-requires-2 c κs = search needs
+put-u16-requires-2 : tie.Need-put-u16-requires-2
+put-u16-requires-2 c κs = search needs
 
 same-length : tie.Need-same-length
 same-length c = search needs
 
 returns : tie.Need-returns
-returns c = laid-then (laid-as (c .before .before .before .before .before .before .before .before .before .before .before .head-of .ensures) (c .before .before .before .before .before .before .before .put .ensures)) (laid-as (c .before .before .before .before .before .before .before .before .before .before .tail-of .ensures) (c .before .before .put2 .ensures))
+returns c = laid-then (laid-as (c .before .before .before .before .before .before .before .before .before .before .before .head-of .ensures) (c .before .before .before .before .before .before .before .put-u16 .ensures)) (laid-as (c .before .before .before .before .before .before .before .before .before .before .tail-of .ensures) (c .before .before .put-u162 .ensures))
 
 pub put-entry-spec : {M : Type 1} → statement M
 put-entry-spec =
@@ -36,9 +36,9 @@ put-entry-spec =
     (tie.spec
     head-of-requires
     tail-of-requires
-    slice-aggregate-put
-    put-requires
-    slice-aggregate-put-2
-    put-requires-2
+    slice-aggregate-put-u16
+    put-u16-requires
+    slice-aggregate-put-u16-2
+    put-u16-requires-2
     same-length
     returns)

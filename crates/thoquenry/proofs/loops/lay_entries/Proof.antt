@@ -3,7 +3,8 @@
 use Prim.Native.Nat.{_*_, _≤_, _<_, min}
 use mathlib.Core.Path.{_≡_, _∙_}
 use lib.ListN.{length}
-use Rattle.thoquenry.proofs.Replies.{answers, buffers, laid-over, no-room-for-rows, room-for-rows, rows-fit}
+use Rattle.buffers.proofs.Laws.{laid-over}
+use Rattle.thoquenry.proofs.Replies.{answers, buffers, no-room-for-rows, room-for-rows, rows-fit}
 use native.Mathlib.Omega.{arith}
 use borrow.Author.Needs.{needs}
 use Rattle.thoquenry.proofs.loops.lay_entries.Statement.{statement}
