@@ -6,7 +6,7 @@ use std::rc::Rc;
 use thoquenry::raw;
 
 /// Makes so many calls, and answers what the last of them answered.
-type Side = Box<dyn FnMut(usize) -> u64>;
+pub type Side = Box<dyn FnMut(usize) -> u64>;
 
 /// One line of the table.
 pub struct Measure {
@@ -17,6 +17,20 @@ pub struct Measure {
     pub plain: Side,
     /// The plain search from the start of the table for every row.
     pub search: Option<Side>,
+}
+
+impl Measure {
+    /// The library, plain and perhaps the search.
+    pub fn sides(&mut self) -> Vec<&mut Side> {
+        let mut sides = vec![&mut self.library, &mut self.plain];
+        sides.extend(&mut self.search);
+        sides
+    }
+
+    /// How many sides there are.
+    pub fn count(&self) -> usize {
+        2 + usize::from(self.search.is_some())
+    }
 }
 
 /// Hides a value from the optimiser, so that no call is left out and none is made for all.
@@ -228,14 +242,17 @@ fn write_times(name: &str, times: Times) -> Measure {
     }
 }
 
-fn join(count: usize, names: usize) -> Measure {
+/// The room for a summary that a call asks for.
+const SUMMARY: usize = 3;
+
+fn join(count: usize, names: usize, summary: usize) -> Measure {
     let layers = inputs::layers(count, names);
     let target = count as u64 - 1;
     let rows = Rc::new(inputs::rows(count, names));
     let given = rows.clone();
     let mut numbers = vec![0_u64; 512];
     let mut lags = vec![0_i64; 512];
-    let mut summary = [0_u64; 3];
+    let mut summary = vec![0_u64; summary];
     let library = move |calls| {
         repeat(calls, || {
             let (layers, rows) = hide((&layers, &*given));
@@ -301,7 +318,7 @@ fn join(count: usize, names: usize) -> Measure {
     }
 }
 
-fn import(count: usize) -> Measure {
+fn import(count: usize, summary: usize) -> Measure {
     let entries = &inputs::hierarchies()[..count];
     let bytes: Rc<[u8]> = inputs::loop_of(entries).into();
     let target = count as u64 - 1;
@@ -309,7 +326,7 @@ fn import(count: usize) -> Measure {
     let (given, given_rows) = (bytes.clone(), rows.clone());
     let mut numbers = vec![0_u64; 512];
     let mut lags = vec![0_i64; 512];
-    let mut summary = [0_u64; 3];
+    let mut summary = vec![0_u64; summary];
     let library = move |calls| {
         repeat(calls, || {
             let (bytes, rows) = hide((&given[..], &*given_rows));
@@ -389,10 +406,20 @@ pub fn all() -> Vec<Measure> {
         read_times("PTS, DTS and TREF", all_three),
         write_times("PTS alone", alone),
         write_times("PTS, DTS and TREF", all_three),
-        join(2, 1),
-        join(8, 1),
-        join(32, 1),
-        join(32, 2),
-        import(32),
+        join(2, 1, SUMMARY),
+        join(8, 1, SUMMARY),
+        join(32, 1, SUMMARY),
+        join(32, 2, SUMMARY),
+        import(32, SUMMARY),
     ]
+}
+
+/// What is measured for its stack alone: calls that the library refuses after all its work, for want of room for the summary, which plain does
+/// not ask for.
+pub fn without_summary() -> Vec<Measure> {
+    let mut measures = vec![join(32, 1, 0), import(32, 0)];
+    for measure in &mut measures {
+        measure.name += ", no room for the summary";
+    }
+    measures
 }

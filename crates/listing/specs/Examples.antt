@@ -6,18 +6,25 @@ use lib.ListN.{replicate}
 use Rattle.sets.specs.Sets.{size}
 use Rattle.text.specs.Text.{ascii, decimal, decimalWidth, texts}
 use Rattle.vocabulary.specs.declared.refusal.Refusal.the-variants.{LoopTooLong, WrongLength}
+use Rattle.vocabulary.specs.declared.stream_types.Reading.the-variants.{Edition2009, Edition2015}
 use Rattle.es_loop.specs.Examples.{loopA}
 use Rattle.loop_layers.specs.declared.LayerTable.{LayerTable}
 use Rattle.listing.specs.Lines.{members, layerLine, lineAt, layersText, acceptedText, refusedText, loopText}
 
 -- loop A, from its bytes
-loop-a : loopText loopA
+loop-a : loopText Edition2015 loopA
     ≡ ascii "accepted 3\nlayer 0 pid 256 type 27 channel 0 closure 0\nlayer 1 pid 257 type 31 channel 1 closure 0 1\nlayer 2 pid 258 type 40 channel 2 closure 0 2\n"
 unfolding loopText size acceptedText layersText lineAt layerLine members texts decimal decimalWidth
 loop-a = refl
 
+-- the 2009 reading does not know its third stream, so that this is no layer
+loop-a-in-2009 : loopText Edition2009 loopA
+    ≡ ascii "accepted 2\nlayer 0 pid 256 type 27 channel 0 closure 0\nlayer 1 pid 257 type 31 channel 1 closure 0 1\n"
+unfolding loopText size acceptedText layersText lineAt layerLine members texts decimal decimalWidth
+loop-a-in-2009 = refl
+
 -- the empty loop
-no-layer : loopText [] ≡ ascii "accepted 0\n"
+no-layer : loopText Edition2015 [] ≡ ascii "accepted 0\n"
 unfolding loopText size acceptedText layersText lineAt texts decimal decimalWidth
 no-layer = refl
 

@@ -23,7 +23,7 @@ use Rattle.es_loop.specs.Reading.{loopRead}
 use Rattle.loop_layers.specs.declared.LayerTable.{LayerTable}
 use Rattle.loop_layers.specs.Closures.{entriesRead}
 use Rattle.loop_layers.specs.Layers.{tableOf}
-use Rattle.vocabulary.specs.declared.stream_types.Reading.the-variants.{Edition2015}
+use Rattle.vocabulary.specs.declared.stream_types.Reading.{Reading}
 use Rattle.listing.specs.Lines.{labelled, member, members, closureText, layerLine, lineAt, layersText, acceptedText, refusedText, readText, loopText}
 
 -- an index of a closure
@@ -90,14 +90,15 @@ pub refused-length : (refusal : Refusal) → length (refusedText refusal) ≤ 93
 unfolding refusedText
 refused-length refusal = simp length-append (omega (arith, decimal-length (numberOf refusal), decimal-length (placeOf refusal)))
 
-pub loop-length : (bytes : List ℕ) → length (loopText bytes) ≤ 93406
+pub loop-length : (reading : Reading) (bytes : List ℕ) → length (loopText reading bytes) ≤ 93406
 unfolding loopText
-loop-length bytes = let read = loopRead Edition2015 bytes in go (read .outcome) (entriesRead read)
+loop-length reading bytes = let read = loopRead reading bytes in go (read .outcome) (entriesRead read)
   where
     go : (outcome : Outcome) (entries : List Entry) → length (readText outcome entries) ≤ 93406
     go Accepted entries = accepted-length (tableOf entries)
     go (RefusedWith refusal) entries = refused-length refusal
 
 -- THE PROGRAM'S BUFFER: of 93,406 bytes, what was laid in from the front is the whole text, whatever the loop.
-pub whole-text : (bytes old : List ℕ) (next : ℕ) (new : List ℕ) → 93406 ≤ length old → Laid old 0 (loopText bytes) next new → take next new ≡ loopText bytes
-whole-text bytes old next new room laid = shown-whole old (loopText bytes) next new laid (omega (arith, loop-length bytes))
+pub whole-text : (reading : Reading) (bytes old : List ℕ) (next : ℕ) (new : List ℕ)
+    → 93406 ≤ length old → Laid old 0 (loopText reading bytes) next new → take next new ≡ loopText reading bytes
+whole-text reading bytes old next new room laid = shown-whole old (loopText reading bytes) next new laid (omega (arith, loop-length reading bytes))

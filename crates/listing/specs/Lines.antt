@@ -12,7 +12,7 @@ use Rattle.vocabulary.specs.declared.HierarchyChannel.{HierarchyChannel}
 use Rattle.vocabulary.specs.declared.LayerIndex.{LayerIndex}
 use Rattle.vocabulary.specs.declared.refusal.Refusal.{Refusal}
 use Rattle.vocabulary.specs.Refusals.{numberOf, placeOf}
-use Rattle.vocabulary.specs.declared.stream_types.Reading.the-variants.{Edition2015}
+use Rattle.vocabulary.specs.declared.stream_types.Reading.{Reading}
 use Rattle.es_loop.specs.declared.entries.Entry.{Entry}
 use Rattle.es_loop.specs.declared.reader.LoopRead.{LoopRead}
 use Rattle.es_loop.specs.declared.reader.Outcome.{Outcome}
@@ -74,7 +74,7 @@ acceptedText table = labelled (ascii "accepted ") (size (table .layers .present)
 unfoldable pub refusedText : Refusal → List ℕ
 refusedText refusal = labelled (ascii "refused ") (numberOf refusal) ++ labelled (ascii " entry ") (placeOf refusal) ++ ascii "\n"
 
--- THE WHOLE TEXT for a loop: 'reads a loop on standard input under the 2015 reading'
+-- THE WHOLE TEXT for a loop under a reading; the program `layers` asks for 'the 2015 reading' where its caller names no other
 abbrev pub readText : Outcome → List Entry → List ℕ
 readText Accepted entries = acceptedText (tableOf entries)
 readText (RefusedWith refusal) entries = refusedText refusal
@@ -82,5 +82,5 @@ readText (RefusedWith refusal) entries = refusedText refusal
 abbrev pub answerText : LoopRead → List ℕ
 answerText read = readText (read .outcome) (entriesRead read)
 
-unfoldable pub loopText : List ℕ → List ℕ
-loopText bytes = answerText (loopRead Edition2015 bytes)
+unfoldable pub loopText : Reading → List ℕ → List ℕ
+loopText reading bytes = answerText (loopRead reading bytes)

@@ -129,11 +129,11 @@ pub fn put_refused(out: &mut [u8], at: usize, refusal: Refusal) -> usize
     text::put(out, place, b"\n")
 }
 
-// Lays all that the program prints for a loop of these bytes into `out` from place `at` on, and answers the place after it.
-pub fn put_loop(out: &mut [u8], at: usize, bytes: &[u8]) -> usize
-    ensures { λ r. ⌜ Laid (now (out .entry)) at (loopText (now (bytes .entry))) r (now (out .exit)) ⌝ }
+// Lays all that the program prints for a loop of these bytes under a reading into `out` from place `at` on, and answers the place after it.
+pub fn put_loop(out: &mut [u8], at: usize, reading: Reading, bytes: &[u8]) -> usize
+    ensures { λ r. ⌜ Laid (now (out .entry)) at (loopText reading (now (bytes .entry))) r (now (out .exit)) ⌝ }
 {
-    let read = es_loop::read_loop(Reading::Edition2015, bytes);
+    let read = es_loop::read_loop(reading, bytes);
     let outcome = read.outcome;
     let entries = read.entries;
     match outcome {
