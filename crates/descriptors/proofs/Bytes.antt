@@ -7,7 +7,7 @@ use native.Mathlib.Omega.{arith}
 use lib.Dec.{eqb}
 use lib.ListN.{getD}
 use Rattle.syntax.specs.Table.{AreBytes, readTable}
-use Rattle.syntax.specs.Equations.{Each, each}
+use Rattle.syntax.proofs.Equations.{Each, each}
 use Rattle.vocabulary.specs.declared.stream_types.Reading.{Reading}
 use Rattle.vocabulary.specs.declared.stream_types.Reading.the-variants.{Edition2009, Edition2015}
 use Rattle.descriptors.specs.declared.records.HierarchyRecord.{HierarchyRecord}

@@ -10,8 +10,8 @@ use lib.ListN.{length, getD, take, drop, length-drop}
 use lib.Seq.{drop-drop}
 use Rattle.framing.specs.Pieces.{cut, cut-broken, cut-piece, broken, whole}
 use Rattle.syntax.specs.Table.{AreBytes, readTable}
-use Rattle.syntax.specs.Laws.{read-take}
-use Rattle.syntax.specs.Number.{drop-bytes}
+use Rattle.syntax.proofs.Laws.{read-take}
+use Rattle.syntax.proofs.Number.{drop-bytes}
 use Rattle.vocabulary.specs.declared.stream_types.Reading.{Reading}
 use Rattle.vocabulary.specs.declared.stream_types.Reading.the-variants.{Edition2009, Edition2015}
 use Rattle.descriptors.specs.declared.looking.Seen.{Seen}

@@ -7,8 +7,8 @@ use mathlib.Core.List.{List, [], _∷_}
 use native.Mathlib.Omega.{arith}
 use borrow.Author.Tests.{not-false, lt-ltb, le-ltb}
 use Rattle.syntax.specs.Table.{Table, fits, Fit}
-use Rattle.syntax.specs.Laws.{fits-fit}
-use Rattle.syntax.specs.Equations.{Bounds, bounds}
+use Rattle.syntax.proofs.Laws.{fits-fit}
+use Rattle.syntax.proofs.Equations.{Bounds, bounds}
 use Rattle.descriptors.specs.Tables.{embeddedLayer}
 use Rattle.entry_rows.specs.Rows.{fieldsIn, tooWideFor, layerTooWide}
 

@@ -14,8 +14,8 @@ use Rattle.combinators.specs.Bools.{both-right, neither-left, neither-right, ei
 use Rattle.combinators.specs.Lists.{any}
 use Rattle.combinators.specs.Padding.{padTo, store-padTo}
 use Rattle.syntax.specs.Table.{Table, fits}
-use Rattle.syntax.specs.Laws.{fits-fit}
-use Rattle.syntax.specs.Equations.{bounds}
+use Rattle.syntax.proofs.Laws.{fits-fit}
+use Rattle.syntax.proofs.Equations.{bounds}
 use Rattle.vocabulary.specs.declared.stream_types.Reading.the-variants.{Edition2015}
 use Rattle.descriptors.specs.Tables.{hierarchyDescriptor, extensionHead}
 use Rattle.es_loop.specs.Entries.{blankEntry}

@@ -10,8 +10,8 @@ use lib.Dec.{eqb}
 use lib.ListN.{length, getD, take, drop, replicate, length-map, length-take, length-append, length-replicate, take-append-drop}
 use lib.Seq.{take-at}
 use Rattle.combinators.specs.Padding.{padTo, length-padTo}
-use Rattle.syntax.specs.Laws.{fits-fit}
-use Rattle.syntax.specs.Equations.{Bounds, bounds}
+use Rattle.syntax.proofs.Laws.{fits-fit}
+use Rattle.syntax.proofs.Equations.{Bounds, bounds}
 use Rattle.vocabulary.specs.declared.LayerIndex.{LayerIndex}
 use Rattle.vocabulary.specs.declared.stream_types.Reading.the-variants.{Edition2015}
 use Rattle.descriptors.specs.declared.records.HierarchyRecord.{HierarchyRecord}

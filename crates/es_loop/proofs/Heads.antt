@@ -7,8 +7,8 @@ use native.Mathlib.Omega.{arith}
 use lib.ListN.{length, getD, take, drop}
 use Rattle.framing.specs.Pieces.{whole}
 use Rattle.syntax.specs.Table.{AreBytes, readTable}
-use Rattle.syntax.specs.Laws.{read-take}
-use Rattle.syntax.specs.Equations.{each}
+use Rattle.syntax.proofs.Laws.{read-take}
+use Rattle.syntax.proofs.Equations.{each}
 use Rattle.vocabulary.specs.declared.stream_types.Reading.{Reading}
 use Rattle.es_loop.specs.declared.entries.Stream.{Stream}
 use Rattle.es_loop.specs.Entries.{entryHead, esInfoLength, seenIn, streamOf}

@@ -16,7 +16,7 @@ use Rattle.combinators.specs.Lists.{Nth, here, there, nth-inside, nth-getD, get
 use Rattle.combinators.specs.Lowest.{Lowest, lowestNumber, earliestPlace, lowest-is}
 use Rattle.combinators.specs.Padding.{padTo}
 use Rattle.framing.specs.Pieces.{Item, whole, broken, Cuts, nothing-left, does-not-fit as cut-short, piece, cut, cut-cuts, cuts-unique}
-use Rattle.syntax.specs.Laws.{read-before}
+use Rattle.syntax.proofs.Laws.{read-before}
 use Rattle.vocabulary.specs.declared.LayerIndex.{LayerIndex}
 use Rattle.vocabulary.specs.declared.stream_types.Reading.{Reading}
 use Rattle.vocabulary.specs.declared.refusal.Refusal.the-variants.{LoopTooLong}

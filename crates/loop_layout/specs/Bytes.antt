@@ -5,7 +5,7 @@ use mathlib.Core.Path.{_≡_}
 use mathlib.Core.List.{[], _∷_}
 use native.Mathlib.Omega.{arith}
 use Rattle.syntax.specs.Table.{writeTable, Fit}
-use Rattle.syntax.specs.Equations.{each, bounds}
+use Rattle.syntax.proofs.Equations.{each, bounds}
 use Rattle.vocabulary.specs.declared.LayerIndex.{LayerIndex}
 use Rattle.vocabulary.specs.declared.stream_types.Reading.the-variants.{Edition2015}
 use Rattle.descriptors.specs.declared.records.HierarchyRecord.{HierarchyRecord}

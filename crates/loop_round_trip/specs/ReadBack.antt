@@ -14,7 +14,7 @@ use Rattle.combinators.specs.Lists.{Nth, here, there, any, gather}
 use Rattle.combinators.specs.Padding.{padTo}
 use Rattle.framing.specs.Pieces.{Item, whole, cut, Cuts, nothing-left, piece, cuts-unique}
 use Rattle.syntax.specs.Table.{readTable, writeTable, Fit, Sound}
-use Rattle.syntax.specs.Laws.{read-before, read-write, length-written}
+use Rattle.syntax.proofs.Laws.{read-before, read-write, length-written}
 use Rattle.vocabulary.specs.declared.LayerIndex.{LayerIndex}
 use Rattle.vocabulary.specs.declared.stream_types.Reading.the-variants.{Edition2015}
 use Rattle.vocabulary.specs.StreamTypes.{known}

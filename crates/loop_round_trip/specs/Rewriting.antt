@@ -18,9 +18,9 @@ use Rattle.combinators.specs.Lowest.{lowestNumber, earliestPlace, lowest-is}
 use Rattle.combinators.specs.Padding.{padTo, length-padTo}
 use Rattle.framing.specs.Pieces.{Item, whole, broken, cut, Cuts, nothing-left, does-not-fit, piece, cut-cuts}
 use Rattle.syntax.specs.Table.{Table, AreBytes, number, bytes, readTable, writeTable, fixedHold, Sound}
-use Rattle.syntax.specs.Laws.{write-read, read-fits, fit-fits}
-use Rattle.syntax.specs.Number.{drop-bytes}
-use Rattle.syntax.specs.Equations.{bounds}
+use Rattle.syntax.proofs.Laws.{write-read, read-fits, fit-fits}
+use Rattle.syntax.proofs.Number.{drop-bytes}
+use Rattle.syntax.proofs.Equations.{bounds}
 use Rattle.vocabulary.specs.declared.LayerIndex.{LayerIndex}
 use Rattle.vocabulary.specs.declared.stream_types.Reading.the-variants.{Edition2015}
 use Rattle.vocabulary.specs.StreamTypes.{known}

@@ -10,8 +10,8 @@ use lib.Dec.{ltb}
 use lib.ListN.{length, take}
 use Rattle.combinators.specs.Lists.{any}
 use Rattle.syntax.specs.Table.{fits}
-use Rattle.syntax.specs.Laws.{fits-fit}
-use Rattle.syntax.specs.Equations.{bounds}
+use Rattle.syntax.proofs.Laws.{fits-fit}
+use Rattle.syntax.proofs.Equations.{bounds}
 use Rattle.vocabulary.specs.declared.LayerIndex.{LayerIndex}
 use Rattle.vocabulary.specs.declared.stream_types.Reading.the-variants.{Edition2015}
 use Rattle.descriptors.specs.declared.records.HierarchyRecord.{HierarchyRecord}

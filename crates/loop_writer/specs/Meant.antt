@@ -13,7 +13,7 @@ use Rattle.combinators.specs.Bools.{both-left, both-right, either-left, either-
 use Rattle.combinators.specs.Lists.{Nth, here, nth-inside, nth-getD, getD-nth, getD-map, any, any-true, any-false, any-which, handled}
 use Rattle.combinators.specs.Lowest.{Lowest, lowestNumber, earliestPlace, lowest-number, earliest-place, lowest-is}
 use Rattle.syntax.specs.Table.{fits}
-use Rattle.syntax.specs.Laws.{fits-fit, fit-fits}
+use Rattle.syntax.proofs.Laws.{fits-fit, fit-fits}
 use Rattle.vocabulary.specs.declared.stream_types.Reading.the-variants.{Edition2015}
 use Rattle.vocabulary.specs.StreamTypes.{known}
 use Rattle.judging.specs.Judging.{isLayer, indexOf, sameIndex, typeNotAllowed, wrongFlags, wrongEmbedded, tooManyEmbedded}

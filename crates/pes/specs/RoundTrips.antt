@@ -11,8 +11,8 @@ use lib.ListN.{length, take, drop, getD, length-append}
 use lib.Seq.{take-at, drop-at}
 use Rattle.syntax.specs.Table as Table
 use Rattle.syntax.specs.Table.{Table, number, valuesOf, fixedHold, Written}
-use Rattle.syntax.specs.Number.{number-append}
-use Rattle.syntax.specs.Laws.{written-unique}
+use Rattle.syntax.proofs.Number.{number-append}
+use Rattle.syntax.proofs.Laws.{written-unique}
 use Rattle.syntax.specs.Named.{named}
 use Rattle.clock.specs.Clock.{ticks, isBefore}
 use Rattle.vocabulary.specs.declared.refusal.Refusal.the-variants.{NoRoom, PtsBeforeDts, TooWide}

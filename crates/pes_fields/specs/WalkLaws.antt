@@ -11,7 +11,7 @@ use lib.Dec.{eqb, leb}
 use lib.ListN.{length, take, drop, getD, take-append-drop}
 use lib.Seq.{length-take-le}
 use Rattle.syntax.specs.Table.{Table, fixedHold}
-use Rattle.syntax.specs.Number.{number-take}
+use Rattle.syntax.proofs.Number.{number-take}
 use Rattle.syntax.specs.Named.{named}
 use Rattle.stamps.specs.Tables.{tref}
 use Rattle.stamps.specs.Stamps.{dtsFlag, timeOf, stampOf}

@@ -11,7 +11,7 @@ use lib.Dec.{eqb, leb, lit<}
 use lib.ListN.{length}
 use Rattle.buffers.specs.Buffers.{over}
 use Rattle.syntax.specs.Table.{writeTable, Fit, none, at-value, at-reserved, at-fixed, Written}
-use Rattle.syntax.specs.Laws.{written, written-unique}
+use Rattle.syntax.proofs.Laws.{written, written-unique}
 use Rattle.clock.specs.Clock.{ticks, isBefore}
 use Rattle.vocabulary.specs.declared.refusal.Refusal.the-variants.{NoRoom, PtsBeforeDts, TooWide}
 use Rattle.stamps.specs.Tables as Times

@@ -8,8 +8,8 @@ use mathlib.Core.List.{List, [], _∷_, _++_}
 use native.Mathlib.Omega.{arith}
 use lib.Dec.{eqb}
 use lib.ListN.{length, getD}
-use Rattle.syntax.specs.Equations.{fixed-at, each}
-use Rattle.syntax.specs.Number.{number-append}
+use Rattle.syntax.proofs.Equations.{fixed-at, each}
+use Rattle.syntax.proofs.Number.{number-append}
 use Rattle.syntax.specs.Table.{Table, AreBytes, number, fixedHold, writeTable}
 use Rattle.stamps.specs.Tables.{tref, prefixed}
 use Rattle.stamps.specs.Stamps.{timeOf, stampOf, dtsFlag, timeField}

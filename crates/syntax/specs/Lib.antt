@@ -1,7 +1,3 @@
--- What the crate says of syntax tables: the definitions, and their laws.
+-- What the crate says of syntax tables. The laws are in proofs/.
 pub mod Table
 pub mod Named
-pub mod Number
-pub mod Laws
-pub mod Parts
-pub mod Equations

@@ -1,5 +1,5 @@
 -- A syntax table of the standard: its fields in order, each with its number of bits. What a reader answers for the bytes of a
--- table, and which bytes a writer makes of values, are both read off the one list. Laws.antt joins the two.
+-- table, and which bytes a writer makes of values, are both read off the one list. proofs/Laws.antt joins the two.
 -- In order: tables; bytes as a number; reading; writing; which values and which tables can be written.
 -- Assumes nothing.
 use Prim.Native.Nat.{ℕ, zero, suc, _+_, _-_, _*_, _/_, _%_, _^_, _<_}

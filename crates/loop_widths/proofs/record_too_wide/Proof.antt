@@ -5,8 +5,8 @@ use native.Mathlib.Omega.{arith}
 use mathlib.Core.Bool.{true, not}
 use Rattle.combinators.specs.Lists.{any}
 use Rattle.syntax.specs.Table.{fits}
-use Rattle.syntax.specs.Laws.{fits-fit}
-use Rattle.syntax.specs.Equations.{bounds}
+use Rattle.syntax.proofs.Laws.{fits-fit}
+use Rattle.syntax.proofs.Equations.{bounds}
 use Rattle.descriptors.specs.declared.records.Record.{Record}
 use Rattle.descriptors.specs.Tables.{extensionHead}
 use Rattle.loop_layout.specs.Layout.{tooWideIn, extensionFields, recordTables}

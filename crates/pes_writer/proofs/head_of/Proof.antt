@@ -2,7 +2,7 @@
 -- Assumes nothing.
 use borrow.Author.Needs.{needs}
 use native.Mathlib.Omega.{arith}
-use Rattle.syntax.specs.Equations.{each}
+use Rattle.syntax.proofs.Equations.{each}
 use Rattle.pes_writer.proofs.head_of.Statement.{statement}
 use Rattle.pes_writer.proofs.head_of.Tie as tie
 

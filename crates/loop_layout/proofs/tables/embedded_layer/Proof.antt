@@ -1,7 +1,7 @@
 -- `tables::embedded_layer` meets its contract: the byte of an index that fits.
 -- Assumes nothing.
 use native.Mathlib.Omega.{arith}
-use Rattle.syntax.specs.Equations.{bounds}
+use Rattle.syntax.proofs.Equations.{bounds}
 use Rattle.loop_layout.specs.Bytes.{layer-byte}
 use Rattle.loop_layout.proofs.tables.embedded_layer.Statement.{statement}
 use Rattle.loop_layout.proofs.tables.embedded_layer.Tie as tie

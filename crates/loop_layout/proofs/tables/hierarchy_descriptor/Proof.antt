@@ -1,7 +1,7 @@
 -- `tables::hierarchy_descriptor` meets its contract: the bytes of values that fit.
 -- Assumes nothing.
 use native.Mathlib.Omega.{arith}
-use Rattle.syntax.specs.Equations.{bounds}
+use Rattle.syntax.proofs.Equations.{bounds}
 use Rattle.loop_layout.specs.Bytes.{hierarchy-bytes}
 use borrow.Author.Needs.{needs}
 use Rattle.loop_layout.proofs.tables.hierarchy_descriptor.Statement.{statement}

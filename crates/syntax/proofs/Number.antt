@@ -1,10 +1,10 @@
 -- Bytes as one number, and a number as bytes: the laws of `number` and `bytesOf`, for any count of bytes.
--- In order: powers of 256; lists of bytes; a number by its first byte; of a part of a list; in two parts; its bound; the bytes of a number; the two joined both ways.
+-- In order: powers of 256; lists of bytes; a number by its first byte; of a part of a list; its bound; the bytes of a number; the two joined both ways.
 -- Assumes nothing.
-use Prim.Native.Nat.{ℕ, zero, suc, _+_, _*_, _/_, _%_, _^_, _≤_, _<_, suc-le-suc}
+use Prim.Native.Nat.{ℕ, zero, suc, _+_, _*_, _/_, _%_, _^_, _≤_, _<_}
 use mathlib.Core.Path.{_≡_, refl, sym, ap, ap₂, _∙_}
 use mathlib.Core.List.{List, [], _∷_, _++_}
-use native.Mathlib.Nat.{add-zero, zero-add, suc-add, add-suc, zero-mul, mul-assoc, mul-add-div-right, mul-add-mod-self-right, mul-comm, mod-lt, mod-one, mod-eq-of-lt, one-le-pow, pow-succ', div-div-eq-div-mul, not-suc-le-zero, le-of-suc-le-suc, zero-lt-suc}
+use native.Mathlib.Nat.{mul-assoc, mul-add-div-right, mul-add-mod-self-right, mod-lt, mod-one, mod-eq-of-lt, one-le-pow, pow-succ', not-suc-le-zero, le-of-suc-le-suc}
 use native.Mathlib.Omega.{arith}
 use lib.Arith.{digits-lt, digits-div, mod-mul}
 use lib.Dec.{lit<}
@@ -36,25 +36,8 @@ digit-high high n m {c} positive =
 
 -- ---- lists of bytes
 
--- it is enough to look within the list
-pub within-bytes : (l : List ℕ) → ((i : ℕ) → i < length l → getD l i 0 < 256) → AreBytes l
-within-bytes [] b i = lit< tt
-within-bytes (x ∷ l) b zero = b 0 (zero-lt-suc (length l))
-within-bytes (x ∷ l) b (suc i) = within-bytes l (λ j h. b (suc j) (suc-le-suc h)) i
-
 pub drop-bytes : (i : ℕ) (l : List ℕ) → AreBytes l → AreBytes (drop i l)
 drop-bytes i l b j = rw getD-drop (b (i + j))
-
-pub take-bytes : (k : ℕ) (l : List ℕ) → AreBytes l → AreBytes (take k l)
-take-bytes zero l b i = lit< tt
-take-bytes (suc k) [] b i = lit< tt
-take-bytes (suc k) (x ∷ l) b zero = b 0
-take-bytes (suc k) (x ∷ l) b (suc i) = take-bytes k l (λ j. b (suc j)) i
-
-pub append-bytes : (l m : List ℕ) → AreBytes l → AreBytes m → AreBytes (l ++ m)
-append-bytes [] m b b′ i = b′ i
-append-bytes (x ∷ l) m b b′ zero = b 0
-append-bytes (x ∷ l) m b b′ (suc i) = append-bytes l m (λ j. b (suc j)) b′ i
 
 -- ---- a number by its first byte
 
@@ -65,16 +48,7 @@ numberFrom-cons i (suc k) x l = ap (λ (n : ℕ). getD l i 0 * 256 ^ k + n) (num
 pub number-cons : (k x : ℕ) (l : List ℕ) → number (suc k) (x ∷ l) ≡ x * 256 ^ k + number k l
 number-cons k x l = ap (λ (n : ℕ). x * 256 ^ k + n) (numberFrom-cons 0 k x l)
 
-pub numberFrom-nil : (i k : ℕ) → numberFrom i k [] ≡ 0
-numberFrom-nil i zero = refl
-numberFrom-nil i (suc k) = omega (arith, numberFrom-nil (suc i) k)
-
 -- ---- a number of a part of a list
-
-pub numberFrom-drop : (i k : ℕ) (l : List ℕ) → numberFrom i k l ≡ number k (drop i l)
-numberFrom-drop zero k l = refl
-numberFrom-drop (suc i) k [] = numberFrom-nil (suc i) k ∙ sym (numberFrom-nil 0 k)
-numberFrom-drop (suc i) k (x ∷ l) = numberFrom-cons i k x l ∙ numberFrom-drop i k l
 
 pub number-take : (k : ℕ) (l : List ℕ) → number k (take k l) ≡ number k l
 number-take zero l = refl
@@ -89,23 +63,6 @@ number-append (suc k) (x ∷ l) rest h =
     number-cons k x (l ++ rest)
     ∙ ap (λ (n : ℕ). x * 256 ^ k + n) (number-append k l rest (le-of-suc-le-suc h))
     ∙ sym (number-cons k x l)
-
--- ---- a number in two parts: j bytes above k bytes
-
-numberFrom-split : (i j k : ℕ) (l : List ℕ) → numberFrom i (j + k) l ≡ numberFrom i j l * 256 ^ k + numberFrom (i + j) k l
-numberFrom-split i zero k l =
-    ap (λ (n : ℕ). numberFrom i n l) (zero-add k) ∙ sym (zero-add (numberFrom i k l))
-    ∙ ap₂ (λ (z n : ℕ). z + numberFrom n k l) (sym (zero-mul (256 ^ k))) (sym (add-zero i))
-numberFrom-split i (suc j) k l =
-    ap (λ (n : ℕ). numberFrom i n l) (suc-add j k)
-    ∙ ap₂ (λ (p n : ℕ). getD l i 0 * p + n) (pow-add 256 j k) (numberFrom-split (suc i) j k l)
-    ∙ ap (λ (n : ℕ). getD l i 0 * (256 ^ j * 256 ^ k) + (numberFrom (suc i) j l * 256 ^ k + numberFrom n k l)) (suc-add i j ∙ sym (add-suc i j))
-    ∙ omega arith
-
-pub number-split : (j k : ℕ) (l : List ℕ) → number (j + k) l ≡ number j l * 256 ^ k + number k (drop j l)
-number-split j k l =
-    numberFrom-split 0 j k l
-    ∙ ap (λ (n : ℕ). number j l * 256 ^ k + n) (ap (λ (i : ℕ). numberFrom i k l) (zero-add j) ∙ numberFrom-drop j k l)
 
 -- ---- k bytes make a number below 256 to the k
 
@@ -135,19 +92,6 @@ bytesOf-high (suc k) high n =
     (ap₂ (λ (d : ℕ) (ds : List ℕ). d ∷ ds)
     (digit-high high n 256 (byte-power-positive k))
     (ap (λ (x : ℕ). bytesOf k (x + n)) (sym (mul-assoc high 256 (256 ^ k))) ∙ bytesOf-high k (high * 256) n))
-
--- the bytes of a number in two parts, j bytes above k bytes
-pub bytesOf-split : (j k high : ℕ) {low : ℕ} → low < 256 ^ k → bytesOf (j + k) (high * 256 ^ k + low) ≡ bytesOf j high ++ bytesOf k low
-bytesOf-split zero k high {low} h = ap (λ (n : ℕ). bytesOf n (high * 256 ^ k + low)) (zero-add k) ∙ bytesOf-high k high low
-bytesOf-split (suc j) k high {low} h =
-    ap (λ (n : ℕ). bytesOf n (high * 256 ^ k + low)) (suc-add j k)
-    ∙ ap₂ (λ (d : ℕ) (ds : List ℕ). d % 256 ∷ ds) first (bytesOf-split j k high h)
-  where
-    first : (high * 256 ^ k + low) / 256 ^ (j + k) ≡ high / 256 ^ j
-    first =
-        ap (λ (p : ℕ). (high * 256 ^ k + low) / p) (pow-add 256 j k ∙ mul-comm (256 ^ j) (256 ^ k))
-        ∙ sym (div-div-eq-div-mul (high * 256 ^ k + low) (256 ^ k) (256 ^ j))
-        ∙ ap (λ (x : ℕ). x / 256 ^ j) (digits-div high h)
 
 -- ---- both ways
 

@@ -1,6 +1,6 @@
 -- The laws that join reading and writing, once for every table.
 -- In order: one field above others; what stands above a table's bits; what reading means; which number writing makes; the same of
--- bytes (`read-write`, `fixed-written`, `reserved-written`, `write-read`, `written`).
+-- bytes (`read-write`, `write-read`, `written`).
 -- Assumes nothing.
 use Prim.Native.Nat.{ℕ, _+_, _-_, _*_, _/_, _%_, _^_, _≤_, _<_}
 use mathlib.Core.Path.{_≡_, refl, sym, ap, ap₂, _∙_}
@@ -15,7 +15,7 @@ use lib.Pow.{pow-add, pow-pos, high, mod-pow-add, ones-lt}
 use lib.Seq.{take-all}
 use Rattle.syntax.specs.Table.{Field, value, reserved, fixed, Table, width, bits, bytes, AreBytes, number, bytesOf, valuesOf, readTable, fixedHold, reservedOnes, joined, writeTable}
 use Rattle.syntax.specs.Table.{Laid, end, value-then, reserved-then, fixed-then, Carries, Written, Fit, none, at-value, at-reserved, at-fixed, fits, fixedFit, Sound}
-use Rattle.syntax.specs.Number.{byte-power, digit-high, number-append, number-take, number-below, length-bytesOf, bytesOf-bytes, number-bytesOf, bytesOf-number}
+use Rattle.syntax.proofs.Number.{byte-power, digit-high, number-append, number-take, number-below, length-bytesOf, bytesOf-bytes, number-bytesOf, bytesOf-number}
 
 -- ---- one field, of w bits, with k bits after it
 
@@ -188,15 +188,9 @@ module _ {t : Table} {vs : List ℕ} (s : Sound t) (fit : Fit t vs) (rest : List
   written-carries : Carries t vs (number (bytes t) (writeTable t vs ++ rest))
   written-carries = rw number-written (joined-carries (s .fixed-fit) fit)
 
-  -- reading what was written gives the values back, whatever follows; its fixed bits are as printed and its reserved bits 1
+  -- reading what was written gives the values back, whatever follows
   pub read-write : readTable t (writeTable t vs ++ rest) ≡ vs
   read-write = written-carries .values
-
-  pub fixed-written : fixedHold t (number (bytes t) (writeTable t vs ++ rest)) ≡ true
-  fixed-written = written-carries .fixed-bits
-
-  pub reserved-written : reservedOnes t (number (bytes t) (writeTable t vs ++ rest)) ≡ true
-  reserved-written = written-carries .reserved-bits
 
 -- writing what was read gives the bytes back, where fixed bits are as printed and reserved bits 1
 pub write-read : {t : Table} → Sound t → (l : List ℕ) → AreBytes l → bytes t ≤ length l

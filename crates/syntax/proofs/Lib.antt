@@ -1,0 +1,4 @@
+pub mod Number
+pub mod Laws
+pub mod Equations
+pub mod NamedLaws
