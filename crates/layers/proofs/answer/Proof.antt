@@ -1,27 +1,15 @@
--- `layers::main` is safe: the text ends inside its buffer, as what lays a text into a buffer promises.
+-- `layers::answer` is safe: the text ends inside its buffer, as what lays a text into a buffer promises.
 -- Assumes nothing.
 use mathlib.Core.Path.{sym}
 use native.Mathlib.Omega.{arith}
 use lib.Seq.{length-take-le}
 use Rattle.text.specs.Laws.{laid-within}
 use borrow.Author.Needs.{needs}
-use Rattle.layers.proofs.main.Statement.{statement}
-use Rattle.layers.proofs.main.Tie as tie
-
-slice-aggregate-read-full : tie.Need-slice-aggregate-read-full
-slice-aggregate-read-full c = search needs
-
-read-full-requires : tie.Need-read-full-requires
-read-full-requires c κs = search needs
+use Rattle.layers.proofs.answer.Statement.{statement}
+use Rattle.layers.proofs.answer.Tie as tie
 
 slice-aggregate-put-loop : tie.Need-slice-aggregate-put-loop
 slice-aggregate-put-loop c = search needs
-
-array-share-prefix-input : tie.Need-array-share-prefix-input
-array-share-prefix-input c = search needs
-
-slice-aggregate-put-loop-2 : tie.Need-slice-aggregate-put-loop-2
-slice-aggregate-put-loop-2 c = search needs
 
 put-loop-requires : tie.Need-put-loop-requires
 put-loop-requires c κs = search needs
@@ -38,20 +26,36 @@ slice-aggregate-write-all c =
 write-all-requires : tie.Need-write-all-requires
 write-all-requires c κs = search needs
 
+slice-aggregate-fail : tie.Need-slice-aggregate-fail
+slice-aggregate-fail c = search needs
+
+fail-requires : tie.Need-fail-requires
+fail-requires c κs = search needs
+
+array-read-if2 : tie.Need-array-read-if2
+array-read-if2 c = search needs
+
+hint-requires : tie.Need-hint-requires
+hint-requires c κs = search needs
+
 returns : tie.Need-returns
 returns c = search needs
 
-pub main-spec : {M : Type 1} → statement M
-main-spec =
+returns-2 : tie.Need-returns-2
+returns-2 c = search needs
+
+pub answer-spec : {M : Type 1} → statement M
+answer-spec =
     tie.close
     (tie.spec
-    slice-aggregate-read-full
-    read-full-requires
     slice-aggregate-put-loop
-    array-share-prefix-input
-    slice-aggregate-put-loop-2
     put-loop-requires
     array-share-prefix-text
     slice-aggregate-write-all
     write-all-requires
-    returns)
+    slice-aggregate-fail
+    fail-requires
+    array-read-if2
+    hint-requires
+    returns
+    returns-2)
