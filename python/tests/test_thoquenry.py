@@ -1,10 +1,17 @@
-"""Document 01's worked examples, and what the module adds: types, the numbers' names, and values that C's types do not hold."""
+"""Document 01's worked examples, and what the module adds: types, the numbers' names and words, values that C's types do not hold, and a library
+that is missing or of another version."""
 
+import os
+import tempfile
+import time
 import unittest
 from dataclasses import replace
+from unittest.mock import patch
 
+import thoquenry
 from thoquenry import (Component, Entry, Extension, Hierarchy, Number, Reading, Refused, Row, Times, Units, closure, import_, join,
                        read_loop, read_times, write_loop, write_times)
+from thoquenry._library import load
 
 LOOP_A = bytes.fromhex("1BE100F0060404FFC0FFC0" "1FE101F0060404D1C140C1" "28E102F00A3F08060002 0803C1C2C0")
 
@@ -131,9 +138,67 @@ class WorkedExamples(unittest.TestCase):
         self.refused(Number.PTS_BEFORE_DTS, 0, write_times, Times(1, 2, 2))
         self.refused(Number.TOO_WIDE, 0, write_times, Times(2**33, 2, 2))
 
-    def test_every_number_has_its_name(self):
+    def test_every_number_has_its_name_and_its_words(self):
         self.assertEqual([number.value for number in Number], [*range(1, 18), *range(20, 26)])
-        self.assertEqual(str(Refused(15, 3)), "refused 15 (unpaired) at 3")
+        self.assertEqual(str(Refused(15, 3)), "15: row 3 of the target layer has no assembly")
+        self.assertEqual(Refused(17, 0).words, "the output room is too small")
+        self.assertEqual(len({Refused(number, 7).words for number in Number}), len(Number))
+        self.assertFalse([number for number in Number if "{}" in str(Refused(number, 7))])
+
+    def test_what_is_no_whole_number_is_a_type_error(self):
+        for wrong in (1.0, 0.5, "1", None):
+            for call in (lambda: closure(Reading.EDITION_2015, LOOP_A, wrong), lambda: join({0: ()}, 0, [Row(0, wrong, 0)]),
+                         lambda: join({0: ()}, 0, [Row(0, 0, wrong)]), lambda: join({wrong: ()}, 0, []),
+                         lambda: write_times(Times(wrong, 0, 0)), lambda: write_loop([Entry(0x1B, wrong)])):
+                self.assertRaises(TypeError, call)
+        for wrong in (37, [0x1B], "loop"):
+            self.assertRaises(TypeError, read_loop, Reading.EDITION_2015, wrong)
+        for call in (lambda: join({0: ()}, 0, [Row(0, -1, 0)]), lambda: write_loop([Entry(0x1B, -1)]), lambda: write_times(Times(-1, 0, 0))):
+            self.assertRaises(ValueError, call)
+
+    def test_all_kinds_of_bytes(self):
+        for kind in (bytes, bytearray, memoryview):
+            self.assertEqual(read_loop(Reading.EDITION_2015, kind(LOOP_A)), ENTRIES_OF_LOOP_A)
+            self.assertEqual(read_loop(Reading.EDITION_2015, kind(b"")), [])
+        self.assertEqual(read_loop(Reading.EDITION_2015, memoryview(b"-" + LOOP_A)[1:]), ENTRIES_OF_LOOP_A)
+
+    def test_what_is_too_long_is_not_copied(self):
+        long = bytes(50_000_000)
+        header = write_times(Times(3, 2, 1))
+        began = time.monotonic()
+        for kind in (bytes, memoryview):
+            self.refused(Number.LOOP_TOO_LONG, 0, read_loop, Reading.EDITION_2015, kind(long))
+            self.refused(Number.LOOP_TOO_LONG, 0, import_, Reading.EDITION_2015, kind(long), 0, [])
+            self.refused(Number.NOT_VIDEO_HEADER, 0, read_times, kind(long))
+        self.refused(Number.OUT_OF_RANGE, 0, join, {0: ()}, 0, (Row(0, k, k) for k in range(10**12)))
+        self.assertLess(time.monotonic() - began, 1)
+        self.assertEqual(read_times(header + long), Times(3, 2, 1))
+
+    def test_the_longest_header(self):
+        # PTS, then stuffing up to the most that PES_header_data_length can say
+        header = bytes.fromhex("000001E0000084 80FF 2100014651") + b"\xff" * 250
+        self.assertEqual(read_times(header + b"more"), Times(9000, 9000, 9000))
+        self.refused(Number.NOT_VIDEO_HEADER, 0, read_times, header[:-1])
+
+    def test_what_is_offered(self):
+        self.assertEqual([name for name in thoquenry.__all__ if not hasattr(thoquenry, name)], [])
+        self.assertRegex(thoquenry.__version__, r"^\d+\.\d+\.\d+$")
+
+
+class MissingLibrary(unittest.TestCase):
+    def said(self, library):
+        with patch.dict(os.environ, {"THOQUENRY_SO": library}), self.assertRaises(ImportError) as caught:
+            load()
+        return str(caught.exception)
+
+    def test_the_remedy_is_named(self):
+        for remedy in ("scripts/build-library", "THOQUENRY_SO"):
+            self.assertIn(remedy, self.said("/nowhere/libthoquenry.so"))
+
+    def test_a_library_of_another_kind(self):
+        self.assertIn("has no thq_version", self.said("libc.so.6"))
+        with tempfile.NamedTemporaryFile(suffix=".so") as empty:
+            self.assertIn("could not be loaded", self.said(empty.name))
 
 
 if __name__ == "__main__":

@@ -1,6 +1,6 @@
 """Reads the sample loop A and joins a table of four rows over its layers 0 and 1.
 
-    python3 python/example.py [FILE]
+    PYTHONPATH=python/src python3 python/examples/join.py [FILE]
 """
 
 import sys
@@ -8,7 +8,7 @@ from pathlib import Path
 
 from thoquenry import Reading, Row, import_, read_loop
 
-sample = Path(__file__).resolve().parent.parent / "samples" / "loop-a.bin"
+sample = Path(__file__).resolve().parents[2] / "samples" / "loop-a.bin"
 loop = Path(sys.argv[1] if len(sys.argv) > 1 else sample).read_bytes()
 
 for entry in read_loop(Reading.EDITION_2015, loop):

@@ -296,16 +296,44 @@ fn headers() {
 }
 
 #[test]
-fn every_number_has_its_name() {
+fn every_number_has_its_name_and_its_words() {
     let listed: Vec<u8> = (0..=255).filter(|&n| Refusal::of(n, 0).is_some()).collect();
     let expected: Vec<u8> = (1..=17).chain(20..=25).collect();
     assert_eq!(listed, expected);
+    let mut shown = Vec::new();
     for number in listed {
         let refusal = Refusal::of(number, 7).unwrap();
         assert_eq!(refusal.number(), number);
         let placed = (2..=10).contains(&number) || (12..=16).contains(&number);
         assert_eq!(refusal.place(), if placed { 7 } else { 0 });
+        let words = refusal.words();
+        assert!(!words.contains("{}"));
+        assert_eq!(words.contains('7'), placed || number == 7);
+        shown.push(words);
     }
-    let shown = Refusal::Unpaired { row: 3 }.to_string();
-    assert_eq!(shown, "refused 15 row 3");
+    shown.sort();
+    shown.dedup();
+    assert_eq!(shown.len(), expected.len());
+    assert_eq!(
+        Refusal::Unpaired { row: 3 }.to_string(),
+        "15: row 3 of the target layer has no assembly"
+    );
+    assert_eq!(Refusal::of(12, 256), None);
+}
+
+#[test]
+fn sets_print_their_indices() {
+    let set = LayerSet(0b101);
+    assert_eq!(set.to_string(), "{0, 2}");
+    assert_eq!(format!("{set:?}"), "LayerSet {0, 2}");
+    assert_eq!(LayerSet::default().to_string(), "{}");
+}
+
+#[test]
+fn the_version_is_this_crates() {
+    let (first, second, third) = version();
+    assert_eq!(
+        format!("{first}.{second}.{third}"),
+        env!("CARGO_PKG_VERSION")
+    );
 }

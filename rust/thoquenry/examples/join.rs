@@ -6,7 +6,7 @@ use std::{env, fs};
 use thoquenry::{import, read_loop, LayerIndex, Reading, Row};
 
 fn main() -> Result<(), Box<dyn std::error::Error>> {
-    let sample = concat!(env!("CARGO_MANIFEST_DIR"), "/../samples/loop-a.bin");
+    let sample = concat!(env!("CARGO_MANIFEST_DIR"), "/../../samples/loop-a.bin");
     let bytes = fs::read(env::args().nth(1).unwrap_or_else(|| sample.into()))?;
 
     for entry in read_loop(Reading::Edition2015, &bytes)? {

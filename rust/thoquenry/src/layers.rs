@@ -12,9 +12,23 @@ impl fmt::Display for LayerIndex {
     }
 }
 
-/// A set of layer indices below 64: bit i is 1 when index i is one of them.
-#[derive(Clone, Copy, Debug, Default, PartialEq, Eq, Hash)]
+/// A set of layer indices below 64: bit i is 1 when index i is one of them. It prints as its indices: `{0, 2}`.
+#[derive(Clone, Copy, Default, PartialEq, Eq, Hash)]
 pub struct LayerSet(pub u64);
+
+impl fmt::Display for LayerSet {
+    fn fmt(&self, to: &mut fmt::Formatter) -> fmt::Result {
+        to.debug_set()
+            .entries(self.iter().map(|index| index.0))
+            .finish()
+    }
+}
+
+impl fmt::Debug for LayerSet {
+    fn fmt(&self, to: &mut fmt::Formatter) -> fmt::Result {
+        write!(to, "LayerSet {self}")
+    }
+}
 
 impl LayerSet {
     /// Whether an index is one of the set's.

@@ -1,7 +1,7 @@
 //! The entries of an elementary-stream loop, and the 80 numbers by which each crosses to the library.
 
 use crate::layers::LayerIndex;
-use crate::raw::{THQ_ENTRY_NUMBERS, THQ_EXTENSION, THQ_HIERARCHY, THQ_NO_RECORD};
+use thoquenry_sys::{THQ_ENTRY_NUMBERS, THQ_EXTENSION, THQ_HIERARCHY, THQ_NO_RECORD};
 
 /// Where a layer is sent: hierarchy_channel, six bits.
 #[derive(Clone, Copy, Debug, Default, PartialEq, Eq, PartialOrd, Ord, Hash)]
@@ -18,8 +18,11 @@ pub struct NuhLayerId(pub u8);
 /// One entry of a loop.
 #[derive(Clone, Debug, PartialEq, Eq, Hash)]
 pub struct Entry {
+    /// stream_type, eight bits.
     pub stream_type: u8,
+    /// elementary_PID, thirteen bits.
     pub elementary_pid: u16,
+    /// The stream's hierarchy record, if it has one.
     pub record: Record,
 }
 
@@ -30,24 +33,40 @@ pub enum Record {
     None,
     /// The hierarchy descriptor. A flag that is false "enhances".
     Hierarchy {
+        /// no_view_scalability_flag: false where the layer adds views. The 2009 reading answers true.
         no_view: bool,
+        /// no_temporal_scalability_flag: false where it adds frames.
         no_temporal: bool,
+        /// no_spatial_scalability_flag: false where it adds detail.
         no_spatial: bool,
+        /// no_quality_scalability_flag: false where it adds quality.
         no_quality: bool,
+        /// hierarchy_type, four bits. 15 is a base layer.
         hierarchy_type: u8,
+        /// hierarchy_layer_index, six bits.
         layer_index: LayerIndex,
+        /// tref_present_flag, kept and not judged.
         tref_present: bool,
+        /// hierarchy_embedded_layer_index, six bits: the layer that this one rests on. A base layer's names nothing.
         embedded_layer_index: LayerIndex,
+        /// hierarchy_channel, six bits.
         channel: Channel,
     },
     /// The HEVC hierarchy extension.
     Extension {
+        /// extension_dimension_bits, kept and not judged.
         dimension_bits: u16,
+        /// hierarchy_layer_index, six bits.
         layer_index: LayerIndex,
+        /// temporal_id, three bits.
         temporal_id: TemporalId,
+        /// nuh_layer_id, six bits.
         nuh_layer_id: NuhLayerId,
+        /// tref_present_flag, kept and not judged.
         tref_present: bool,
+        /// hierarchy_channel, six bits.
         channel: Channel,
+        /// The layers that this one rests on, in the descriptor's order.
         embedded: Vec<LayerIndex>,
     },
 }

@@ -1,7 +1,8 @@
 //! Thoquenry: a verified importer for layered television recordings, called from Rust.
 //!
 //! The work is done by libthoquenry, whose every function is proved to meet its contract. This crate gives its functions Rust's types:
-//! an answer is a `Result` with what was asked for, or the [`Refusal`] with its number and place. [`raw`] has the functions themselves.
+//! an answer is a `Result` with what was asked for, or the [`Refusal`] with its number and place. The crate `thoquenry-sys` has the functions
+//! themselves.
 //!
 //! ```no_run
 //! use thoquenry::{closure, LayerIndex, Reading};
@@ -11,10 +12,7 @@
 //! assert_eq!(layers.iter().collect::<Vec<_>>(), [LayerIndex(0), LayerIndex(2)]);
 //! ```
 
-#[cfg(not(all(target_arch = "x86_64", target_os = "linux")))]
-compile_error!("libthoquenry is for x86-64 Linux");
-
-pub mod raw;
+#![warn(missing_docs)]
 
 mod entry;
 mod layers;
@@ -24,12 +22,15 @@ pub use entry::{Channel, Entry, NuhLayerId, Record, TemporalId};
 pub use layers::{LayerIndex, LayerSet, Layers};
 pub use refusal::Refusal;
 
-use raw::THQ_ENTRY_NUMBERS;
+use thoquenry_sys as raw;
+use thoquenry_sys::THQ_ENTRY_NUMBERS;
 
 /// The amendments by which a loop is read.
 #[derive(Clone, Copy, Debug, PartialEq, Eq, Hash)]
 pub enum Reading {
+    /// Those of 2009: AVC, SVC and MVC streams, and the hierarchy descriptor.
     Edition2009,
+    /// Those of 2015: HEVC streams too, and the HEVC hierarchy extension.
     Edition2015,
 }
 
@@ -45,6 +46,7 @@ impl Reading {
 /// The times of a PES header, each below 2^33.
 #[derive(Clone, Copy, Debug, PartialEq, Eq, Hash)]
 pub struct Times {
+    /// When the picture is shown.
     pub pts: u64,
     /// DTS, or PTS without a DTS.
     pub decoding: u64,
@@ -55,8 +57,11 @@ pub struct Times {
 /// One component of a table, in arrival order.
 #[derive(Clone, Copy, Debug, PartialEq, Eq, Hash)]
 pub struct Row {
+    /// The layer that the component belongs to.
     pub layer_index: LayerIndex,
+    /// Its decoding time.
     pub decoding: u64,
+    /// Its match time: TREF, or the decoding time without one. Its partners in lower layers are decoded then.
     pub matching: u64,
 }
 
@@ -91,6 +96,13 @@ const HEADER_BYTES: usize = 64;
 
 /// The most rows that a table has. Each row stands in one unit at most, so the lists of its units need no more places.
 const ROWS: usize = 512;
+
+/// The version of the library that is linked: its three parts.
+pub fn version() -> (u64, u64, u64) {
+    // SAFETY: it takes nothing.
+    let number = unsafe { raw::thq_version() };
+    (number / 10000, number / 100 % 100, number % 100)
+}
 
 /// What an accepted call counts, or the refusal.
 fn accepted(answer: u64) -> Result<usize, Refusal> {
