@@ -1,18 +1,18 @@
 /*
  * Thoquenry: a verified importer for layered television recordings.
  *
- * Every function takes whatever it is handed, ends, and answers with one number, `answer`:
+ * Every call takes whatever it is handed, ends, and answers with one number, `answer`:
  *
- *     THQ_NUMBER(answer)   0 where the call is accepted, or else the number of the refusal
+ *     THQ_NUMBER(answer)   0 where the call is accepted, or else the number of the refusal, an enum thq_refusal
  *     THQ_VALUE(answer)    the place of the refusal, or what the function says that it counts
  *
- * A refusal is one of the numbers that the rules list (1 to 25), the lowest that applies, at the earliest place, or
- * THQ_NOT_A_CALL, which comes before all of them: the reading is neither THQ_2009 nor THQ_2015. After a refusal every output
- * buffer holds what it held; after an accepted call it holds what it held beyond what was written.
+ * A refusal is the lowest number that applies, at the earliest place; THQ_NOT_A_CALL comes before all others. After a refusal every
+ * output buffer holds what it held; after an accepted call it holds what it held beyond what was written.
  *
- * A buffer is a pointer and the number of its elements (not of its bytes). A pointer may not be null, not even for a buffer of no
- * elements; buffers of one call may not overlap where one of them is written. A call takes up to 100 KB of stack, no heap, and keeps
- * nothing between calls, so that threads may call at the same time. The library is for x86-64 Linux.
+ * A buffer is a pointer and the number of its elements (not of its bytes). The pointer of a buffer of no elements may be null; no other
+ * may. Buffers of one call may not overlap where one of them is written. A call takes up to 100 KB of stack (docs/BENCHMARKS.md in its
+ * repository has what each takes), no heap, and keeps nothing between calls, so that threads may call at the same time. The library is
+ * for x86-64 Linux.
  */
 #ifndef THOQUENRY_H
 #define THOQUENRY_H
@@ -24,13 +24,79 @@
 extern "C" {
 #endif
 
+/*
+ * The version of this header, and the same as one number: 10,000 times the first part, 100 times the second, and the third. While the first
+ * part is 0, a change by which a program that was built before would misread an answer raises the second, and after that the first; the
+ * shared object's name goes with it (libthoquenry.so.0.1).
+ */
+#define THQ_VERSION "0.1.0"
+#define THQ_VERSION_NUMBER 100
+
+/* The version of the library that is linked, as such a number. */
+uint64_t thq_version(void);
+
 #define THQ_NUMBER(answer) ((answer) % 256)
 #define THQ_VALUE(answer) ((answer) / 256)
 
+/* The amendments by which a loop is read. */
 #define THQ_2009 2009
 #define THQ_2015 2015
 
-#define THQ_NOT_A_CALL 255
+/*
+ * The refusals, in the words of words/refusals.tsv. {} stands for the place: an entry, a row or a layer index, from 0 on; a refusal without
+ * it has place 0.
+ */
+enum thq_refusal {
+    /* the loop is longer than 1,008 bytes */
+    THQ_REFUSED_LOOP_TOO_LONG = 1,
+    /* entry {}, or a descriptor in it, doesn't fit in the bytes that hold it */
+    THQ_REFUSED_DOES_NOT_FIT = 2,
+    /* entry {} has a PID seen in an earlier entry */
+    THQ_REFUSED_REPEATED_PID = 3,
+    /* entry {}, a known stream, has tag 4 with length not 4, or the extension with another length than its count demands */
+    THQ_REFUSED_WRONG_LENGTH = 4,
+    /* entry {}, a known stream, has two hierarchy records */
+    THQ_REFUSED_SECOND_RECORD = 5,
+    /* entry {} has a type not allowed on this stream, or an extension on 0x1B, 0x1F or 0x20 */
+    THQ_REFUSED_TYPE_NOT_ALLOWED = 6,
+    /* entry {} has type 9 with a flag at 0, or more than one flag at 0 and type not 8 */
+    THQ_REFUSED_WRONG_FLAGS = 7,
+    /* entry {} has a layer index held by an earlier layer */
+    THQ_REFUSED_REPEATED_LAYER_INDEX = 8,
+    /* entry {} has an embedded index not below the layer's own, or listed twice */
+    THQ_REFUSED_WRONG_EMBEDDED_INDEX = 9,
+    /* entry {} has more than 8 embedded layers */
+    THQ_REFUSED_TOO_MANY_EMBEDDED = 10,
+    /* there is no layer with the target index */
+    THQ_REFUSED_NO_SUCH_LAYER = 11,
+    /* layer index {} is in the closure, and its layer is not in the loop */
+    THQ_REFUSED_EMBEDDED_LAYER_ABSENT = 12,
+    /* row {} is out of range; or, at row 0, the row columns are of unequal length or there are more than 512 rows */
+    THQ_REFUSED_OUT_OF_RANGE = 13,
+    /* row {} breaks the time order in its layer, which is in the closure */
+    THQ_REFUSED_TIME_ORDER_BROKEN = 14,
+    /* row {} of the target layer has no assembly */
+    THQ_REFUSED_UNPAIRED = 15,
+    /* row {} of the target layer would put a row into a second unit */
+    THQ_REFUSED_USED_TWICE = 16,
+    /* the output room is too small */
+    THQ_REFUSED_NO_ROOM = 17,
+    /* this is not a video PES header */
+    THQ_REFUSED_NOT_VIDEO_HEADER = 20,
+    /* PTS_DTS_flags is 00 or 01 */
+    THQ_REFUSED_NO_PTS = 21,
+    /* flagged fields don't fit PES_header_data_length or their own length byte */
+    THQ_REFUSED_FIELDS_DO_NOT_FIT = 22,
+    /* a marker or prefix bit of PTS, DTS, TREF or the extension length is wrong */
+    THQ_REFUSED_WRONG_MARKER = 23,
+    /* PTS lies before DTS */
+    THQ_REFUSED_PTS_BEFORE_DTS = 24,
+    /* a value to be written is too wide for its field */
+    THQ_REFUSED_TOO_WIDE = 25,
+
+    /* the reading is neither THQ_2009 nor THQ_2015 */
+    THQ_NOT_A_CALL = 255
+};
 
 /* What an entry's `record` says: the stream is no layer, or which of the two descriptors makes it one. */
 #define THQ_NO_RECORD 0

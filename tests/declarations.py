@@ -1,10 +1,16 @@
-"""Do the four declarations of the library agree? No compiler compares them: include/thoquenry.h for C, rust/src/raw.rs for Rust,
-python/thoquenry.py for Python, and the source itself, crates/thoquenry/src/*.rt. This test parses all four and holds them to one another:
-the functions' names, and the name, number, order, width and constness of the parameters and the width of the result. A slice parameter of
-the source is a pointer and, after it, a length. (ctypes does not say whether a pointer is const, so there it is not compared.)
+"""Do the declarations of the library agree? No compiler compares them: include/thoquenry.h for C, rust/thoquenry-sys for Rust,
+python/src/thoquenry/_library.py for Python, and the source itself, crates/thoquenry/src/*.rt. This test parses all four and holds them to one
+another: the functions' names, and the name, number, order, width and constness of the parameters and the width of the result. A slice
+parameter of the source is a pointer and, after it, a length. (ctypes does not say whether a pointer is const, so there it is not compared.)
 
-It also holds the header's table of an entry's numbers to the header's struct, Rust's constants to the header's, and, with a file that lists
-the names which the built library offers, those names to the header's.
+It also holds to one another
+  - the header's table of an entry's numbers and its struct, and Rust's constants and the header's;
+  - the refusals: the table of words (words/refusals.tsv), C's enum, Rust's constants and enum, Python's enum and the source's own enum
+    (crates/vocabulary/src/refusal.rt) have the same numbers under the same names, with a place or without; every number has words of its own,
+    which say what its place counts; and the comments of C's and Rust's enums are those words;
+  - the version: the header's, the library's own, those of Rust's crates and of Python's package;
+and, with a file that lists the names which the built library offers, those names and the header's. It tests itself: changes are made to the
+texts, one after the other, and each must be noticed.
 
     python3 tests/declarations.py [FILE]
 """
@@ -16,17 +22,29 @@ from pathlib import Path
 
 ROOT = Path(__file__).resolve().parent.parent
 HEADER = "include/thoquenry.h"
-RUST = "rust/src/raw.rs"
-PYTHON = "python/thoquenry.py"
+RUST = "rust/thoquenry-sys/src/lib.rs"
+PYTHON = "python/src/thoquenry/_library.py"
 SOURCE = "crates/thoquenry/src"
+WORDS = "words/refusals.tsv"
+RUST_REFUSALS = "rust/thoquenry/src/refusal.rs"
+PYTHON_REFUSALS = "python/src/thoquenry/_refusals.py"
+SOURCE_REFUSALS = "crates/vocabulary/src/refusal.rt"
+VERSION_SPEC = "crates/thoquenry/specs/Version.antt"
+RUST_PACKAGES = ("rust/thoquenry-sys/Cargo.toml", "rust/thoquenry/Cargo.toml")
+PYTHON_PACKAGE = "python/src/thoquenry/__init__.py"
 
 # `match` is a word of the language in Rust and in Rattle: there the parameter is called `matching`.
 RENAMED = {"match": "matching"}
+
+# What a place may count, and the field of Rust's enum that then holds it.
+PLACES = {"entry": "entry: usize", "row": "row: usize", "packet": "packet: usize", "layer index": "index: LayerIndex"}
 
 
 def fail(message):
     sys.exit(f"declarations: {message}")
 
+
+# ---- functions
 
 def kind_of(text, kinds, where):
     if text not in kinds:
@@ -42,7 +60,7 @@ def c_functions(text):
     functions = {}
     for result, name, parameters in re.findall(r"(\w+)\s+(\w+)\s*\(([^()]*)\)\s*;", text):
         parsed = []
-        for parameter in parameters.split(","):
+        for parameter in parameters.split(",") if parameters != "void" else []:
             parts = re.fullmatch(r"\s*(const )?(\w+) (\*?)(\w+)\s*", parameter)
             if parts is None:
                 fail(f"{HEADER}: {name}: '{parameter.strip()}'?")
@@ -70,7 +88,7 @@ def rust_functions(text):
 
 def python_functions(text):
     """The same of the table DECLARATIONS; a pointer is '* u8'."""
-    kinds = {"c_uint8": "u8", "c_uint16": "u16", "c_uint64": "u64", "c_int64": "i64", "c_size_t": "usize"}
+    kinds = {"c_uint8": "u8", "c_uint16": "u16", "c_uint64": "u64", "c_int64": "i64", "c_size_t": "usize", "c_char_p": "* u8"}
 
     def kind(node):
         if isinstance(node, ast.Call) and node.func.id == "POINTER":
@@ -113,7 +131,7 @@ def rattle_functions(text):
     return functions
 
 
-def differences(one, other, place):
+def functions_differ(one, other, place):
     """What differs between the header's functions and another's, in words."""
     found = [f"{place} lacks {name}" for name in one if name not in other]
     found += [f"{HEADER} lacks {name}" for name in other if name not in one]
@@ -129,15 +147,7 @@ def differences(one, other, place):
     return found
 
 
-def all_differences(texts):
-    """What differs between the header and the other three, given each one's text."""
-    header = c_functions(texts[HEADER])
-    return (differences(header, rust_functions(texts[RUST]), RUST)
-            + differences(header, python_functions(texts[PYTHON]), PYTHON)
-            + differences(header, rattle_functions(texts[SOURCE]), SOURCE))
-
-
-def layout_differences(text):
+def layout_differs(text):
     """What differs between the header's table of an entry's numbers and its struct."""
     body = re.search(r"typedef struct thq_entry \{(.*?)\}", text, flags=re.S).group(1)
     struct, at = [], 0
@@ -159,33 +169,176 @@ def layout_differences(text):
     return found
 
 
-def constant_differences(header, rust):
+# ---- constants and refusals
+
+def enumerators(header):
+    """The names, numbers and comments of the header's enum."""
+    body = re.search(r"enum thq_refusal \{(.*?)\n\}", header, flags=re.S).group(1)
+    return re.findall(r"/\* (.*?) \*/\s*(THQ_\w+) = (\d+)", body)
+
+
+def constants_differ(header, rust):
     """What differs between the header's constants and Rust's."""
-    of_header = dict(re.findall(r"#define (THQ_\w+) (\d+)", header))
+    of_header = {**dict(re.findall(r"#define (THQ_\w+) (\d+)", header)), **{name: number for _, name, number in enumerators(header)}}
     of_rust = dict(re.findall(r"pub const (THQ_\w+): \w+ = (\d+);", rust))
     return [] if of_header == of_rust else [f"constants differ\n    {HEADER}: {of_header}\n    {RUST}: {of_rust}"]
 
 
-# Changes to one text, after which this test must find a difference: a width, an order, a constness, a count, a name.
+def in_capitals(name):
+    """LoopTooLong as LOOP_TOO_LONG."""
+    return re.sub(r"(?<=[a-z])(?=[A-Z])", "_", name).upper()
+
+
+def words_of(text):
+    """The table of words: (number, name, what the place counts or None, words)."""
+    rows = [line.split("\t") for line in text.splitlines() if not line.startswith("#")]
+    if any(len(row) != 4 for row in rows):
+        fail(f"{WORDS}: a line that has not four parts")
+    return [(int(number), name, None if place == "-" else place, words) for number, name, place, words in rows]
+
+
+def table_is_unsound(table):
+    """What is wrong with the table of words by itself."""
+    found = []
+    numbers, names, _, words = zip(*table)
+    if list(numbers) != sorted(set(numbers)):
+        found.append(f"{WORDS}: numbers that do not rise")
+    for kind, values in (("names", names), ("words", words)):
+        if len(set(values)) != len(values) or not all(values):
+            found.append(f"{WORDS}: {kind} that are empty or stand twice")
+    for number, _, place, text in table:
+        if place is not None and place not in PLACES:
+            found.append(f"{WORDS}: {number}: what is the place '{place}'?")
+        if text.count("{}") != (place is not None) or (place is not None and f"{place} {{}}" not in text):
+            found.append(f"{WORDS}: {number}: the words do not say what its place counts: {text}")
+    return found
+
+
+def refusals_differ(texts):
+    """What differs between the table of words and the four enums."""
+    table = words_of(texts[WORDS])
+    expected = [(number, name) for number, name, _, _ in table]
+    placed = {name: place for _, name, place, _ in table}
+    found = table_is_unsound(table)
+
+    def hold(where, given, wanted):
+        if given != wanted:
+            found.append(f"refusals differ\n    {WORDS}: {[one for one in wanted if one not in given]}\n    {where}: {[one for one in given if one not in wanted]}")
+
+    of_c = [(int(number), name, words) for words, name, number in enumerators(texts[HEADER]) if name != "THQ_NOT_A_CALL"]
+    hold(HEADER, of_c, [(number, f"THQ_REFUSED_{name}", words) for number, name, _, words in table])
+
+    listed = re.search(r"^refusals! \{\n(.*?)^\}", texts[RUST_REFUSALS], flags=re.S | re.M).group(1)
+    of_rust = re.findall(r"/// (\d+): (.*)\.\n    (\d+) (\w+)(?: \{\n        /// .*\n        (.*)\n    \})?,", listed)
+    hold(RUST_REFUSALS, [(int(told), int(number), in_capitals(name), words, field) for told, words, number, name, field in of_rust],
+         [(number, number, name, words, PLACES.get(place, "")) for number, name, place, words in table])
+
+    numbers = re.search(r"class Number\(IntEnum\):(.*?)\n\n\n", texts[PYTHON_REFUSALS], flags=re.S).group(1)
+    hold(PYTHON_REFUSALS, [(int(number), name) for name, number in re.findall(r"^    (\w+) = (\d+)$", numbers, flags=re.M)], expected)
+
+    variants = re.search(r"pub enum Refusal \{(.*?)\n\}", texts[SOURCE_REFUSALS], flags=re.S).group(1)
+    held = {in_capitals(name): kind for name, kind in re.findall(r"^    (\w+)(?:\((\w+)\))?,$", variants, flags=re.M)}
+    hold(f"{SOURCE_REFUSALS} (the enum)", sorted(held.items()),
+         sorted((name, "" if place is None else PLACES[place].split(": ")[1]) for name, place in placed.items()))
+    arms = re.findall(r"Refusal::(\w+)(?:\(_\))? => (\d+),", re.search(r"pub fn number\(.*?\n\}", texts[SOURCE_REFUSALS], flags=re.S).group(0))
+    hold(f"{SOURCE_REFUSALS} (the numbers)", sorted((int(number), in_capitals(name)) for name, number in arms), expected)
+    return found
+
+
+# ---- the version
+
+def versions_differ(texts):
+    """What differs between the header's version and the others."""
+    version = re.search(r'#define THQ_VERSION "(\d+\.\d+\.\d+)"', texts[HEADER]).group(1)
+    first, second, third = map(int, version.split("."))
+    number = 10000 * first + 100 * second + third
+    fitting = (f"{first}.{second}", number - third) if first == 0 else (f"{first}", 10000 * first)
+    patterns = [
+        (HEADER, r"#define THQ_VERSION_NUMBER (\d+)", f"{number}"),
+        (HEADER, r"\(libthoquenry\.so\.([\d.]+)\)", fitting[0]),
+        (SOURCE, r"fn thq_version\(\)[^{]*\{[^}]*\}\s*\{\s*(\d+)\s*\}", f"{number}"),
+        (VERSION_SPEC, r"\nversion = numbered (.*)", f"{first} {second} {third}"),
+        (PYTHON, r'_SONAME = "libthoquenry\.so\.([\d.]+)"', fitting[0]),
+        (PYTHON, r"_FITTING = range\((\d+), ", f"{fitting[1]}"),
+        (PYTHON_PACKAGE, r'\n__version__ = "(.*)"', version),
+        *((package, r'\nversion = "(.*)"', version) for package in RUST_PACKAGES),
+        (RUST_PACKAGES[1], r'thoquenry-sys = \{.*version = "(.*)" \}', version),
+    ]
+    found = []
+    for path, pattern, expected in patterns:
+        given = re.search(pattern, texts[path])
+        if given is None or given.group(1) != expected:
+            found.append(f"{path}: the version is {version}, so this is to be {expected} and not {given and given.group(1)}")
+    return found
+
+
+# ---- all of it
+
+def all_differences(texts):
+    """What differs, given each file's text."""
+    header = c_functions(texts[HEADER])
+    return (functions_differ(header, rust_functions(texts[RUST]), RUST)
+            + functions_differ(header, python_functions(texts[PYTHON]), PYTHON)
+            + functions_differ(header, rattle_functions(texts[SOURCE]), SOURCE)
+            + layout_differs(texts[HEADER])
+            + constants_differ(texts[HEADER], texts[RUST])
+            + refusals_differ(texts)
+            + versions_differ(texts))
+
+
+# Changes to one text, after which this test must find a difference: a width, an order, a constness, a count, a name, a number, a word.
 CHANGES = [
     (HEADER, "const uint8_t *bytes", "const uint16_t *bytes"),
     (HEADER, "size_t out_length", "uint64_t out_length"),
     (HEADER, "thq_import(", "thq_imports("),
+    (HEADER, "uint16_t embedded[63]", "uint16_t embedded[62]"),
+    (HEADER, "#define THQ_HIERARCHY 1", "#define THQ_HIERARCHY 3"),
+    (HEADER, "THQ_REFUSED_UNPAIRED = 15", "THQ_REFUSED_UNPAIRED = 16"),
+    (HEADER, "THQ_REFUSED_NO_ROOM", "THQ_REFUSED_ROOM"),
+    (HEADER, "has no assembly", "has no partner"),
+    (HEADER, '"0.1.0"', '"0.2.0"'),
+    (HEADER, "THQ_VERSION_NUMBER 100", "THQ_VERSION_NUMBER 10000"),
     (RUST, "lags: *mut i64", "lags: *mut u64"),
     (RUST, "embedded: *const u64", "embedded: *mut u64"),
     (RUST, "pts: u64,\n        decoding: u64,", "decoding: u64,\n        pts: u64,"),
+    (RUST, "THQ_REFUSED_TOO_WIDE: u64 = 25", "THQ_REFUSED_TOO_WIDE: u64 = 26"),
+    (RUST, "pub const THQ_REFUSED_NO_PTS: u64 = 21;\n", ""),
     (PYTHON, '("indices", POINTER(c_uint8))', '("indices", POINTER(c_uint64))'),
     (PYTHON, '("present", c_uint64),', ""),
+    (PYTHON, '("bytes", c_char_p)', '("bytes", POINTER(c_uint16))'),
+    (PYTHON, "libthoquenry.so.0.1", "libthoquenry.so.1"),
+    (PYTHON, "range(100, 200)", "range(200, 300)"),
     (SOURCE, "&mut [i64]", "&mut [u64]"),
     (SOURCE, "-> u64", "-> u8"),
+    (SOURCE, "    100\n", "    101\n"),
+    (VERSION_SPEC, "numbered 0 1 0", "numbered 1 0 0"),
+    (WORDS, "25\tTOO_WIDE\t-\ta value to be written is too wide for its field\n", ""),
+    (WORDS, "25\tTOO_WIDE\t-\ta value to be written is too wide for its field", "25\tTOO_WIDE\t-\tPTS lies before DTS"),
+    (WORDS, "25\tTOO_WIDE\t-\ta value to be written is too wide for its field", "25\tTOO_WIDE\t-\t"),
+    (WORDS, "14\tTIME_ORDER_BROKEN\trow\trow {}", "14\tTIME_ORDER_BROKEN\trow\trow"),
+    (WORDS, "14\tTIME_ORDER_BROKEN\trow\trow {}", "14\tTIME_ORDER_BROKEN\tentry\tentry {}"),
+    (WORDS, "14\tTIME_ORDER_BROKEN", "18\tTIME_ORDER_BROKEN"),
+    (RUST_REFUSALS, "15 Unpaired", "16 Unpaired"),
+    (RUST_REFUSALS, "23 WrongMarker", "23 WrongMarkers"),
+    (RUST_REFUSALS, "24: PTS lies before DTS", "24: DTS lies before PTS"),
+    (RUST_REFUSALS, "        index: LayerIndex\n", "        index: usize\n"),
+    (PYTHON_REFUSALS, "    NO_PTS = 21\n", ""),
+    (PYTHON_REFUSALS, "WRONG_FLAGS = 7\n    REPEATED_LAYER_INDEX = 8", "WRONG_FLAGS = 8\n    REPEATED_LAYER_INDEX = 7"),
+    (SOURCE_REFUSALS, "    Unpaired(usize),\n", "    Unpaired,\n"),
+    (SOURCE_REFUSALS, "Refusal::UsedTwice(_) => 16", "Refusal::UsedTwice(_) => 18"),
+    (SOURCE_REFUSALS, "    NoRoom,\n", ""),
+    (RUST_PACKAGES[0], 'version = "0.1.0"', 'version = "0.1.1"'),
+    (RUST_PACKAGES[1], 'version = "0.1.0"', 'version = "0.1.1"'),
+    (PYTHON_PACKAGE, '__version__ = "0.1.0"', '__version__ = "0.1.1"'),
 ]
 
 
 def main():
-    texts = {path: (ROOT / path).read_text() for path in (HEADER, RUST, PYTHON)}
+    single = (HEADER, RUST, PYTHON, WORDS, RUST_REFUSALS, PYTHON_REFUSALS, SOURCE_REFUSALS, VERSION_SPEC, *RUST_PACKAGES, PYTHON_PACKAGE)
+    texts = {path: (ROOT / path).read_text() for path in single}
     texts[SOURCE] = "\n".join(path.read_text() for path in sorted((ROOT / SOURCE).glob("*.rt")))
     header = c_functions(texts[HEADER])
-    found = all_differences(texts) + layout_differences(texts[HEADER]) + constant_differences(texts[HEADER], texts[RUST])
+    found = all_differences(texts)
     if len(sys.argv) > 1:
         offered = set(Path(sys.argv[1]).read_text().split())
         if offered != set(header):
@@ -197,7 +350,8 @@ def main():
             fail(f"{path} has no '{old}' to change")
         if not all_differences({**texts, path: texts[path].replace(old, new)}):
             fail(f"{path}: '{new}' for '{old}' was not noticed")
-    print(f"declarations: {len(header)} functions agree in {HEADER}, {RUST}, {PYTHON} and {SOURCE}; {len(CHANGES)} changes noticed")
+    refusals = len(words_of(texts[WORDS]))
+    print(f"declarations: {len(header)} functions, {refusals} refusals and the version agree in C, Rust, Python and the source; {len(CHANGES)} changes noticed")
 
 
 if __name__ == "__main__":

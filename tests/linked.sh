@@ -1,7 +1,8 @@
 #!/bin/sh
-# linked.sh: the tests of the library that others link. The four declarations agree; the archive and the shared object are built; C, Rust
-# and Python call them on document 01's worked examples and run their own examples; and every call is compared with the independent
-# implementation on generated inputs, by a fixed seed. It prints a line for each part and fails if anything fails.
+# linked.sh: the tests of the library that others link. The archive and the shared object are built; the declarations agree; C, Rust
+# and Python call them on document 01's worked examples and run their own examples; a library that is missing is told with its remedy; and
+# every call is compared with the independent implementation on generated inputs, by a fixed seed. It prints a line for each part and fails if
+# anything fails.
 set -eu
 cd "$(dirname "$0")/.."
 log=target/linked/log
@@ -49,28 +50,31 @@ called_from_c() {
     echo "ok, with the archive and with the shared object"
 }
 
+# Each of Rust's tests says how many it has run.
 called_from_rust() {
-    cd rust
-    ../scripts/cargo test
-    ../scripts/cargo run --quiet --example join >../target/linked/rust-example
-    diff ../tests/example.txt ../target/linked/rust-example
+    scripts/cargo test -p thoquenry-sys -p thoquenry -p plain | tee target/linked/rust-tests
+    scripts/cargo run --quiet -p thoquenry --example join >target/linked/rust-example
+    diff tests/example.txt target/linked/rust-example
+    if THOQUENRY_LIB=/nowhere CARGO_TARGET_DIR=target/linked/cargo scripts/cargo check -p thoquenry-sys 2>target/linked/rust-missing; then return 1; fi
+    grep -q 'scripts/build-library' target/linked/rust-missing && grep -q THOQUENRY_LIB target/linked/rust-missing
+    awk '/^test result: ok/ { passed += $4 } END { print passed " tests passed" }' target/linked/rust-tests
 }
 
 called_from_python() {
-    scripts/python-x86 -B python/test_thoquenry.py
-    scripts/python-x86 -B python/example.py >target/linked/python-example
+    export PYTHONPATH=python/src
+    scripts/python-x86 -B python/tests/test_thoquenry.py
+    scripts/python-x86 -B python/examples/join.py >target/linked/python-example
     diff tests/example.txt target/linked/python-example
 }
 
 compared() {
-    cd compare
-    ../scripts/cargo run --quiet --release
+    scripts/cargo run --quiet --profile checked -p compare
 }
 
 part library '^archive' build
 part declarations 'agree' declarations
 part c '^ok' called_from_c
-part rust '^test result: ok. [1-9]' called_from_rust
+part rust '^[1-9][0-9]* tests passed' called_from_rust
 part python '^Ran [1-9]' called_from_python
 part compare '^compare: .* agree' compared
 # How often each call answered each number.

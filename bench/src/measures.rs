@@ -3,7 +3,7 @@
 use crate::inputs;
 use plain::{Reading, Refusal, Times, Units};
 use std::rc::Rc;
-use thoquenry::raw;
+use thoquenry_sys as raw;
 
 /// Makes so many calls, and answers what the last of them answered.
 pub type Side = Box<dyn FnMut(usize) -> u64>;

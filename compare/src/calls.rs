@@ -5,7 +5,7 @@ use crate::memory::{Memory, Placing};
 use plain::{
     Columns, Embedded, Entry, Extension, Hierarchy, Layers, Reading, Record, Refusal, Times,
 };
-use thoquenry::raw;
+use thoquenry_sys as raw;
 
 /// The output buffers of joining.
 #[derive(Clone, Debug, Default, PartialEq, Eq)]

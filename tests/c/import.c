@@ -1,6 +1,7 @@
 /*
  * The library called from C: document 01's worked example of a whole import, the same in steps, and what only C can hand over: unknown
- * readings, columns of unequal length, and rooms that are too small. Ends with status 0 when all is as it should be.
+ * readings, columns of unequal length, rooms that are too small, and null pointers of buffers of no elements. Ends with status 0 when all is as
+ * it should be.
  */
 #include "thoquenry.h"
 
@@ -53,11 +54,11 @@ static void whole_import(void)
 
     /* Refusals first: each leaves the lists as they are, so the acceptance after them finds them so. */
     EXPECT(import(2012, 1, 4, 4, numbers, lags, 5, summary, 4) == THQ_NOT_A_CALL);
-    EXPECT(import(THQ_2009, 2, 4, 3, numbers, lags, 5, summary, 4) == 11);
-    EXPECT(import(THQ_2015, UINT64_MAX, 4, 4, numbers, lags, 5, summary, 4) == 11);
-    EXPECT(import(THQ_2015, 1, 4, 3, numbers, lags, 5, summary, 4) == 13);
-    EXPECT(import(THQ_2015, 1, 4, 4, numbers, lags, 3, summary, 4) == 17);
-    EXPECT(import(THQ_2015, 1, 4, 4, numbers, lags, 5, summary, 2) == 17);
+    EXPECT(import(THQ_2009, 2, 4, 3, numbers, lags, 5, summary, 4) == THQ_REFUSED_NO_SUCH_LAYER);
+    EXPECT(import(THQ_2015, UINT64_MAX, 4, 4, numbers, lags, 5, summary, 4) == THQ_REFUSED_NO_SUCH_LAYER);
+    EXPECT(import(THQ_2015, 1, 4, 3, numbers, lags, 5, summary, 4) == THQ_REFUSED_OUT_OF_RANGE);
+    EXPECT(import(THQ_2015, 1, 4, 4, numbers, lags, 3, summary, 4) == THQ_REFUSED_NO_ROOM);
+    EXPECT(import(THQ_2015, 1, 4, 4, numbers, lags, 5, summary, 2) == THQ_REFUSED_NO_ROOM);
     EXPECT(numbers[0] == 77 && lags[0] == -77 && summary[0] == 77);
 
     uint64_t answer = import(THQ_2015, 1, 4, 4, numbers, lags, 5, summary, 4);
@@ -152,7 +153,36 @@ static void times(void)
     EXPECT(thq_write_times(12000, 12000, 12600, written, sizeof written - 1) == 17);
     EXPECT(thq_write_times(12000, 12000, 12600, written, sizeof written) == 256 * sizeof written);
     EXPECT(memcmp(written, with_tref, sizeof written) == 0);
-    EXPECT(thq_write_times(12000, 12000, UINT64_MAX, written, 0) == 25);
+    EXPECT(thq_write_times(12000, 12000, UINT64_MAX, written, 0) == THQ_REFUSED_TOO_WIDE);
+}
+
+/* A buffer of no elements may be null, in every place of every call. */
+static void null_buffers(void)
+{
+    uint64_t summary[] = {77, 77, 77};
+    uint64_t read[3];
+
+    EXPECT(thq_read_loop(THQ_2015, NULL, 0, NULL, 0) == 0);
+    EXPECT(thq_read_loop(THQ_2015, loop_a, sizeof loop_a, NULL, 0) == THQ_REFUSED_NO_ROOM);
+    EXPECT(thq_write_loop(NULL, 0, NULL, 0) == 0);
+    EXPECT(thq_closure(THQ_2009, NULL, 0, 0, NULL, 0) == THQ_REFUSED_NO_SUCH_LAYER);
+    EXPECT(thq_closure(THQ_2015, loop_a, sizeof loop_a, 1, NULL, 0) == THQ_REFUSED_NO_ROOM);
+    EXPECT(thq_read_times(NULL, 0, NULL, 0) == THQ_REFUSED_NO_ROOM);
+    EXPECT(thq_read_times(NULL, 0, read, 3) == THQ_REFUSED_NOT_VIDEO_HEADER);
+    EXPECT(thq_write_times(9000, 9000, 9000, NULL, 0) == THQ_REFUSED_NO_ROOM);
+    EXPECT(thq_join(1, NULL, 0, 0, NULL, 0, NULL, 0, NULL, 0, NULL, 0, NULL, 0, NULL, 0) == THQ_REFUSED_NO_ROOM);
+    EXPECT(thq_join(1, NULL, 0, 0, NULL, 0, NULL, 0, NULL, 0, NULL, 0, NULL, 0, summary, 3) == 0);
+    EXPECT(summary[0] == 1 && summary[1] == 0 && summary[2] == 0);
+    EXPECT(thq_join(3, NULL, 0, 1, indices, 4, decodings, 4, matches, 4, NULL, 0, NULL, 0, summary, 3) == THQ_REFUSED_NO_ROOM);
+    EXPECT(thq_import(THQ_2015, NULL, 0, 0, NULL, 0, NULL, 0, NULL, 0, NULL, 0, NULL, 0, NULL, 0) == THQ_REFUSED_NO_SUCH_LAYER);
+    EXPECT(thq_import(THQ_2015, loop_a, sizeof loop_a, 1, NULL, 0, NULL, 0, NULL, 0, NULL, 0, NULL, 0, summary, 3) == 0);
+    EXPECT(summary[0] == 3 && summary[1] == 0 && summary[2] == 0);
+}
+
+/* The library that is linked is the header's. */
+static void version(void)
+{
+    EXPECT(thq_version() == THQ_VERSION_NUMBER);
 }
 
 int main(void)
@@ -161,5 +191,7 @@ int main(void)
     in_steps();
     fields();
     times();
+    null_buffers();
+    version();
     return failures != 0;
 }

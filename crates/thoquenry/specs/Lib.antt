@@ -4,4 +4,5 @@ pub mod Times
 pub mod Joins
 pub mod Bounds
 pub mod Rooms
+pub mod Version
 pub mod Examples

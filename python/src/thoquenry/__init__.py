@@ -1,0 +1,279 @@
+"""Thoquenry: a verified importer for layered television recordings, called from Python.
+
+The work is done by libthoquenry, whose every function is proved to meet its contract; include/thoquenry.h documents each. This module
+gives its functions Python's types: an answer is what was asked for, or the exception Refused with its number and place.
+
+The shared object is the file that the environment's THOQUENRY_SO names; or else the one that scripts/build-library has made in the clone that
+this module stands in; or else the one that is installed. It is for x86-64 Linux.
+"""
+
+from array import array
+from ctypes import c_int64, c_uint8, c_uint16, c_uint64
+from dataclasses import dataclass, field
+from enum import IntEnum
+from itertools import islice
+from operator import index
+from struct import Struct
+from typing import Iterable, List, Mapping, Tuple, Union
+
+from ._library import load
+from ._refusals import Number, Refused
+
+__all__ = [
+    "Component", "Entry", "Extension", "Hierarchy", "Number", "Reading", "Refused", "Row", "Times", "Units",
+    "closure", "import_", "join", "read_loop", "read_times", "write_loop", "write_times",
+]
+__version__ = "0.1.0"
+
+_LIBRARY = load()
+
+# The most bytes that a loop has, the least bytes of an entry, the numbers by which an entry crosses to the library, and how long the list of
+# embedded layers is among them.
+_LOOP_BYTES = 1008
+_ENTRY_BYTES = 5
+_ENTRY_NUMBERS = 80
+_EMBEDDED_ROOM = 63
+
+# The first 16 numbers of an entry, and the whole list of embedded layers after them.
+_FIELDS = Struct("=16H")
+_LIST = Struct("=63H")
+
+# More bytes than any header that write_times writes, and the most bytes that read_times looks at: a head of 9 and 255 after it.
+_HEADER_ROOM = 64
+_HEADER_BYTES = 9 + 255
+
+# The most rows that a table has. Each row stands in one unit at most, so the lists of its units need no more places.
+_ROWS = 512
+
+
+class Reading(IntEnum):
+    """The amendments by which a loop is read."""
+
+    EDITION_2009 = 2009
+    EDITION_2015 = 2015
+
+
+@dataclass(frozen=True)
+class Hierarchy:
+    """The hierarchy descriptor. A flag that is False "enhances"."""
+
+    no_view: bool
+    no_temporal: bool
+    no_spatial: bool
+    no_quality: bool
+    hierarchy_type: int
+    layer_index: int
+    tref_present: bool
+    embedded_layer_index: int
+    channel: int
+
+
+@dataclass(frozen=True)
+class Extension:
+    """The HEVC hierarchy extension."""
+
+    dimension_bits: int
+    layer_index: int
+    temporal_id: int
+    nuh_layer_id: int
+    tref_present: bool
+    channel: int
+    embedded: Tuple[int, ...] = ()
+
+
+@dataclass(frozen=True)
+class Entry:
+    """One entry of a loop. Its record is None where the stream is not a layer."""
+
+    stream_type: int
+    elementary_pid: int
+    record: Union[None, Hierarchy, Extension] = None
+
+
+@dataclass(frozen=True)
+class Times:
+    """The times of a PES header, each below 2^33. The decoding time is DTS, or PTS without one; the match time is TREF, or the
+    decoding time without one."""
+
+    pts: int
+    decoding: int
+    matching: int
+
+
+@dataclass(frozen=True)
+class Row:
+    """One component of a table, in arrival order."""
+
+    layer_index: int
+    decoding: int
+    matching: int
+
+
+@dataclass(frozen=True)
+class Component:
+    """One row that stands in a unit: its number in the table, from 0, and its lag, the decoding time minus the target row's, modulo
+    2^33, from -2^32 to 2^32-1."""
+
+    row: int
+    lag: int
+
+
+@dataclass(frozen=True)
+class Units:
+    """The rows of a table joined. The units come in target row order, each with one component for each layer of the closure, in rising
+    layer index; `left_out` counts the rows of closure layers in no unit."""
+
+    closure: Tuple[int, ...]
+    units: List[List[Component]] = field(default_factory=list)
+    left_out: int = 0
+
+
+def _number(value: int, bits: int) -> int:
+    """A number as a C type of this width can hold it. One that is too large becomes the largest, which the library refuses for the same
+    reason: every number that it accepts is smaller. (ctypes would cut it off.) What is no whole number is a TypeError."""
+    number = index(value)
+    if number < 0:
+        raise ValueError(f"{number} is below 0")
+    return min(number, 2**bits - 1)
+
+
+def _column(code: str, kind, values: List[int]):
+    """A C array of these values, and its length."""
+    try:
+        column = array(code, values)
+    except OverflowError:
+        column = array(code, [_number(value, 8 * array(code).itemsize) for value in values])
+    return (kind * len(column)).from_buffer(column), len(column)
+
+
+def _room(kind, length: int):
+    """A C array of so many zeros, and its length."""
+    return (kind * length)(), length
+
+
+def _head(data: bytes, most: int):
+    """The first bytes of any bytes-like object, so many at the most, and how many they are. Of a longer one no more is copied."""
+    if type(data) is not bytes:
+        data = memoryview(data).cast("B")[:most].tobytes()
+    elif len(data) > most:
+        data = data[:most]
+    return data, len(data)
+
+
+def _loop(loop: bytes):
+    """A loop's bytes. One that is too long is refused for its length, so one byte more than the most is enough to know."""
+    return _head(loop, _LOOP_BYTES + 1)
+
+
+def _accepted(answer: int) -> int:
+    """What an accepted call counts."""
+    number = answer % 256
+    if number != 0:
+        raise Refused(number, answer // 256)
+    return answer // 256
+
+
+def _indices(members: int) -> Tuple[int, ...]:
+    """The members of a set, rising."""
+    return tuple(index for index in range(64) if members >> index & 1)
+
+
+def _set(indices: Iterable[int]) -> int:
+    """The set of these layer indices. One above 63 is no layer's, and is left out."""
+    return sum(1 << member for member in set(map(index, indices)) if 0 <= member < 64)
+
+
+def _to_numbers(entry: Entry) -> List[int]:
+    """The entry as its 80 numbers. A list of more than 63 layers has a count that is too wide for its field, by which it is refused."""
+    record = entry.record
+    fields = [entry.stream_type, entry.elementary_pid]
+    if record is None:
+        fields += [0]
+    elif isinstance(record, Hierarchy):
+        fields += [1, record.no_view, record.no_temporal, record.no_spatial, record.no_quality, record.hierarchy_type,
+                   record.layer_index, record.tref_present, record.embedded_layer_index, record.channel]
+    else:
+        fields += [2, 0, 0, 0, 0, 0, record.layer_index, record.tref_present, 0, record.channel, record.dimension_bits,
+                   record.temporal_id, record.nuh_layer_id, len(record.embedded), *record.embedded[:_EMBEDDED_ROOM]]
+    return fields + [0] * (_ENTRY_NUMBERS - len(fields))
+
+
+def _entry(entries, at: int) -> Entry:
+    """The entry of the 80 numbers that the library has written from a byte on."""
+    (stream_type, pid, record, no_view, no_temporal, no_spatial, no_quality, kind, layer, tref, embedded, channel, dimension_bits,
+     temporal_id, nuh_layer_id, count) = _FIELDS.unpack_from(entries, at)
+    if record == 1:
+        return Entry(stream_type, pid, Hierarchy(
+            no_view == 1, no_temporal == 1, no_spatial == 1, no_quality == 1, kind, layer, tref == 1, embedded, channel))
+    if record == 2:
+        listed = _LIST.unpack_from(entries, at + _FIELDS.size)[:count]
+        return Entry(stream_type, pid, Extension(dimension_bits, layer, temporal_id, nuh_layer_id, tref == 1, channel, listed))
+    return Entry(stream_type, pid)
+
+
+def read_loop(reading: Reading, loop: bytes) -> List[Entry]:
+    """Reads a loop: every entry, in loop order. Refusals: 1 to 10."""
+    given, length = _loop(loop)
+    entries, room = _room(c_uint16, min(length, _LOOP_BYTES) // _ENTRY_BYTES * _ENTRY_NUMBERS)
+    count = _accepted(_LIBRARY.thq_read_loop(Reading(reading), given, length, entries, room))
+    return [_entry(entries, at) for at in range(0, count * 2 * _ENTRY_NUMBERS, 2 * _ENTRY_NUMBERS)]
+
+
+def write_loop(entries: Iterable[Entry]) -> bytes:
+    """Writes a loop, by the 2015 reading's rules. Refusals: 25; then 1, 3, 6 to 10."""
+    numbers = [number for entry in entries for number in _to_numbers(entry)]
+    out, room = _room(c_uint8, _LOOP_BYTES)
+    count = _accepted(_LIBRARY.thq_write_loop(*_column("H", c_uint16, numbers), out, room))
+    return bytes(out[:count])
+
+
+def closure(reading: Reading, loop: bytes, target: int) -> Tuple[int, ...]:
+    """The layers that a target rests on, itself included, rising. Refusals: 1 to 12."""
+    members, room = _room(c_uint64, 1)
+    _accepted(_LIBRARY.thq_closure(Reading(reading), *_loop(loop), _number(target, 64), members, room))
+    return _indices(members[0])
+
+
+def read_times(header: bytes) -> Times:
+    """Reads the times of a PES header, which more may follow. Refusals: 20 to 24."""
+    times, room = _room(c_uint64, 3)
+    _accepted(_LIBRARY.thq_read_times(*_head(header, _HEADER_BYTES), times, room))
+    return Times(*times)
+
+
+def write_times(times: Times) -> bytes:
+    """Writes a PES header with these times. Refusals: 25, 24."""
+    out, room = _room(c_uint8, _HEADER_ROOM)
+    values = (_number(value, 64) for value in (times.pts, times.decoding, times.matching))
+    return bytes(out[:_accepted(_LIBRARY.thq_write_times(*values, out, room))])
+
+
+def join(layers: Mapping[int, Iterable[int]], target: int, rows: Iterable[Row]) -> Units:
+    """Joins rows to units, over layers that the caller gives: for each layer index the indices that this layer names. Refusals: 11, 12;
+    then 13 to 16."""
+    embedded = _column("Q", c_uint64, [_set(layers.get(layer, ())) for layer in range(64)])
+    return _joined(_LIBRARY.thq_join, (_set(layers), *embedded, _number(target, 64)), rows)
+
+
+def import_(reading: Reading, loop: bytes, target: int, rows: Iterable[Row]) -> Units:
+    """The whole import: the layers of a loop's bytes, and the rows joined over them. Refusals: 1 to 12; then 13 to 16."""
+    return _joined(_LIBRARY.thq_import, (Reading(reading), *_loop(loop), _number(target, 64)), rows)
+
+
+def _joined(function, first: tuple, rows: Iterable[Row]) -> Units:
+    """The units that a function of the library answers for what comes first among its parameters, and for these rows. A table that is too long
+    is refused for its length, so one row more than the most is enough to know."""
+    table = list(islice(rows, _ROWS + 1))
+    columns = (
+        *_column("B", c_uint8, [row.layer_index for row in table]),
+        *_column("Q", c_uint64, [row.decoding for row in table]),
+        *_column("Q", c_uint64, [row.matching for row in table]),
+    )
+    numbers, room = _room(c_uint64, min(len(table), _ROWS))
+    lags, _ = _room(c_int64, room)
+    summary, summary_room = _room(c_uint64, 3)
+    count = _accepted(function(*first, *columns, numbers, room, lags, room, summary, summary_room))
+    members = _indices(summary[0])
+    components = [Component(row, lag) for row, lag in zip(numbers[:count], lags[:count])]
+    units = [components[k:k + len(members)] for k in range(0, count, len(members))]
+    return Units(members, units, summary[2])

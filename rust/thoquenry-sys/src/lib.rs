@@ -1,0 +1,136 @@
+//! The functions of `include/thoquenry.h` as they are. The header documents each: its answer, its refusals and the layout of its buffers.
+//!
+//! Each function takes whatever numbers it is handed. What a caller owes is what C cannot check: behind a pointer stand as many elements as
+//! the length after it says, which nothing else writes during the call. The pointer of a buffer of no elements may be null.
+//!
+//! The crate `thoquenry` has safe functions over these.
+
+#![no_std]
+
+#[cfg(not(all(target_arch = "x86_64", target_os = "linux")))]
+compile_error!("libthoquenry is for x86-64 Linux");
+
+/// The version of the header that these are the declarations of; [`thq_version`] gives the library's.
+pub const THQ_VERSION_NUMBER: u64 = 100;
+
+/// The readings.
+pub const THQ_2009: u64 = 2009;
+pub const THQ_2015: u64 = 2015;
+
+/// The refusals' numbers, each by its name: the remainder of an answer by 256. The crate `thoquenry` has their words.
+pub const THQ_REFUSED_LOOP_TOO_LONG: u64 = 1;
+pub const THQ_REFUSED_DOES_NOT_FIT: u64 = 2;
+pub const THQ_REFUSED_REPEATED_PID: u64 = 3;
+pub const THQ_REFUSED_WRONG_LENGTH: u64 = 4;
+pub const THQ_REFUSED_SECOND_RECORD: u64 = 5;
+pub const THQ_REFUSED_TYPE_NOT_ALLOWED: u64 = 6;
+pub const THQ_REFUSED_WRONG_FLAGS: u64 = 7;
+pub const THQ_REFUSED_REPEATED_LAYER_INDEX: u64 = 8;
+pub const THQ_REFUSED_WRONG_EMBEDDED_INDEX: u64 = 9;
+pub const THQ_REFUSED_TOO_MANY_EMBEDDED: u64 = 10;
+pub const THQ_REFUSED_NO_SUCH_LAYER: u64 = 11;
+pub const THQ_REFUSED_EMBEDDED_LAYER_ABSENT: u64 = 12;
+pub const THQ_REFUSED_OUT_OF_RANGE: u64 = 13;
+pub const THQ_REFUSED_TIME_ORDER_BROKEN: u64 = 14;
+pub const THQ_REFUSED_UNPAIRED: u64 = 15;
+pub const THQ_REFUSED_USED_TWICE: u64 = 16;
+pub const THQ_REFUSED_NO_ROOM: u64 = 17;
+pub const THQ_REFUSED_NOT_VIDEO_HEADER: u64 = 20;
+pub const THQ_REFUSED_NO_PTS: u64 = 21;
+pub const THQ_REFUSED_FIELDS_DO_NOT_FIT: u64 = 22;
+pub const THQ_REFUSED_WRONG_MARKER: u64 = 23;
+pub const THQ_REFUSED_PTS_BEFORE_DTS: u64 = 24;
+pub const THQ_REFUSED_TOO_WIDE: u64 = 25;
+
+/// The number of the refusal of a reading that is neither.
+pub const THQ_NOT_A_CALL: u64 = 255;
+
+/// What number 2 of an entry says.
+pub const THQ_NO_RECORD: u16 = 0;
+pub const THQ_HIERARCHY: u16 = 1;
+pub const THQ_EXTENSION: u16 = 2;
+
+/// The numbers that one entry takes.
+pub const THQ_ENTRY_NUMBERS: usize = 80;
+
+#[link(name = "thoquenry", kind = "static")]
+extern "C" {
+    pub fn thq_version() -> u64;
+
+    pub fn thq_read_loop(
+        reading: u64,
+        bytes: *const u8,
+        bytes_length: usize,
+        entries: *mut u16,
+        entries_length: usize,
+    ) -> u64;
+
+    pub fn thq_write_loop(
+        entries: *const u16,
+        entries_length: usize,
+        out: *mut u8,
+        out_length: usize,
+    ) -> u64;
+
+    pub fn thq_closure(
+        reading: u64,
+        bytes: *const u8,
+        bytes_length: usize,
+        target: u64,
+        set: *mut u64,
+        set_length: usize,
+    ) -> u64;
+
+    pub fn thq_read_times(
+        bytes: *const u8,
+        bytes_length: usize,
+        times: *mut u64,
+        times_length: usize,
+    ) -> u64;
+
+    pub fn thq_write_times(
+        pts: u64,
+        decoding: u64,
+        matching: u64,
+        out: *mut u8,
+        out_length: usize,
+    ) -> u64;
+
+    pub fn thq_join(
+        present: u64,
+        embedded: *const u64,
+        embedded_length: usize,
+        target: u64,
+        indices: *const u8,
+        indices_length: usize,
+        decodings: *const u64,
+        decodings_length: usize,
+        matches: *const u64,
+        matches_length: usize,
+        numbers: *mut u64,
+        numbers_length: usize,
+        lags: *mut i64,
+        lags_length: usize,
+        summary: *mut u64,
+        summary_length: usize,
+    ) -> u64;
+
+    pub fn thq_import(
+        reading: u64,
+        bytes: *const u8,
+        bytes_length: usize,
+        target: u64,
+        indices: *const u8,
+        indices_length: usize,
+        decodings: *const u64,
+        decodings_length: usize,
+        matches: *const u64,
+        matches_length: usize,
+        numbers: *mut u64,
+        numbers_length: usize,
+        lags: *mut i64,
+        lags_length: usize,
+        summary: *mut u64,
+        summary_length: usize,
+    ) -> u64;
+}
