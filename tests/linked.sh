@@ -1,11 +1,12 @@
 #!/bin/sh
 # linked.sh: the tests of the library that others link. The archive and the shared object are built; the declarations agree; C, Rust
-# and Python call them on document 01's worked examples and run their own examples; a library that is missing is told with its remedy; and
-# every call is compared with the independent implementation on generated inputs, by a fixed seed. It prints a line for each part and fails if
-# anything fails.
+# and Python call them on document 01's worked examples and run their own examples, those of docs/USING.md among them; a library that is missing is
+# told with its remedy; and every call is compared with the independent implementation on generated inputs, by a fixed seed. It prints a line
+# for each part and fails if anything fails.
 set -eu
 cd "$(dirname "$0")/.."
 log=target/linked/log
+export PYTHONPATH=python/src
 mkdir -p target/linked
 
 # part NAME PATTERN COMMAND..: runs a part of the tests and shows the last line that has the pattern; a part that prints none has failed.
@@ -61,10 +62,17 @@ called_from_rust() {
 }
 
 called_from_python() {
-    export PYTHONPATH=python/src
     scripts/python-x86 -B python/tests/test_thoquenry.py
     scripts/python-x86 -B python/examples/join.py >target/linked/python-example
     diff tests/example.txt target/linked/python-example
+}
+
+# The page of examples; its Rust is among Rust's tests.
+as_the_page_says() {
+    scripts/python-x86 -B tests/using.py target/linked/using.c
+    x86_64-linux-gnu-gcc -std=c11 -O2 -Wall -Wextra -Werror -pedantic -Iinclude target/linked/using.c target/lib/libthoquenry.a -o target/linked/using
+    scripts/x86 target/linked/using
+    echo "ok, the examples of docs/USING.md"
 }
 
 compared() {
@@ -76,6 +84,7 @@ part declarations 'agree' declarations
 part c '^ok' called_from_c
 part rust '^[1-9][0-9]* tests passed' called_from_rust
 part python '^Ran [1-9]' called_from_python
+part using '^ok' as_the_page_says
 part compare '^compare: .* agree' compared
 # How often each call answered each number.
 sed '$d' "$log"

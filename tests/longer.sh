@@ -1,9 +1,9 @@
 #!/bin/sh
 # longer.sh [COUNT]: the longer run, by hand. The linked tests first; then every call is compared with the independent implementation on
 # COUNT generated inputs (500,000 where it is not said) for each of several seeds, and again with each buffer beside pages that cannot be
-# touched; under valgrind too where the machine is x86-64; and the parts that Debian has a peer for are compared with that peer: libbitstream-dev
-# (PTS, DTS, the hierarchy descriptor) and libdvbpsi-dev (the hierarchy descriptor). It prints what each part counts and fails if
-# anything fails.
+# touched; under valgrind too where the machine is x86-64; the parts that Debian has a peer for are compared with that peer: libbitstream-dev
+# (PTS, DTS, the hierarchy descriptor) and libdvbpsi-dev (the hierarchy descriptor); and the packages are tried (tests/packages.sh), and how fast
+# Python calls. It prints what each part counts and fails if anything fails.
 set -eu
 cd "$(dirname "$0")/.."
 count=${1:-500000}
@@ -17,7 +17,7 @@ scripts/install-tools libbitstream-dev libdvbpsi-dev gcc libc6-dev
 out=$PWD/target/longer
 mkdir -p "$out"
 
-compare=$PWD/target/cargo/x86_64-unknown-linux-gnu/release/compare
+compare=$PWD/target/cargo/x86_64-unknown-linux-gnu/checked/compare
 for seed in $seeds; do
     echo "longer: compare, seed $seed, $count calls"
     scripts/x86 "$compare" "$seed" "$count"
@@ -33,9 +33,13 @@ if [ "$(uname -m)" = x86_64 ]; then
     scripts/install-tools valgrind
     checked="valgrind --quiet --error-exitcode=1"
     echo "longer: Rust's tests under valgrind"
-    (cd rust && THOQUENRY_RUNNER=$checked ../scripts/cargo test --quiet --tests)
+    THOQUENRY_RUNNER=$checked scripts/cargo test --quiet --tests -p thoquenry
+    echo "longer: C's tests under valgrind"
+    LD_LIBRARY_PATH=$PWD/target/lib $checked target/linked/import
     echo "longer: compare under valgrind, seed 8, $few calls"
     $checked "$compare" 8 "$few"
+    said=$(PYTHONPATH=python/src python3 -B python/tests/speed.py) || { echo "longer: from Python, $said: TOO LONG" >&2; exit 1; }
+    echo "longer: from Python, $said"
 else
     echo "longer: valgrind left out: this machine is no x86-64"
 fi
@@ -61,4 +65,5 @@ peer() {
 peer bitstream times
 peer bitstream hierarchy
 peer dvbpsi hierarchy
+sh tests/packages.sh
 echo "longer: all passed"

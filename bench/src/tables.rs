@@ -82,7 +82,7 @@ fn beside(now: f64, before: Option<f64>) -> String {
 
 pub fn instructions(measures: &[Measure], counts: &Counts) {
     println!("## Instructions\n");
-    println!("Executed x86-64 instructions of one call, the same in every run. \"Baseline\" is the library of the commit that `bench/baseline` came with.\n");
+    println!("Executed x86-64 instructions of one call, the same in every run of one build. \"Baseline\" is the library of the commit that `bench/baseline` came with.\n");
     println!(
         "| Call and input | library | plain | library / plain | baseline | library / baseline |"
     );

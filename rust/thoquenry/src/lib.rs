@@ -305,3 +305,8 @@ fn joined(rows: &[Row], call: impl FnOnce(&Table, &mut Lists) -> u64) -> Result<
         left_out: left_out as usize,
     })
 }
+
+/// The code of docs/USING.md is run as documentation.
+#[cfg(doctest)]
+#[doc = include_str!("../../../docs/USING.md")]
+struct Using;

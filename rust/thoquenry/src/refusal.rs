@@ -57,7 +57,6 @@ macro_rules! refusals {
         impl Refusal {
             /// The refusal of this number at this place, or nothing where document 01 lists no such number.
             pub fn of(number: u8, place: usize) -> Option<Refusal> {
-                let _ = place;
                 match number {
                     $($number => Some(Refusal::$name $({ $place: <$kind as Place>::of(place)? })?),)*
                     _ => None,

@@ -1,0 +1,22 @@
+"""The code of docs/USING.md runs: its Python here, each block by itself; its C is written to the file named, to be compiled. (Its Rust is run
+by cargo test, as the documentation that it is.)
+
+    python3 tests/using.py FILE.c
+"""
+
+import re
+import sys
+from pathlib import Path
+
+page = (Path(__file__).resolve().parent.parent / "docs" / "USING.md").read_text()
+
+
+def blocks(language):
+    return re.findall(rf"^```{language}\n(.*?)^```$", page, flags=re.S | re.M)
+
+
+(in_c,) = blocks("c")
+Path(sys.argv[1]).write_text(in_c)
+for number, block in enumerate(blocks("python")):
+    exec(compile(block, f"docs/USING.md, block {number} of Python", "exec"), {})
+print(f"using: {len(blocks('python'))} blocks of Python run")
