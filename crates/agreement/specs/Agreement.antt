@@ -20,7 +20,7 @@ use Rattle.es_loop.specs.Entries.{streamOf}
 use Rattle.es_loop.specs.Reading.{accepted, loopRead}
 use Rattle.es_loop.specs.Meaning.{too-long, refuses}
 use Rattle.es_loop.specs.Meaning as Loop
-use Rattle.es_loop.specs.Meant.{answer-meant, answer-only}
+use Rattle.es_loop.proofs.Meant.{answer-meant, answer-only}
 use Rattle.closure.specs.declared.Layers.{Layers}
 use Rattle.joining.specs.declared.answer.Joined.{Joined}
 use Rattle.joining.specs.Table.{Table}

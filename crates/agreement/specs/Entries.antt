@@ -16,21 +16,22 @@ use Rattle.vocabulary.specs.declared.LayerIndex.{LayerIndex}
 use Rattle.vocabulary.specs.declared.stream_types.Reading.{Reading}
 use Rattle.vocabulary.specs.declared.stream_types.Reading.the-variants.{Edition2009, Edition2015}
 use Rattle.vocabulary.specs.StreamTypes.{known}
-use Rattle.descriptors.specs.declared.records.HierarchyRecord.{HierarchyRecord}
-use Rattle.descriptors.specs.declared.records.Record.{Record}
-use Rattle.descriptors.specs.declared.records.Record.the-variants.{NoRecord, Hierarchy, Extension}
+use Rattle.descriptors.specs.declared.hierarchy.HierarchyRecord.{HierarchyRecord}
+use Rattle.descriptors.specs.declared.«record».Record.{Record}
+use Rattle.descriptors.specs.declared.«record».Record.the-variants.{NoRecord, Hierarchy, Extension}
 use Rattle.descriptors.specs.declared.looking.Seen.{Seen}
-use Rattle.descriptors.specs.Records.{noLayer}
+use Rattle.descriptors.specs.Extension.{noLayer}
 use Rattle.descriptors.specs.Looking.{Kind, does-not-fit, skipped, wrong-length, hierarchy, extension, kindsOf, Held, heldIn, isWrongLength, firstRecord, firstLayers, seenOf, nothingSeen, is-wrong-length}
-use Rattle.judging.specs.Meaning.{TypeNotAllowed, hierarchy-type, WrongFlags, type-9, more-than-one, Flag, view, temporal, spatial, quality, flag, WrongEmbedded, not-below, listed-twice, TooManyEmbedded, refusal-6, refusal-10}
-use Rattle.judging.specs.Judging.{indexOf}
+use Rattle.judging.specs.Meaning.{TypeNotAllowed, hierarchy-type, WrongFlags, type-9, more-than-one, Flag, view, temporal, spatial, quality, flag, WrongEmbedded, not-below, listed-twice, TooManyEmbedded}
+use Rattle.judging.proofs.Meant.{refusal-6, refusal-10}
+use Rattle.descriptors.specs.Records.{indexOf}
 use Rattle.es_loop.specs.declared.entries.Entry.{Entry}
 use Rattle.es_loop.specs.declared.reader.Outcome.the-variants.{Accepted}
 use Rattle.es_loop.specs.declared.reader.LoopRead.{LoopRead}
 use Rattle.es_loop.specs.Entries.{streamType, elementaryPid, streamOf, entryOf}
 use Rattle.es_loop.specs.Reading.{accepted, loopRead}
 use Rattle.es_loop.specs.Meaning.{KnownAt, LayerAt, Condition, entry-unfit, descriptor-unfit, pid-seen, length-wrong, two-records, type-wrong, flags-wrong, index-held, embedded-wrong, embedded-many, Answers, too-long, refuses, accepts}
-use Rattle.es_loop.specs.Meant.{answer-meant, answer-only}
+use Rattle.es_loop.proofs.Meant.{answer-meant, answer-only}
 use Rattle.loop_layers.specs.Closures.{entriesRead}
 use Rattle.loop_layers.specs.Meant.{entries-read}
 use Rattle.agreement.specs.Records.{viewUnread, recordIn2009, withRecord, entryIn2009, known-later}

@@ -18,11 +18,11 @@ use Rattle.sets.specs.Sets.{has}
 use Rattle.vocabulary.specs.declared.LayerIndex.{LayerIndex}
 use Rattle.vocabulary.specs.declared.stream_types.Reading.the-variants.{Edition2009, Edition2015}
 use Rattle.vocabulary.specs.StreamTypes.{known}
-use Rattle.descriptors.specs.declared.records.Record.{Record}
-use Rattle.descriptors.specs.declared.records.Record.the-variants.{NoRecord, Hierarchy, Extension}
-use Rattle.descriptors.specs.Records.{noLayer}
-use Rattle.judging.specs.Judging.{indexOf}
-use Rattle.judging.specs.Judging as Judging
+use Rattle.descriptors.specs.declared.«record».Record.{Record}
+use Rattle.descriptors.specs.declared.«record».Record.the-variants.{NoRecord, Hierarchy, Extension}
+use Rattle.descriptors.specs.Extension.{noLayer}
+use Rattle.descriptors.specs.Records.{indexOf}
+use Rattle.descriptors.specs.Records as Records
 use Rattle.es_loop.specs.declared.entries.Entry.{Entry}
 use Rattle.closure.specs.Closures.{isLayer}
 use Rattle.loop_layers.specs.Layers.{embeddedIn, layersOf}
@@ -67,20 +67,20 @@ types-2009 t = (to, from)
 
 -- an entry that is a layer, and the same layer in the 2009 reading
 record Alike (e early : Entry) : Type 0 where
-  layer : Judging.isLayer (e .«record») ≡ true
-  still : Judging.isLayer (early .«record») ≡ true
+  layer : Records.isLayer (e .«record») ≡ true
+  still : Records.isLayer (early .«record») ≡ true
   index : indexOf (early .«record») ≡ indexOf (e .«record»)
   names : embeddedIn early ≡ embeddedIn e
 
 module _ (e : Entry) where
   -- of a 2009 stream type
-  by-record : (r : Record) (layers : List LayerIndex) → Judging.isLayer r ≡ true → isExtension r ≡ false
+  by-record : (r : Record) (layers : List LayerIndex) → Records.isLayer r ≡ true → isExtension r ≡ false
       → Alike (withRecord e r layers) (withRecord e (recordIn2009 r) layers)
   by-record NoRecord layers l x = absurd (false≢true l)
   by-record (Hierarchy h) layers l x = record { layer = refl; still = refl; index = refl; names = refl }
   by-record (Extension y) layers l x = absurd (true≢false x)
 
-  was-layer : (r : Record) → Judging.isLayer (recordIn2009 r) ≡ true → (Judging.isLayer r ≡ true) × (isExtension r ≡ false)
+  was-layer : (r : Record) → Records.isLayer (recordIn2009 r) ≡ true → (Records.isLayer r ≡ true) × (isExtension r ≡ false)
   was-layer NoRecord l = absurd (false≢true l)
   was-layer (Hierarchy h) l = (refl, refl)
   was-layer (Extension x) l = absurd (false≢true l)
@@ -89,24 +89,24 @@ module _ (e : Entry) where
   in-2009 p =
       ap (λ (b : Bool). cond b (withRecord e (recordIn2009 (e .«record»)) (e .embedded)) (withRecord e NoRecord (padTo 63 noLayer []))) p
 
-  stays : known Edition2009 (e .«stream_type») ≡ true → Judging.isLayer (e .«record») ≡ true → isExtension (e .«record») ≡ false → Alike e (entryIn2009 e)
+  stays : known Edition2009 (e .«stream_type») ≡ true → Records.isLayer (e .«record») ≡ true → isExtension (e .«record») ≡ false → Alike e (entryIn2009 e)
   stays p l x = subst (Alike e) (sym (in-2009 p)) (by-record (e .«record») (e .embedded) l x)
 
   record Stayed : Type 0 where
     type : known Edition2009 (e .«stream_type») ≡ true
     alike : Alike e (entryIn2009 e)
 
-  stayed : Judging.isLayer ((entryIn2009 e) .«record») ≡ true → Stayed
+  stayed : Records.isLayer ((entryIn2009 e) .«record») ≡ true → Stayed
   stayed l = go (known Edition2009 (e .«stream_type»)) refl
     where
       go : (b : Bool) → known Edition2009 (e .«stream_type») ≡ b → Stayed
       go true p =
-          let w = was-layer (e .«record») (sym (ap (λ (x : Entry). Judging.isLayer (x .«record»)) (in-2009 p)) ∙ l) in
+          let w = was-layer (e .«record») (sym (ap (λ (x : Entry). Records.isLayer (x .«record»)) (in-2009 p)) ∙ l) in
           record { type = p; alike = stays p (w .0) (w .1) }
       go false p =
           absurd
           (false≢true
-          (sym (ap (λ (b : Bool). Judging.isLayer ((cond b (withRecord e (recordIn2009 (e .«record»)) (e .embedded)) (withRecord e NoRecord (padTo 63 noLayer []))) .«record»)) p) ∙ l))
+          (sym (ap (λ (b : Bool). Records.isLayer ((cond b (withRecord e (recordIn2009 (e .«record»)) (e .embedded)) (withRecord e NoRecord (padTo 63 noLayer []))) .«record»)) p) ∙ l))
 
 -- ---- the layers of a loop in both readings
 
@@ -138,7 +138,7 @@ module _ (bytes : List ℕ) (is-accepted : IsAccepted Edition2015 bytes) where
   was : {k i : ℕ} {early : Entry} → LayerAt entries2009 k i early → Was k i early
   was {k} {i} {early} l =
       let w = nth-of-map entryIn2009 entries2015 (subst (λ (es : List Entry). Nth es k early) (entries-in-2009 bytes is-accepted) (l .entry)) in
-      let s = stayed (w .0) (ap (λ (x : Entry). Judging.isLayer (x .«record»)) (w .2) ∙ l .layer) in
+      let s = stayed (w .0) (ap (λ (x : Entry). Records.isLayer (x .«record»)) (w .2) ∙ l .layer) in
       record {
         entry = w .0;
         layer = record {

@@ -20,8 +20,8 @@ use Rattle.es_loop.specs.declared.entries.Entry.{Entry}
 use Rattle.es_loop.specs.declared.reader.Outcome.the-variants.{Accepted as LoopAccepted}
 use Rattle.es_loop.specs.Entries.{blankEntry}
 use Rattle.es_loop.specs.Reading.{loopRead}
-use Rattle.loop_writer.specs.declared.Written.the-variants as Loop
-use Rattle.loop_layout.specs.Layout.{loopBytes}
+use Rattle.loop_writer.specs.declared.writer.Written.the-variants as Loop
+use Rattle.loop_writer.specs.Layout.{loopBytes}
 use Rattle.loop_writer.specs.Writing.{answer}
 use Rattle.loop_round_trip.specs.ReadBack.{normal, Typed}
 use Rattle.loop_round_trip.specs.RoundTrip as loops

@@ -12,7 +12,7 @@ use Rattle.es_loop.specs.declared.reader.Outcome.the-variants as Outcome
 use Rattle.es_loop.specs.declared.reader.LoopRead.{LoopRead}
 use Rattle.es_loop.specs.Reading.{loopRead}
 use Rattle.es_loop.specs.Meaning as Loop
-use Rattle.es_loop.specs.Meant as loop
+use Rattle.es_loop.proofs.Meant as loop
 use Rattle.closure.specs.declared.Layers.{Layers}
 use Rattle.closure.specs.declared.Closure.{Closure}
 use Rattle.closure.specs.declared.Closure.the-variants as Closure

@@ -8,12 +8,12 @@ use mathlib.Core.Path.{_≡_, refl, sym, _∙_, ap}
 use lib.ListN.{length, take}
 use Rattle.vocabulary.specs.declared.refusal.Refusal.{Refusal}
 use Rattle.es_loop.specs.declared.entries.Entry.{Entry}
-use Rattle.loop_writer.specs.declared.Written.{Written}
-use Rattle.loop_writer.specs.declared.Written.the-variants as Written
-use Rattle.loop_layout.specs.Layout.{loopBytes}
+use Rattle.loop_writer.specs.declared.writer.Written.{Written}
+use Rattle.loop_writer.specs.declared.writer.Written.the-variants as Written
+use Rattle.loop_writer.specs.Layout.{loopBytes}
 use Rattle.loop_writer.specs.Writing.{answer, contentAfter, content}
 use Rattle.loop_writer.specs.Meaning as Loop
-use Rattle.loop_writer.specs.Meant as loop
+use Rattle.loop_writer.proofs.Meant as loop
 use Rattle.pes_writer.specs.declared.Written.{Written as TimesWritten}
 use Rattle.pes_writer.specs.declared.Written.the-variants as TimesWritten
 use Rattle.pes_writer.specs.Writing.{headerOf, writeOf, bufferOf}

@@ -7,12 +7,13 @@ use native.Mathlib.Omega.{arith}
 use lib.Dec.{eqb}
 use lib.ListN.{getD}
 use Rattle.syntax.specs.Table.{AreBytes, readTable}
+use Rattle.syntax.specs.Named.{byNames}
 use Rattle.syntax.proofs.Equations.{Each, each}
 use Rattle.vocabulary.specs.declared.stream_types.Reading.{Reading}
 use Rattle.vocabulary.specs.declared.stream_types.Reading.the-variants.{Edition2009, Edition2015}
-use Rattle.descriptors.specs.declared.records.HierarchyRecord.{HierarchyRecord}
-use Rattle.descriptors.specs.Tables.{afterNoView, hierarchyDescriptor, extensionHead}
-use Rattle.descriptors.specs.Records.{hierarchyFrom, hierarchyOf, extensionFrom, extensionOf, layerIndexOf, firstBit}
+use Rattle.descriptors.specs.declared.hierarchy.HierarchyRecord.{HierarchyRecord}
+use Rattle.descriptors.specs.Hierarchy.{afterNoView, hierarchyDescriptor, hierarchyFrom, hierarchyOf, firstBit}
+use Rattle.descriptors.specs.Extension.{extensionHead, extensionFrom, extensionOf, layerIndexOf}
 
 pub layer-byte : (byte : ℕ) → record { 0 = byte % 64 } ≡ layerIndexOf byte
 layer-byte byte = ap (λ (n : ℕ). record { 0 = n }) (omega arith)
@@ -44,9 +45,9 @@ module _ (l : List ℕ) (b : AreBytes l) where
       }
       ≡ hierarchyOf reading l
   hierarchy-bytes Edition2009 =
-      ap (λ (vs : List ℕ). hierarchyFrom (1 ∷ vs)) (sym (each {xs = readTable (hierarchyDescriptor Edition2009) l} {ys = afterFirst} (omega (arith, b 0, b 1, b 2, b 3))))
+      ap (λ (vs : List ℕ). hierarchyFrom (("no_view_scalability_flag", 1) ∷ byNames (hierarchyDescriptor Edition2009) vs)) (sym (each {xs = readTable (hierarchyDescriptor Edition2009) l} {ys = afterFirst} (omega (arith, b 0, b 1, b 2, b 3))))
   hierarchy-bytes Edition2015 =
-      ap hierarchyFrom (sym (each {xs = readTable (hierarchyDescriptor Edition2015) l} {ys = (getD l 0 0 / 128) ∷ afterFirst} (omega (arith, b 0, b 1, b 2, b 3))))
+      ap (λ (vs : List ℕ). hierarchyFrom (byNames (hierarchyDescriptor Edition2015) vs)) (sym (each {xs = readTable (hierarchyDescriptor Edition2015) l} {ys = (getD l 0 0 / 128) ∷ afterFirst} (omega (arith, b 0, b 1, b 2, b 3))))
 
   pub extension-bytes :
       record {
@@ -60,7 +61,7 @@ module _ (l : List ℕ) (b : AreBytes l) where
       }
       ≡ extensionOf l
   extension-bytes =
-      ap extensionFrom
+      ap (λ (vs : List ℕ). extensionFrom (byNames extensionHead vs))
       (sym
       (each
       {xs = readTable extensionHead l}

@@ -1,3 +1,6 @@
 pub mod Bytes
-pub mod Cases
+pub mod Payloads
+pub mod Sizes
+pub mod Naming
 pub mod Walk
+pub mod Cases

@@ -15,9 +15,10 @@ use Rattle.syntax.proofs.Number.{drop-bytes}
 use Rattle.vocabulary.specs.declared.stream_types.Reading.{Reading}
 use Rattle.vocabulary.specs.declared.stream_types.Reading.the-variants.{Edition2009, Edition2015}
 use Rattle.descriptors.specs.declared.looking.Seen.{Seen}
-use Rattle.descriptors.specs.Tables.{descriptorHead}
-use Rattle.descriptors.specs.Records.{hierarchyOf, extensionOf, embeddedOf}
-use Rattle.descriptors.specs.Looking.{Kind, does-not-fit, skipped, wrong-length, hierarchy, extension, isUnfit, kindOf, kindsOf, payloadKind, tag4Kind, tag63Kind, extensionKind, descriptorTag, descriptorLength, seenOf}
+use Rattle.descriptors.specs.Head.{descriptorHead, descriptorTag, descriptorLength}
+use Rattle.descriptors.specs.Hierarchy.{hierarchyOf}
+use Rattle.descriptors.specs.Extension.{extensionOf, embeddedOf}
+use Rattle.descriptors.specs.Looking.{Kind, does-not-fit, skipped, wrong-length, hierarchy, extension, isUnfit, kindOf, kindsOf, payloadKind, tag4Kind, tag63Kind, extensionKind, seenOf}
 use Rattle.descriptors.specs.Steps.{unfitSeen, withLook, withKind, lookedOf, seenAfter}
 
 -- the head's two values at bytes

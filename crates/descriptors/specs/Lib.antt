@@ -1,4 +1,6 @@
-pub mod Tables
+pub mod Head
+pub mod Hierarchy
+pub mod Extension
 pub mod Records
 pub mod Looking
 pub mod Steps

@@ -15,16 +15,17 @@ use Rattle.syntax.specs.Table.{readTable}
 use Rattle.vocabulary.specs.declared.LayerIndex.{LayerIndex}
 use Rattle.vocabulary.specs.declared.stream_types.Reading.{Reading}
 use Rattle.vocabulary.specs.declared.stream_types.Reading.the-variants.{Edition2009, Edition2015}
-use Rattle.descriptors.specs.declared.records.HierarchyRecord.{HierarchyRecord}
-use Rattle.descriptors.specs.declared.records.ExtensionRecord.{ExtensionRecord}
-use Rattle.descriptors.specs.declared.records.Record.{Record}
-use Rattle.descriptors.specs.declared.records.Record.the-variants.{NoRecord, Hierarchy, Extension}
+use Rattle.descriptors.specs.declared.hierarchy.HierarchyRecord.{HierarchyRecord}
+use Rattle.descriptors.specs.declared.extension.ExtensionRecord.{ExtensionRecord}
+use Rattle.descriptors.specs.declared.«record».Record.{Record}
+use Rattle.descriptors.specs.declared.«record».Record.the-variants.{NoRecord, Hierarchy, Extension}
 use Rattle.descriptors.specs.declared.looking.Look.{Look}
 use Rattle.descriptors.specs.declared.looking.Look.the-variants.{Skipped, WrongLength, Hierarchy as LookHierarchy, Extension as LookExtension}
 use Rattle.descriptors.specs.declared.looking.Looked.{Looked}
 use Rattle.descriptors.specs.declared.looking.Seen.{Seen}
-use Rattle.descriptors.specs.Tables.{descriptorHead}
-use Rattle.descriptors.specs.Records.{noLayer, hierarchyOf, extensionOf, embeddedOf}
+use Rattle.descriptors.specs.Head.{descriptorHead}
+use Rattle.descriptors.specs.Extension.{noLayer, extensionOf, embeddedOf}
+use Rattle.descriptors.specs.Hierarchy.{hierarchyOf}
 
 -- the kinds of descriptor
 pub data Kind : Type 0 where

@@ -1,71 +1,68 @@
--- A record out of the bytes of its descriptor: the values of the syntax table, each in the field of its name.
+-- What both descriptors share: whether a stream with this record is a layer, the layer's index, the layers that it names, and the tables
+-- that write it. A record's embedded layers stand beside it, in an array: of a hierarchy record nothing there counts.
 -- Assumes nothing.
-use Prim.Native.Nat.{ℕ, _/_}
-use mathlib.Core.Bool.{Bool, true}
+use Prim.Native.Nat.{ℕ}
+use mathlib.Core.Bool.{Bool, true, false, cond}
 use mathlib.Core.List.{List, [], _∷_, map}
 use lib.Dec.{eqb}
-use lib.ListN.{getD, take, drop}
-use Rattle.syntax.specs.Table.{readTable}
+use lib.ListN.{take}
+use Rattle.sets.specs.Sets.{added}
+use Rattle.syntax.specs.Filled.{Filled}
+use Rattle.vocabulary.specs.declared.HierarchyChannel.{HierarchyChannel}
 use Rattle.vocabulary.specs.declared.LayerIndex.{LayerIndex}
-use Rattle.vocabulary.specs.declared.stream_types.Reading.{Reading}
-use Rattle.vocabulary.specs.declared.stream_types.Reading.the-variants.{Edition2009, Edition2015}
-use Rattle.descriptors.specs.declared.records.HierarchyRecord.{HierarchyRecord}
-use Rattle.descriptors.specs.declared.records.ExtensionRecord.{ExtensionRecord}
-use Rattle.descriptors.specs.Tables.{hierarchyDescriptor, extensionHead, embeddedLayer}
+use Rattle.descriptors.specs.declared.hierarchy.HierarchyRecord.{HierarchyRecord}
+use Rattle.descriptors.specs.declared.«record».Record.{Record}
+use Rattle.descriptors.specs.declared.«record».Record.the-variants.{NoRecord, Hierarchy, Extension}
+use Rattle.descriptors.specs.Hierarchy.{hierarchyTables}
+use Rattle.descriptors.specs.Extension.{extensionTables}
 
--- the layer index that stands in an array's blank places
-abbrev pub noLayer : LayerIndex
-noLayer = record { 0 = 0 }
+-- LAYERS. A stream without either descriptor is not a layer.
+abbrev pub isLayer : Record → Bool
+isLayer NoRecord = false
+isLayer (Hierarchy h) = true
+isLayer (Extension x) = true
 
--- the values of Table 2-49 in its order; the 2009 reading has no no_view and answers 1
-abbrev pub hierarchyValues : Reading → List ℕ → List ℕ
-hierarchyValues Edition2009 payload = 1 ∷ readTable (hierarchyDescriptor Edition2009) payload
-hierarchyValues Edition2015 payload = readTable (hierarchyDescriptor Edition2015) payload
+-- hierarchy_layer_index as a number, and 0 where there is no layer
+abbrev pub indexOf : Record → ℕ
+indexOf NoRecord = 0
+indexOf (Hierarchy h) = h .«layer_index» .0
+indexOf (Extension x) = x .«layer_index» .0
 
--- the first bit of the first byte, as each reading answers it
-abbrev pub firstBit : Reading → ℕ → Bool
-firstBit Edition2009 byte = true
-firstBit Edition2015 byte = eqb (byte / 128) 1
+-- hierarchy_channel, and 0 where there is no layer
+abbrev pub channelOf : Record → HierarchyChannel
+channelOf NoRecord = record { 0 = 0 }
+channelOf (Hierarchy h) = h .channel
+channelOf (Extension x) = x .channel
 
-abbrev pub hierarchyFrom : List ℕ → HierarchyRecord
-hierarchyFrom values =
-    record {
-      «no_view» = eqb (getD values 0 0) 1;
-      «no_temporal» = eqb (getD values 1 0) 1;
-      «no_spatial» = eqb (getD values 2 0) 1;
-      «no_quality» = eqb (getD values 3 0) 1;
-      «hierarchy_type» = getD values 4 0;
-      «layer_index» = record { 0 = getD values 5 0 };
-      «tref_present_flag» = eqb (getD values 6 0) 1;
-      «embedded_layer_index» = record { 0 = getD values 7 0 };
-      channel = record { 0 = getD values 8 0 };
-    }
+-- NAMES. The layers that a record names: a hierarchy record its embedded layer, but a base layer (type 15) none, whatever its embedded
+-- index says; an extension as many of the list beside it as it counts.
+abbrev pub isBase : HierarchyRecord → Bool
+isBase h = eqb (h .«hierarchy_type») 15
 
-abbrev pub hierarchyOf : Reading → List ℕ → HierarchyRecord
-hierarchyOf reading payload = hierarchyFrom (hierarchyValues reading payload)
+abbrev pub listed : Record → List LayerIndex → List LayerIndex
+listed NoRecord layers = []
+listed (Hierarchy h) layers = cond (isBase h) [] (h .«embedded_layer_index» ∷ [])
+listed (Extension x) layers = take (x .«num_embedded_layers») layers
 
--- the values of Table 2-111ter before its list, in its order
-abbrev pub extensionFrom : List ℕ → ExtensionRecord
-extensionFrom values =
-    record {
-      «dimension_bits» = getD values 0 0;
-      «layer_index» = record { 0 = getD values 1 0 };
-      «temporal_id» = record { 0 = getD values 2 0 };
-      «nuh_layer_id» = record { 0 = getD values 3 0 };
-      «tref_present_flag» = eqb (getD values 4 0) 1;
-      «num_embedded_layers» = getD values 5 0;
-      channel = record { 0 = getD values 6 0 };
-    }
+-- the number in a layer index
+abbrev pub plain : LayerIndex → ℕ
+plain index = index .0
 
-abbrev pub extensionOf : List ℕ → ExtensionRecord
-extensionOf payload = extensionFrom (readTable extensionHead payload)
+-- the layers that a record names, as numbers
+abbrev pub named : Record → List LayerIndex → List ℕ
+named r layers = map plain (listed r layers)
 
--- the list of embedded layers, one byte each, in its order
-abbrev pub layerIndexOf : ℕ → LayerIndex
-layerIndexOf byte = record { 0 = getD (readTable embeddedLayer (byte ∷ [])) 0 0 }
+-- a set with more indices; an index that no six bits hold has no place in it
+abbrev pub withIndices : ℕ → List ℕ → ℕ
+withIndices set [] = set
+withIndices set (i ∷ is) = withIndices (added set i) is
 
-abbrev pub layersOf : List ℕ → List LayerIndex
-layersOf list = map layerIndexOf list
+-- the set of the layers that a record names
+abbrev pub namesOf : Record → List LayerIndex → ℕ
+namesOf r layers = withIndices 0 (named r layers)
 
-abbrev pub embeddedOf : List ℕ → List LayerIndex
-embeddedOf payload = layersOf (drop 7 payload)
+-- WRITING. The tables of a record's descriptor, none without a record.
+abbrev pub recordTables : Record → List LayerIndex → List Filled
+recordTables NoRecord layers = []
+recordTables (Hierarchy h) layers = hierarchyTables h
+recordTables (Extension x) layers = extensionTables x layers

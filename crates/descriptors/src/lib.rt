@@ -1,16 +1,29 @@
-// The two descriptors that make a stream a layer: the hierarchy descriptor (tag 4) and the HEVC hierarchy extension (tag 63,
-// extension tag 0x06), read out of the descriptor bytes of one stream.
+// The two descriptors that make a stream a layer, a room for each: the hierarchy descriptor (tag 4) and the HEVC hierarchy extension (tag 63,
+// extension tag 0x06). A room holds the record, how it is read from a payload, what of it is too wide for its fields, and how it is written.
+// `record` has what both share; `looking` finds them in the descriptor bytes of one stream.
 //
 // Here a stream's type is known to the reading; which types are, and what is refused, the crates above decide.
+mod extension;
+mod head;
+mod hierarchy;
 mod looking;
-mod records;
+mod record;
 
+pub use extension::ExtensionRecord;
+pub use extension::no_layers;
+pub use hierarchy::HierarchyRecord;
 pub use looking::Look;
 pub use looking::Looked;
 pub use looking::Seen;
 pub use looking::look_through;
 pub use looking::nothing_seen;
-pub use records::ExtensionRecord;
-pub use records::HierarchyRecord;
-pub use records::Record;
-pub use records::no_layers;
+pub use record::Record;
+pub use record::channel;
+pub use record::is_base;
+pub use record::is_layer;
+pub use record::layer_index;
+pub use record::listed_count;
+pub use record::names;
+pub use record::put_record;
+pub use record::record_size;
+pub use record::record_too_wide;

@@ -8,6 +8,7 @@ use native.Mathlib.Omega.{arith}
 use borrow.Author.Tests.{lt-ltb, not-false}
 use lib.Dec.{ltb}
 use lib.ListN.{length, getD, take, replicate}
+use Rattle.syntax.specs.Named.{byNames}
 use Rattle.combinators.specs.Below.{none-at}
 use Rattle.combinators.specs.Bools.{neither-left, neither-right}
 use Rattle.combinators.specs.Lists.{any, any-append, any-map}
@@ -17,14 +18,16 @@ use Rattle.syntax.proofs.Laws.{fits-fit}
 use Rattle.syntax.proofs.Equations.{bounds}
 use Rattle.vocabulary.specs.declared.LayerIndex.{LayerIndex}
 use Rattle.vocabulary.specs.declared.stream_types.Reading.the-variants.{Edition2015}
-use Rattle.descriptors.specs.declared.records.Record.{Record}
-use Rattle.descriptors.specs.declared.records.Record.the-variants.{NoRecord, Hierarchy, Extension}
-use Rattle.descriptors.specs.Tables.{hierarchyDescriptor, extensionHead}
-use Rattle.descriptors.specs.Records.{noLayer, hierarchyFrom, extensionFrom}
+use Rattle.descriptors.specs.declared.«record».Record.{Record}
+use Rattle.descriptors.specs.declared.«record».Record.the-variants.{NoRecord, Hierarchy, Extension}
+use Rattle.descriptors.specs.Hierarchy.{hierarchyDescriptor, hierarchyFrom}
+use Rattle.descriptors.specs.Extension.{extensionHead, noLayer, extensionFrom, layerTable}
 use Rattle.es_loop.specs.declared.entries.Entry.{Entry}
 use Rattle.es_loop.specs.Entries.{blankEntry}
-use Rattle.loop_layout.specs.Layout.{tooWideIn, layerTable, recordTables, infoBytes, tooWide}
-use Rattle.loop_layout.specs.Sizes.{info-short}
+use Rattle.syntax.specs.Filled.{tooWideIn}
+use Rattle.descriptors.specs.Records.{recordTables}
+use Rattle.loop_writer.specs.Layout.{infoBytes, tooWide}
+use Rattle.descriptors.proofs.Sizes.{info-short}
 use Rattle.entry_rows.specs.Rows.{kindIn, countIn, fieldsIn, listIn, layerTooWide, rowTooWide, layerOf, entryIn, rowCount, rowAt, someTooWide, entriesBelow, entriesIn}
 use Rattle.entry_rows.specs.Laws.{hierarchy-entry, extension-entry, no-record-entry}
 use Rattle.entry_rows.specs.Judged.{kind-fine, type-bound, pid-bound, hierarchy-fine, extension-fine, list-fine}
@@ -67,7 +70,7 @@ module _ (row : List ℕ) (fine : rowTooWide row ≡ false) where
   hierarchy-fits e =
       let in-bounds = bounds (fits-fit (hierarchyDescriptor Edition2015) (fieldsIn (hierarchyDescriptor Edition2015) row) (not-false _ (hierarchy-fine row fine e))) in
       ap tooWide (sym (hierarchy-entry row e))
-      ∙ whole-fine (with (Hierarchy (hierarchyFrom (fieldsIn (hierarchyDescriptor Edition2015) row))) (padTo 63 noLayer [])) (type-bound row fine) (pid-bound row fine)
+      ∙ whole-fine (with (Hierarchy (hierarchyFrom (byNames (hierarchyDescriptor Edition2015) (fieldsIn (hierarchyDescriptor Edition2015) row)))) (padTo 63 noLayer [])) (type-bound row fine) (pid-bound row fine)
       (or-false _ ∙ ap (λ (l : List ℕ). not (fits (hierarchyDescriptor Edition2015) l)) (hierarchy-there row in-bounds) ∙ hierarchy-fine row fine e)
 
   extension-fits : kindIn row ≡ 2 → tooWide (entryIn row) ≡ false
@@ -75,7 +78,7 @@ module _ (row : List ℕ) (fine : rowTooWide row ≡ false) where
       let in-bounds = bounds (fits-fit extensionHead (fieldsIn extensionHead row) (not-false _ (extension-fine row fine e))) in
       let count : 7 + countIn row < 256 = omega arith in
       ap tooWide (sym (extension-entry row e))
-      ∙ whole-fine (with (Extension (extensionFrom (fieldsIn extensionHead row))) (padTo 63 noLayer (map layerOf (listIn row)))) (type-bound row fine) (pid-bound row fine)
+      ∙ whole-fine (with (Extension (extensionFrom (byNames extensionHead (fieldsIn extensionHead row)))) (padTo 63 noLayer (map layerOf (listIn row)))) (type-bound row fine) (pid-bound row fine)
       (rw (lt-ltb (7 + countIn row) 256 count)
       (ap₂ (λ (a b : Bool). a || b)
       (ap (λ (l : List ℕ). not (fits extensionHead l)) (extension-there row in-bounds) ∙ extension-fine row fine e)

@@ -17,7 +17,8 @@ use Rattle.syntax.specs.Table.{Table, fits}
 use Rattle.syntax.proofs.Laws.{fits-fit}
 use Rattle.syntax.proofs.Equations.{bounds}
 use Rattle.vocabulary.specs.declared.stream_types.Reading.the-variants.{Edition2015}
-use Rattle.descriptors.specs.Tables.{hierarchyDescriptor, extensionHead}
+use Rattle.descriptors.specs.Hierarchy.{hierarchyDescriptor}
+use Rattle.descriptors.specs.Extension.{extensionHead}
 use Rattle.es_loop.specs.Entries.{blankEntry}
 use Rattle.entry_rows.specs.Rows.{kindIn, fieldsIn, listIn, recordTable, entryTable, tooWideFor, layerTooWide, rowTooWide, entryIn, rowAt, entriesBelow}
 

@@ -5,13 +5,14 @@ use mathlib.Core.Path.{_≡_, refl, sym, _∙_, ap, ap₂}
 use mathlib.Core.List.{List, [], _∷_, map}
 use native.Mathlib.Omega.{arith}
 use lib.ListN.{length, getD, take, length-append, length-map, length-take}
+use Rattle.syntax.specs.Named.{byNames}
 use Rattle.combinators.specs.Padding.{padTo, length-padTo}
 use Rattle.vocabulary.specs.declared.LayerIndex.{LayerIndex}
-use Rattle.descriptors.specs.declared.records.Record.{Record}
-use Rattle.descriptors.specs.declared.records.Record.the-variants.{NoRecord, Hierarchy, Extension}
+use Rattle.descriptors.specs.declared.«record».Record.{Record}
+use Rattle.descriptors.specs.declared.«record».Record.the-variants.{NoRecord, Hierarchy, Extension}
 use Rattle.vocabulary.specs.declared.stream_types.Reading.the-variants.{Edition2015}
-use Rattle.descriptors.specs.Tables.{hierarchyDescriptor, extensionHead}
-use Rattle.descriptors.specs.Records.{noLayer, hierarchyFrom, extensionFrom}
+use Rattle.descriptors.specs.Hierarchy.{hierarchyDescriptor, hierarchyFrom}
+use Rattle.descriptors.specs.Extension.{extensionHead, noLayer, extensionFrom}
 use Rattle.es_loop.specs.declared.entries.Entry.{Entry}
 use Rattle.entry_rows.specs.Rows.{layerNumber, headOf, listOf, tailOf, rowOf, fieldsIn, listIn, layerOf, entryIn, rowsOf}
 
@@ -41,13 +42,13 @@ rows-length (e ∷ entries) =
 -- the entry of a row, for each kind of record
 module _ (row : List ℕ) where
   pub hierarchy-entry : getD row 2 0 ≡ 1
-      → record { «stream_type» = getD row 0 0; pid = getD row 1 0; «record» = Hierarchy (hierarchyFrom (fieldsIn (hierarchyDescriptor Edition2015) row)); embedded = padTo 63 noLayer [] }
+      → record { «stream_type» = getD row 0 0; pid = getD row 1 0; «record» = Hierarchy (hierarchyFrom (byNames (hierarchyDescriptor Edition2015) (fieldsIn (hierarchyDescriptor Edition2015) row))); embedded = padTo 63 noLayer [] }
       ≡ entryIn row
   unfolding entryIn
   hierarchy-entry e = rw e
 
   pub extension-entry : getD row 2 0 ≡ 2
-      → record { «stream_type» = getD row 0 0; pid = getD row 1 0; «record» = Extension (extensionFrom (fieldsIn extensionHead row)); embedded = padTo 63 noLayer (map layerOf (listIn row)) }
+      → record { «stream_type» = getD row 0 0; pid = getD row 1 0; «record» = Extension (extensionFrom (byNames extensionHead (fieldsIn extensionHead row))); embedded = padTo 63 noLayer (map layerOf (listIn row)) }
       ≡ entryIn row
   unfolding entryIn
   extension-entry e = rw e

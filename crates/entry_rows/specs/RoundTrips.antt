@@ -9,20 +9,21 @@ use native.Mathlib.Omega.{arith}
 use lib.Dec.{eqb}
 use lib.ListN.{length, getD, take, drop, replicate, length-map, length-take, length-append, length-replicate, take-append-drop}
 use lib.Seq.{take-at}
+use Rattle.syntax.specs.Named.{byNames}
 use Rattle.combinators.specs.Padding.{padTo, length-padTo}
 use Rattle.syntax.proofs.Laws.{fits-fit}
 use Rattle.syntax.proofs.Equations.{Bounds, bounds}
 use Rattle.vocabulary.specs.declared.LayerIndex.{LayerIndex}
 use Rattle.vocabulary.specs.declared.stream_types.Reading.the-variants.{Edition2015}
-use Rattle.descriptors.specs.declared.records.HierarchyRecord.{HierarchyRecord}
-use Rattle.descriptors.specs.declared.records.ExtensionRecord.{ExtensionRecord}
-use Rattle.descriptors.specs.declared.records.Record.{Record}
-use Rattle.descriptors.specs.declared.records.Record.the-variants.{NoRecord, Hierarchy, Extension}
-use Rattle.descriptors.specs.Tables.{hierarchyDescriptor, extensionHead}
-use Rattle.descriptors.specs.Records.{noLayer, hierarchyFrom, extensionFrom}
+use Rattle.descriptors.specs.declared.hierarchy.HierarchyRecord.{HierarchyRecord}
+use Rattle.descriptors.specs.declared.extension.ExtensionRecord.{ExtensionRecord}
+use Rattle.descriptors.specs.declared.«record».Record.{Record}
+use Rattle.descriptors.specs.declared.«record».Record.the-variants.{NoRecord, Hierarchy, Extension}
+use Rattle.descriptors.specs.Hierarchy.{hierarchyDescriptor, hierarchyFrom, hierarchyFields}
+use Rattle.descriptors.specs.Extension.{extensionHead, noLayer, extensionFrom, extensionFields}
 use Rattle.es_loop.specs.declared.entries.Entry.{Entry}
-use Rattle.loop_layout.specs.Layout.{bitOf, hierarchyFields, extensionFields}
-use Rattle.loop_layout.specs.Fields.{hierarchy-fields, extension-fields, bit-there}
+use Rattle.syntax.specs.Filled.{bitOf}
+use Rattle.descriptors.proofs.Payloads.{hierarchy-fields, extension-fields, bit-there}
 use Rattle.entry_rows.specs.Names.{namesOf, picked}
 use Rattle.entry_rows.specs.Rows.{rowNames, entryTable, layerNumber, headOf, listOf, tailOf, rowOf, kindIn, countIn, fieldsIn, listIn, rowTooWide, layerOf, entryIn}
 use Rattle.entry_rows.specs.Judged.{kind-fine, within-tables}
@@ -79,12 +80,12 @@ pub record OwnRow (row : List ℕ) : Type 0 where
   pub tail : drop 16 row ≡ padTo 64 0 (cond (eqb (kindIn row) 2) (listIn row) [])
 
 pub hierarchy-there : (row : List ℕ) → Bounds (hierarchyDescriptor Edition2015) (fieldsIn (hierarchyDescriptor Edition2015) row)
-    → hierarchyFields (hierarchyFrom (fieldsIn (hierarchyDescriptor Edition2015) row)) ≡ fieldsIn (hierarchyDescriptor Edition2015) row
+    → hierarchyFields (hierarchyFrom (byNames (hierarchyDescriptor Edition2015) (fieldsIn (hierarchyDescriptor Edition2015) row))) ≡ fieldsIn (hierarchyDescriptor Edition2015) row
 hierarchy-there row b =
     rw (bit-there (getD row 3 0) (b .0), bit-there (getD row 4 0) (b .1 .0), bit-there (getD row 5 0) (b .1 .1 .0), bit-there (getD row 6 0) (b .1 .1 .1 .0), bit-there (getD row 9 0) (b .1 .1 .1 .1 .1 .1 .0))
 
 pub extension-there : (row : List ℕ) → Bounds extensionHead (fieldsIn extensionHead row)
-    → extensionFields (extensionFrom (fieldsIn extensionHead row)) ≡ fieldsIn extensionHead row
+    → extensionFields (extensionFrom (byNames extensionHead (fieldsIn extensionHead row))) ≡ fieldsIn extensionHead row
 extension-there row b = rw (bit-there (getD row 9 0) (b .1 .1 .1 .1 .0))
 
 numbers-back : (list : List ℕ) → map layerNumber (map layerOf list) ≡ list

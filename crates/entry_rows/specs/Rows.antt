@@ -8,19 +8,19 @@ use mathlib.Core.Bool.{Bool, not, cond, _&&_, _||_}
 use mathlib.Core.List.{List, [], _∷_, _++_, map}
 use lib.Dec.{eqb, ltb}
 use lib.ListN.{length, take, drop}
+use Rattle.syntax.specs.Named.{byNames}
 use Rattle.combinators.specs.Below.{some}
 use Rattle.combinators.specs.Lists.{any, gather}
 use Rattle.combinators.specs.Padding.{padTo}
 use Rattle.syntax.specs.Table.{Table, value, fits}
 use Rattle.vocabulary.specs.declared.LayerIndex.{LayerIndex}
 use Rattle.vocabulary.specs.declared.stream_types.Reading.the-variants.{Edition2015}
-use Rattle.descriptors.specs.declared.records.Record.{Record}
-use Rattle.descriptors.specs.declared.records.Record.the-variants.{NoRecord, Hierarchy, Extension}
-use Rattle.descriptors.specs.Tables.{hierarchyDescriptor, extensionHead, embeddedLayer}
-use Rattle.descriptors.specs.Records.{noLayer, hierarchyFrom, extensionFrom}
+use Rattle.descriptors.specs.declared.«record».Record.{Record}
+use Rattle.descriptors.specs.declared.«record».Record.the-variants.{NoRecord, Hierarchy, Extension}
+use Rattle.descriptors.specs.Hierarchy.{hierarchyDescriptor, hierarchyFrom, hierarchyFields}
+use Rattle.descriptors.specs.Extension.{extensionHead, embeddedLayer, noLayer, extensionFrom, extensionFields}
 use Rattle.es_loop.specs.declared.entries.Entry.{Entry}
 use Rattle.es_loop.specs.Entries.{blankEntry}
-use Rattle.loop_layout.specs.Layout.{hierarchyFields, extensionFields}
 use Rattle.entry_rows.specs.Names.{namesOf, valueNamed, picked}
 
 -- the first 16 numbers of a row
@@ -120,8 +120,8 @@ rowTooWide row =
 
 abbrev pub recordIn : List ℕ → Record
 recordIn row =
-    cond (eqb (kindIn row) 1) (Hierarchy (hierarchyFrom (fieldsIn (hierarchyDescriptor Edition2015) row)))
-    (cond (eqb (kindIn row) 2) (Extension (extensionFrom (fieldsIn extensionHead row))) NoRecord)
+    cond (eqb (kindIn row) 1) (Hierarchy (hierarchyFrom (byNames (hierarchyDescriptor Edition2015) (fieldsIn (hierarchyDescriptor Edition2015) row))))
+    (cond (eqb (kindIn row) 2) (Extension (extensionFrom (byNames extensionHead (fieldsIn extensionHead row)))) NoRecord)
 
 abbrev pub layerOf : ℕ → LayerIndex
 layerOf index = record { 0 = index }

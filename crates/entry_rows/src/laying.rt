@@ -5,7 +5,7 @@ ghost use Prim.Native.Nat.{min};
 ghost use lib.ListN.{take};
 ghost use Rattle.combinators.specs.Padding.{padTo};
 ghost use Rattle.text.specs.Text.{Laid};
-ghost use Rattle.loop_layout.specs.Layout.{bitOf};
+ghost use Rattle.syntax.specs.Filled.{bitOf};
 ghost use Rattle.entry_rows.specs.Rows.{layerNumber, headOf, tailOf, rowOf, rowsOf};
 use buffers::put_u16;
 use combinators::lesser;

@@ -4,11 +4,12 @@ ghost use mathlib.Core.Bool.{false};
 ghost use mathlib.Core.List.{map};
 ghost use Prim.Native.Nat.{_≤_};
 ghost use lib.ListN.{length, take};
+ghost use Rattle.syntax.specs.Named.{byNames};
 ghost use Rattle.combinators.specs.Lists.{any};
 ghost use Rattle.combinators.specs.Padding.{padTo};
 ghost use Rattle.vocabulary.specs.declared.stream_types.Reading.the-variants.{Edition2015};
-ghost use Rattle.descriptors.specs.Tables.{hierarchyDescriptor, extensionHead};
-ghost use Rattle.descriptors.specs.Records.{noLayer, hierarchyFrom, extensionFrom};
+ghost use Rattle.descriptors.specs.Hierarchy.{hierarchyDescriptor, hierarchyFrom};
+ghost use Rattle.descriptors.specs.Extension.{extensionHead, noLayer, extensionFrom};
 ghost use Rattle.entry_rows.specs.Rows.{fieldsIn, tooWideFor, layerTooWide, rowTooWide, layerOf, entryIn, someTooWide, entriesIn};
 use combinators::lesser;
 use descriptors::ExtensionRecord;
@@ -93,7 +94,7 @@ fn row_too_wide(row: &[u16]) -> bool
 
 fn hierarchy_in(row: &[u16]) -> HierarchyRecord
     requires { ⌜ (80 ≤ length (now row)) × (tooWideFor (hierarchyDescriptor Edition2015) (now row) ≡ false) ⌝ }
-    ensures { λ r. ⌜ r ≡ hierarchyFrom (fieldsIn (hierarchyDescriptor Edition2015) (now (row .entry))) ⌝ }
+    ensures { λ r. ⌜ r ≡ hierarchyFrom (byNames (hierarchyDescriptor Edition2015) (fieldsIn (hierarchyDescriptor Edition2015) (now (row .entry)))) ⌝ }
 {
     HierarchyRecord {
         no_view: row[3] == 1,
@@ -110,7 +111,7 @@ fn hierarchy_in(row: &[u16]) -> HierarchyRecord
 
 fn extension_in(row: &[u16]) -> ExtensionRecord
     requires { ⌜ (80 ≤ length (now row)) × (tooWideFor extensionHead (now row) ≡ false) ⌝ }
-    ensures { λ r. ⌜ r ≡ extensionFrom (fieldsIn extensionHead (now (row .entry))) ⌝ }
+    ensures { λ r. ⌜ r ≡ extensionFrom (byNames extensionHead (fieldsIn extensionHead (now (row .entry)))) ⌝ }
 {
     ExtensionRecord {
         dimension_bits: row[12],

@@ -1,2 +1,5 @@
 pub mod Heads
 pub mod Walk
+pub mod Meant
+pub mod Judged
+pub mod Marked

@@ -20,8 +20,8 @@ use Rattle.framing.specs.Pieces.{Item, whole, broken, cut, cut-broken, cut-piec
 use Rattle.vocabulary.specs.declared.stream_types.Reading.{Reading}
 use Rattle.vocabulary.specs.declared.refusal.Refusal.{Refusal}
 use Rattle.vocabulary.specs.declared.refusal.Refusal.the-variants.{DoesNotFit}
-use Rattle.descriptors.specs.declared.records.Record.{Record}
-use Rattle.judging.specs.Judging.{isLayer, indexOf}
+use Rattle.descriptors.specs.declared.«record».Record.{Record}
+use Rattle.descriptors.specs.Records.{isLayer, indexOf}
 use Rattle.es_loop.specs.declared.entries.Entry.{Entry}
 use Rattle.es_loop.specs.declared.entries.Stream.{Stream}
 use Rattle.es_loop.specs.declared.faults.Fault.{Fault}
@@ -29,9 +29,9 @@ use Rattle.es_loop.specs.declared.reader.Outcome.the-variants.{Accepted}
 use Rattle.es_loop.specs.declared.reader.LoopRead.{LoopRead}
 use Rattle.es_loop.specs.Entries.{noStream, esInfoLength, sizeOf, streamOf, streamsOf, entryOf, blankEntry, entriesOf}
 use Rattle.es_loop.specs.Conditions.{streamAt, pidAt, recordAt, repeatedPid, repeatedIndex, conditions, applies, refusalOf, slotOf, lowerOf}
-use Rattle.es_loop.specs.Marked.{marked-tests}
+use Rattle.es_loop.proofs.Marked.{marked-tests}
 use Rattle.es_loop.specs.Reading.{refusedWith, accepted, judged}
-use Rattle.es_loop.specs.Judged.{judged-refused, judged-accepted}
+use Rattle.es_loop.proofs.Judged.{judged-refused, judged-accepted}
 
 -- the sizes and keys that the walk meets
 pub size-large : (left : List ℕ) → 5 ≤ sizeOf left

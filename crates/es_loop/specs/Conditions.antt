@@ -8,9 +8,10 @@ use lib.ListN.{getD}
 use Rattle.combinators.specs.Below.{some}
 use Rattle.vocabulary.specs.declared.refusal.Refusal.{Refusal}
 use Rattle.vocabulary.specs.declared.refusal.Refusal.the-variants.{LoopTooLong, DoesNotFit, RepeatedPid, WrongLength, SecondRecord, TypeNotAllowed, WrongFlags, RepeatedLayerIndex, WrongEmbeddedIndex, TooManyEmbedded}
-use Rattle.descriptors.specs.declared.records.Record.{Record}
+use Rattle.descriptors.specs.declared.«record».Record.{Record}
 use Rattle.descriptors.specs.declared.looking.Seen.{Seen}
-use Rattle.judging.specs.Judging.{isLayer, indexOf, sameIndex, typeNotAllowed, wrongFlags, wrongEmbedded, tooManyEmbedded}
+use Rattle.descriptors.specs.Records.{isLayer, indexOf}
+use Rattle.judging.specs.Judging.{sameIndex, typeNotAllowed, wrongFlags, wrongEmbedded, tooManyEmbedded}
 use Rattle.es_loop.specs.declared.entries.Stream.{Stream}
 use Rattle.es_loop.specs.declared.faults.Fault.{Fault}
 use Rattle.es_loop.specs.Entries.{noStream}

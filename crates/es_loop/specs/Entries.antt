@@ -4,16 +4,17 @@ use Prim.Native.Nat.{ℕ, _+_}
 use mathlib.Core.Bool.{Bool, false, cond}
 use mathlib.Core.List.{List, [], _∷_, map}
 use lib.Dec.{ltb}
-use lib.ListN.{length, getD}
+use lib.ListN.{length}
 use Rattle.combinators.specs.Padding.{padTo}
 use Rattle.framing.specs.Pieces.{Item, whole, broken, cut}
-use Rattle.syntax.specs.Table.{Table, value, reserved, readTable}
+use Rattle.syntax.specs.Table.{Table, value, reserved}
+use Rattle.syntax.specs.Named.{givenTo, readBy}
 use Rattle.vocabulary.specs.declared.stream_types.Reading.{Reading}
 use Rattle.vocabulary.specs.StreamTypes.{known}
-use Rattle.descriptors.specs.declared.records.Record.{Record}
-use Rattle.descriptors.specs.declared.records.Record.the-variants.{NoRecord}
+use Rattle.descriptors.specs.declared.«record».Record.{Record}
+use Rattle.descriptors.specs.declared.«record».Record.the-variants.{NoRecord}
 use Rattle.descriptors.specs.declared.looking.Seen.{Seen}
-use Rattle.descriptors.specs.Records.{noLayer}
+use Rattle.descriptors.specs.Extension.{noLayer}
 use Rattle.descriptors.specs.Looking.{seenOf, nothingSeen}
 use Rattle.es_loop.specs.declared.entries.Entry.{Entry}
 use Rattle.es_loop.specs.declared.entries.Stream.{Stream}
@@ -23,13 +24,13 @@ abbrev pub entryHead : Table
 entryHead = value 8 "stream_type" ∷ reserved 3 ∷ value 13 "elementary_PID" ∷ reserved 4 ∷ value 12 "ES_info_length" ∷ []
 
 abbrev pub streamType : List ℕ → ℕ
-streamType head = getD (readTable entryHead head) 0 0
+streamType head = givenTo "stream_type" (readBy entryHead head)
 
 abbrev pub elementaryPid : List ℕ → ℕ
-elementaryPid head = getD (readTable entryHead head) 1 0
+elementaryPid head = givenTo "elementary_PID" (readBy entryHead head)
 
 abbrev pub esInfoLength : List ℕ → ℕ
-esInfoLength head = getD (readTable entryHead head) 2 0
+esInfoLength head = givenTo "ES_info_length" (readBy entryHead head)
 
 -- the bytes that the entry at the front takes; fewer than a head is never enough
 abbrev pub sizeOf : List ℕ → ℕ

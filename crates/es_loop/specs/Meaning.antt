@@ -14,10 +14,10 @@ use Rattle.vocabulary.specs.declared.LayerIndex.{LayerIndex}
 use Rattle.vocabulary.specs.declared.stream_types.Reading.{Reading}
 use Rattle.vocabulary.specs.declared.refusal.Refusal.the-variants.{LoopTooLong}
 use Rattle.vocabulary.specs.StreamTypes.{known}
-use Rattle.descriptors.specs.declared.records.Record.{Record}
-use Rattle.descriptors.specs.Records.{noLayer}
+use Rattle.descriptors.specs.declared.«record».Record.{Record}
+use Rattle.descriptors.specs.Extension.{noLayer}
 use Rattle.descriptors.specs.Looking.{does-not-fit, wrong-length, kindsOf, Held, heldIn}
-use Rattle.judging.specs.Judging.{indexOf}
+use Rattle.descriptors.specs.Records.{indexOf}
 use Rattle.judging.specs.Meaning.{TypeNotAllowed, WrongFlags, WrongEmbedded, TooManyEmbedded}
 use Rattle.es_loop.specs.declared.reader.LoopRead.{LoopRead}
 use Rattle.es_loop.specs.Entries.{streamType, elementaryPid, esInfoLength, streamOf}

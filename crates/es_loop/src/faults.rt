@@ -2,7 +2,7 @@
 ghost use mathlib.Core.Path.{_≡_};
 ghost use Prim.Native.Nat.{_+_, _<_};
 ghost use Rattle.combinators.specs.Lists.{firstTrue};
-ghost use Rattle.judging.specs.Judging.{indexOf};
+ghost use Rattle.descriptors.specs.Records.{indexOf};
 ghost use Rattle.es_loop.specs.Conditions.{conditions, recordConditions, lowerOf, refusalOf, slotOf};
 use super::entries::Stream;
 use super::entries::wide;
@@ -65,8 +65,8 @@ fn judged_fault(index_held: bool, stream_type: u8, seen: Seen) -> u8
 pub fn slot_of(record: Record) -> usize
     ensures { λ r. ⌜ (r ≡ slotOf «record») × (indexOf «record» < 256) ⌝ }
 {
-    let index = judging::layer_index(record);
-    if judging::is_layer(record) {
+    let index = descriptors::layer_index(record);
+    if descriptors::is_layer(record) {
         return wide(index.0);
     }
     256

@@ -82,7 +82,7 @@ fn read_entries(reading: Reading, bytes: &[u8]) -> LoopRead
         let seen = stream.seen;
         let record = seen.record;
         let slot = slot_of(record);
-        let index_held = judging::is_layer(record) & indices[slot];
+        let index_held = descriptors::is_layer(record) & indices[slot];
         fault = lower(fault, lowest_fault(pids[pid], index_held, stream), count);
         pids[pid] = true;
         indices[slot] = true;

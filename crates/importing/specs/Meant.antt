@@ -13,7 +13,7 @@ use Rattle.es_loop.specs.Entries.{streamOf, entryOf}
 use Rattle.es_loop.specs.Reading.{accepted, loopRead}
 use Rattle.es_loop.specs.Meaning.{too-long, refuses, accepts}
 use Rattle.es_loop.specs.Meaning as Loop
-use Rattle.es_loop.specs.Meant.{answer-meant, answer-only}
+use Rattle.es_loop.proofs.Meant.{answer-meant, answer-only}
 use Rattle.closure.specs.declared.Layers.{Layers}
 use Rattle.loop_layers.specs.Layers.{layersOf}
 use Rattle.loop_layers.specs.Meaning.{LayersOf}

@@ -15,9 +15,10 @@ use Rattle.combinators.specs.Bools.{either-left, either-right}
 use Rattle.combinators.specs.Below.{some, some-at}
 use Rattle.combinators.specs.Members.{member, member-last}
 use Rattle.vocabulary.specs.declared.LayerIndex.{LayerIndex}
-use Rattle.descriptors.specs.Records.{noLayer}
-use Rattle.judging.specs.Judging.{plain, wrongAt, wrongList}
-use Rattle.judging.specs.Sets.{withIndices, indices-last}
+use Rattle.descriptors.specs.Extension.{noLayer}
+use Rattle.descriptors.specs.Records.{plain, withIndices}
+use Rattle.judging.specs.Judging.{wrongAt, wrongList}
+use Rattle.descriptors.proofs.Naming.{indices-last}
 use Rattle.sets.specs.Sets.{added}
 
 -- THE LIST. The first `count` layers of the array as numbers: how many, and what stands at each place.
@@ -27,21 +28,6 @@ module _ (embedded : List LayerIndex) (count : ℕ) (room : count ≤ length emb
 
   pub count-at : (i : ℕ) → i < count → getD (map plain (take count embedded)) i 0 ≡ plain (getD embedded i noLayer)
   count-at i h = List·getD-map plain (take count embedded) i noLayer ∙ ap plain (getD-take count embedded i noLayer h)
-
--- an extension that counts more than the array has lists all of it
-pub all-listed : (embedded : List LayerIndex) (num count : ℕ) → length embedded ≡ 63 → count ≡ min num 63 → take count embedded ≡ take num embedded
-all-listed embedded num count room e = go (decLt num 63)
-  where
-    go : Dec (num < 63) → take count embedded ≡ take num embedded
-    go (yes h) = let same : count ≡ num = omega arith in rw same
-    go (no h) = take-all count embedded (omega arith) ∙ sym (take-all num embedded (omega arith))
-
--- THE NAMES. The set of the indices passed, with the next.
-pub named-step : (embedded : List LayerIndex) (names i : ℕ) → i < length embedded → names ≡ withIndices 0 (map plain (take i embedded))
-    → added names (plain (getD embedded i noLayer)) ≡ withIndices 0 (map plain (take (i + 1) embedded))
-named-step embedded names i h inv =
-    let x : LayerIndex = getD embedded i noLayer in
-    rw (add-one i, take-suc embedded i noLayer h, map-append plain (take i embedded) (x ∷ []), indices-last 0 (plain x) (map plain (take i embedded)), inv)
 
 -- THE JUDGING. Of the indices passed none is wrong, and the marks are those of the indices passed.
 pub record Passed (own : ℕ) (indices : List ℕ) (marks : List Bool) (i : ℕ) : Type 0 where

@@ -1,53 +1,22 @@
--- One record on one stream, judged by the refusals of document 01 that look at nothing else: 6, 7, 9 and 10. Beside them stands what
--- the other rules ask of a record: whether the stream is a layer, its index, and the layers that it names.
--- A record's embedded layers stand beside it, in an array: of a hierarchy record nothing there counts.
+-- One record on one stream, judged by the refusals of document 01 that look at nothing else: 6, 7, 9 and 10.
 -- Assumes nothing.
 use Prim.Native.Nat.{ℕ, _+_}
-use mathlib.Core.Bool.{Bool, true, false, cond, not, _&&_, _||_}
-use mathlib.Core.List.{List, [], _∷_, map}
+use mathlib.Core.Bool.{Bool, true, false, not, _&&_, _||_}
+use mathlib.Core.List.{List, [], _∷_}
 use lib.Dec.{eqb, leb, ltb}
 use lib.ListN.{length, getD, take}
 use Rattle.combinators.specs.Below.{some}
 use Rattle.combinators.specs.Members.{member}
 use Rattle.vocabulary.specs.StreamTypes.{mayStandOn}
 use Rattle.vocabulary.specs.declared.LayerIndex.{LayerIndex}
-use Rattle.descriptors.specs.declared.records.HierarchyRecord.{HierarchyRecord}
-use Rattle.descriptors.specs.declared.records.Record.{Record}
-use Rattle.descriptors.specs.declared.records.Record.the-variants.{NoRecord, Hierarchy, Extension}
-
--- LAYERS. A stream without either descriptor is not a layer.
-abbrev pub isLayer : Record → Bool
-isLayer NoRecord = false
-isLayer (Hierarchy h) = true
-isLayer (Extension x) = true
-
--- hierarchy_layer_index as a number, and 0 where there is no layer
-abbrev pub indexOf : Record → ℕ
-indexOf NoRecord = 0
-indexOf (Hierarchy h) = h .«layer_index» .0
-indexOf (Extension x) = x .«layer_index» .0
+use Rattle.descriptors.specs.Records.{isLayer, indexOf, named}
+use Rattle.descriptors.specs.declared.hierarchy.HierarchyRecord.{HierarchyRecord}
+use Rattle.descriptors.specs.declared.«record».Record.{Record}
+use Rattle.descriptors.specs.declared.«record».Record.the-variants.{NoRecord, Hierarchy, Extension}
 
 -- for refusal 8: two layers of the same index
 abbrev pub sameIndex : Record → Record → Bool
 sameIndex a b = isLayer a && isLayer b && eqb (indexOf a) (indexOf b)
-
--- NAMES. The layers that a record names: a hierarchy record its embedded layer, but a base layer (type 15) none, whatever its embedded
--- index says; an extension as many of the list beside it as it counts.
-abbrev pub isBase : HierarchyRecord → Bool
-isBase h = eqb (h .«hierarchy_type») 15
-
-abbrev pub listed : Record → List LayerIndex → List LayerIndex
-listed NoRecord layers = []
-listed (Hierarchy h) layers = cond (isBase h) [] (h .«embedded_layer_index» ∷ [])
-listed (Extension x) layers = take (x .«num_embedded_layers») layers
-
--- the number in a layer index
-abbrev pub plain : LayerIndex → ℕ
-plain index = index .0
-
--- the layers that a record names, as numbers
-abbrev pub named : Record → List LayerIndex → List ℕ
-named r layers = map plain (listed r layers)
 
 -- 6. 'type not allowed on this stream, or an extension on 0x1B, 0x1F, 0x20 in the 2015 reading'. The 2009 reading skips every extension,
 -- and so has no such record.

@@ -5,38 +5,15 @@
 ghost use mathlib.Core.Path.{_≡_};
 ghost use mathlib.Core.Bool.{false};
 ghost use mathlib.Core.List.{[], map};
-ghost use Prim.Native.Nat.{_≤_, _<_, min};
+ghost use Prim.Native.Nat.{_≤_, _<_};
 ghost use lib.ListN.{take, replicate};
 ghost use Rattle.combinators.specs.Members.{member};
-ghost use Rattle.judging.specs.Judging.{isLayer, indexOf, isBase, plain, noExtensionOn, typeNotAllowed, at0, flagsAt0, flagsWrongFor, wrongFlags, wrongList, wrongEmbedded, tooManyEmbedded};
-ghost use Rattle.judging.specs.Sets.{withIndices, namesOf};
-ghost use Rattle.sets.specs.Sets.{added};
+ghost use Rattle.descriptors.specs.Records.{plain};
+ghost use Rattle.judging.specs.Judging.{noExtensionOn, typeNotAllowed, at0, flagsAt0, flagsWrongFor, wrongFlags, wrongList, wrongEmbedded, tooManyEmbedded};
 use descriptors::HierarchyRecord;
 use descriptors::Record;
 use vocabulary::LayerIndex;
 use vocabulary::may_stand_on;
-
-// Whether a stream with this record is a layer.
-pub fn is_layer(record: Record) -> bool
-    ensures { λ r. ⌜ r ≡ isLayer «record» ⌝ }
-{
-    match record {
-        Record::NoRecord => false,
-        Record::Hierarchy(_) => true,
-        Record::Extension(_) => true,
-    }
-}
-
-// The layer's index, and 0 without a record.
-pub fn layer_index(record: Record) -> LayerIndex
-    ensures { λ r. ⌜ r ≡ record { 0 = indexOf «record» } ⌝ }
-{
-    match record {
-        Record::NoRecord => LayerIndex(0),
-        Record::Hierarchy(hierarchy) => hierarchy.layer_index,
-        Record::Extension(extension) => extension.layer_index,
-    }
-}
 
 // The stream types on which no extension may stand.
 fn no_extension_on(stream_type: u8) -> bool
@@ -95,17 +72,6 @@ pub fn wrong_flags(record: Record) -> bool
     }
 }
 
-// How many layers of the array an extension lists: as many as it counts, and no more than there are.
-fn listed_count(num_embedded_layers: u8) -> usize
-    ensures { λ r. ⌜ r ≡ min «num_embedded_layers» 63 ⌝ }
-{
-    if num_embedded_layers < 63 {
-        num_embedded_layers as usize
-    } else {
-        63
-    }
-}
-
 // A mark for each value of an index's byte, none set.
 fn no_marks() -> [bool; 256]
     ensures { λ r. ⌜ r ≡ replicate 256 false ⌝ }
@@ -141,17 +107,10 @@ fn wrong_list(own: LayerIndex, count: usize, embedded: [LayerIndex; 63]) -> bool
     false
 }
 
-// Type 15 is a base layer: its embedded index names nothing.
-fn is_base(hierarchy: HierarchyRecord) -> bool
-    ensures { λ r. ⌜ r ≡ isBase hierarchy ⌝ }
-{
-    hierarchy.hierarchy_type == 15
-}
-
 fn wrong_hierarchy_index(hierarchy: HierarchyRecord) -> bool
     ensures { λ r. ⌜ r ≡ wrongEmbedded (Record.Hierarchy hierarchy) [] ⌝ }
 {
-    if is_base(hierarchy) {
+    if descriptors::is_base(hierarchy) {
         return false;
     }
     hierarchy.layer_index.0 <= hierarchy.embedded_layer_index.0
@@ -167,7 +126,7 @@ pub fn wrong_embedded(record: Record, embedded: [LayerIndex; 63]) -> bool
         Record::Extension(extension) => {
             wrong_list(
                 extension.layer_index,
-                listed_count(extension.num_embedded_layers),
+                descriptors::listed_count(extension.num_embedded_layers),
                 embedded,
             )
         }
@@ -182,49 +141,5 @@ pub fn too_many_embedded(record: Record) -> bool
         Record::NoRecord => false,
         Record::Hierarchy(_) => false,
         Record::Extension(extension) => 8 < extension.num_embedded_layers,
-    }
-}
-
-// A set with one index more: bit i stands for index i.
-fn with_index(set: u64, index: LayerIndex) -> u64
-    ensures { λ r. ⌜ r ≡ added set (plain index) ⌝ }
-{
-    sets::with(set, index.0 as usize)
-}
-
-// The set of the first `count` indices.
-fn names_in(count: usize, embedded: [LayerIndex; 63]) -> u64
-    requires { ⌜ count ≤ 63 ⌝ }
-    ensures { λ r. ⌜ r ≡ withIndices 0 (map plain (take count embedded)) ⌝ }
-{
-    let mut set = 0u64;
-    let mut i = 0;
-    while i < count {
-        set = with_index(set, embedded[i]);
-        i += 1;
-    }
-    set
-}
-
-fn names_of_hierarchy(hierarchy: HierarchyRecord) -> u64
-    ensures { λ r. ⌜ r ≡ namesOf (Record.Hierarchy hierarchy) [] ⌝ }
-{
-    if is_base(hierarchy) {
-        return 0;
-    }
-    with_index(0, hierarchy.embedded_layer_index)
-}
-
-// The layers that a record names, as a set: bit i is 1 exactly when it names layer i.
-pub fn names(record: Record, embedded: [LayerIndex; 63]) -> u64
-    ensures { λ r. ⌜ r ≡ namesOf «record» embedded ⌝ }
-{
-    match record {
-        Record::NoRecord => 0,
-        Record::Hierarchy(hierarchy) => names_of_hierarchy(hierarchy),
-        Record::Extension(extension) => names_in(
-            listed_count(extension.num_embedded_layers),
-            embedded,
-        ),
     }
 }

@@ -10,12 +10,13 @@ use borrow.Author.Tests.{le-ltb}
 use lib.ListN.{length, getD, set, take, replicate, length-replicate}
 use lib.Seq.{take-suc, take-all, set-out}
 use Rattle.sets.specs.Sets.{added}
-use Rattle.judging.specs.Sets.{withIndices, indices-last}
+use Rattle.descriptors.specs.Records.{withIndices, channelOf}
+use Rattle.descriptors.proofs.Naming.{indices-last}
 use Rattle.vocabulary.specs.declared.HierarchyChannel.{HierarchyChannel}
 use Rattle.es_loop.specs.declared.entries.Entry.{Entry}
 use Rattle.loop_layers.specs.declared.LayerTable.{LayerTable}
 use Rattle.loop_layers.specs.Columns.{column-length}
-use Rattle.loop_layers.specs.Layers.{placeOf, presentIn, columnWith, columnOf, embeddedIn, channelOf, tableOf}
+use Rattle.loop_layers.specs.Layers.{placeOf, presentIn, columnWith, columnOf, embeddedIn, tableOf}
 
 present-last : (l : List Entry) (e : Entry) → presentIn (l ++ e ∷ []) ≡ added (presentIn l) (placeOf e)
 present-last l e = ap (withIndices 0) (map-append placeOf l (e ∷ [])) ∙ indices-last 0 (placeOf e) (map placeOf l)

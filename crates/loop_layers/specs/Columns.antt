@@ -11,8 +11,8 @@ use native.Mathlib.Omega.{arith}
 use lib.ListN.{length, getD, set, replicate, length-set, length-replicate, getD-replicate}
 use lib.Seq.{getD-set-same, getD-set-other, ext-getD}
 use Rattle.combinators.specs.Lists.{Nth, here, there, nth-inside, nth-one}
-use Rattle.descriptors.specs.declared.records.Record.{Record}
-use Rattle.judging.specs.Judging.{isLayer, indexOf}
+use Rattle.descriptors.specs.declared.«record».Record.{Record}
+use Rattle.descriptors.specs.Records.{isLayer, indexOf}
 use Rattle.es_loop.specs.declared.entries.Entry.{Entry}
 use Rattle.es_loop.specs.Conditions.{slotOf}
 use Rattle.loop_layers.specs.Layers.{placeOf, columnWith, columnOf}

@@ -4,19 +4,13 @@ use Prim.Native.Nat.{ℕ}
 use mathlib.Core.List.{List, [], _∷_, map}
 use lib.ListN.{set, replicate}
 use Rattle.vocabulary.specs.declared.HierarchyChannel.{HierarchyChannel}
-use Rattle.descriptors.specs.declared.records.Record.{Record}
-use Rattle.descriptors.specs.declared.records.Record.the-variants.{NoRecord, Hierarchy, Extension}
-use Rattle.judging.specs.Sets.{withIndices, namesOf}
+use Rattle.descriptors.specs.declared.«record».Record.{Record}
+use Rattle.descriptors.specs.declared.«record».Record.the-variants.{NoRecord, Hierarchy, Extension}
+use Rattle.descriptors.specs.Records.{channelOf, withIndices, namesOf}
 use Rattle.es_loop.specs.declared.entries.Entry.{Entry}
 use Rattle.es_loop.specs.Conditions.{slotOf}
 use Rattle.closure.specs.declared.Layers.{Layers}
 use Rattle.loop_layers.specs.declared.LayerTable.{LayerTable}
-
--- where a layer is sent: hierarchy_channel, and 0 where there is no layer
-abbrev pub channelOf : Record → HierarchyChannel
-channelOf NoRecord = record { 0 = 0 }
-channelOf (Hierarchy h) = h .channel
-channelOf (Extension x) = x .channel
 
 -- Where an entry stands in a column of 64 places: at its layer index. A stream that is no layer stands past all of them, and adds nothing.
 abbrev pub placeOf : Entry → ℕ

@@ -12,7 +12,7 @@ use Rattle.combinators.specs.Members.{member}
 use Rattle.sets.specs.Sets.{has}
 use Rattle.vocabulary.specs.declared.stream_types.Reading.{Reading}
 use Rattle.vocabulary.specs.declared.refusal.Refusal.{Refusal}
-use Rattle.judging.specs.Judging.{isLayer, indexOf, named}
+use Rattle.descriptors.specs.Records.{isLayer, indexOf, named, channelOf}
 use Rattle.es_loop.specs.declared.entries.Entry.{Entry}
 use Rattle.es_loop.specs.declared.entries.Stream.{Stream}
 use Rattle.es_loop.specs.Entries.{entryOf}
@@ -23,7 +23,6 @@ use Rattle.closure.specs.declared.Closure.{Closure}
 use Rattle.closure.specs.declared.Closure.the-variants.{Refused}
 use Rattle.closure.specs.Meaning as Target
 use Rattle.loop_layers.specs.declared.LayerTable.{LayerTable}
-use Rattle.loop_layers.specs.Layers.{channelOf}
 
 module _ (entries : List Entry) where
   -- The entry e is a layer of index i.

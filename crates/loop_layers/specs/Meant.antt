@@ -15,8 +15,8 @@ use Rattle.sets.specs.Sets.{has}
 use Rattle.sets.specs.Laws.{has-none, has-within, same-members}
 use Rattle.vocabulary.specs.declared.stream_types.Reading.{Reading}
 use Rattle.vocabulary.specs.declared.refusal.Refusal.{Refusal}
-use Rattle.judging.specs.Judging.{named}
-use Rattle.judging.specs.Sets.{indices-in, indices-within, names-in}
+use Rattle.descriptors.specs.Records.{named, channelOf}
+use Rattle.judging.proofs.Sets.{indices-in, indices-within, names-in}
 use Rattle.es_loop.specs.declared.entries.Entry.{Entry}
 use Rattle.es_loop.specs.declared.entries.Stream.{Stream}
 use Rattle.es_loop.specs.declared.reader.LoopRead.{LoopRead}
@@ -24,13 +24,13 @@ use Rattle.es_loop.specs.Entries.{streamOf, entryOf}
 use Rattle.es_loop.specs.Reading.{refusedWith, accepted, loopRead}
 use Rattle.es_loop.specs.Meaning.{too-long, refuses, accepts}
 use Rattle.es_loop.specs.Meaning as Loop
-use Rattle.es_loop.specs.Meant.{answer-meant, answer-only}
+use Rattle.es_loop.proofs.Meant.{answer-meant, answer-only}
 use Rattle.closure.specs.declared.Layers.{Layers}
 use Rattle.closure.specs.declared.Closure.{Closure}
 use Rattle.closure.specs.Closures.{closureOf}
 use Rattle.closure.specs.Laws.{meets, nothing-else}
 use Rattle.loop_layers.specs.declared.LayerTable.{LayerTable}
-use Rattle.loop_layers.specs.Layers.{placeOf, presentIn, columnOf, embeddedIn, channelOf, layersOf, tableOf}
+use Rattle.loop_layers.specs.Layers.{placeOf, presentIn, columnOf, embeddedIn, layersOf, tableOf}
 use Rattle.loop_layers.specs.Closures.{entriesRead, closureIn, loopClosure}
 use Rattle.loop_layers.specs.Meaning.{HasLayer, Embeds, LayersOf, TableOf, Answers, loop-refused, loop-accepted}
 use Rattle.loop_layers.specs.Columns.{layer-stands, LayerOrNone, a-layer, no-layer, layer-or-none, has-layer, column-meant, column-only}

@@ -4,7 +4,8 @@ ghost use mathlib.Core.List.{[]};
 ghost use Prim.Native.Nat.{min};
 ghost use lib.ListN.{take};
 ghost use Rattle.loop_layers.specs.Closures.{loopClosure};
-ghost use Rattle.loop_layers.specs.Layers.{channelOf, layersOf, tableOf};
+ghost use Rattle.descriptors.specs.Records.{channelOf};
+ghost use Rattle.loop_layers.specs.Layers.{layersOf, tableOf};
 use closure::Closure;
 use closure::Layers;
 use descriptors::Record;
@@ -19,17 +20,6 @@ pub struct LayerTable {
     pub pids: [u16; 64],
     pub stream_types: [u8; 64],
     pub channels: [HierarchyChannel; 64],
-}
-
-// The channel on which a layer is sent, and 0 without a record.
-fn channel(record: Record) -> HierarchyChannel
-    ensures { λ r. ⌜ r ≡ channelOf «record» ⌝ }
-{
-    match record {
-        Record::NoRecord => HierarchyChannel(0),
-        Record::Hierarchy(hierarchy) => hierarchy.channel,
-        Record::Extension(extension) => extension.channel,
-    }
 }
 
 // The layers of no entries.
@@ -76,10 +66,10 @@ pub fn table_of(count: usize, entries: [Entry; 201]) -> LayerTable
         i += 1;
         if index < 64 {
             present = sets::with(present, index);
-            embedded[index] = judging::names(record, named);
+            embedded[index] = descriptors::names(record, named);
             pids[index] = entry.pid;
             stream_types[index] = entry.stream_type;
-            channels[index] = channel(record);
+            channels[index] = descriptors::channel(record);
         }
     }
     let layers = Layers { present, embedded };

@@ -18,23 +18,27 @@ use Rattle.syntax.proofs.Laws.{read-before, read-write, length-written}
 use Rattle.vocabulary.specs.declared.LayerIndex.{LayerIndex}
 use Rattle.vocabulary.specs.declared.stream_types.Reading.the-variants.{Edition2015}
 use Rattle.vocabulary.specs.StreamTypes.{known}
-use Rattle.descriptors.specs.declared.records.HierarchyRecord.{HierarchyRecord}
-use Rattle.descriptors.specs.declared.records.ExtensionRecord.{ExtensionRecord}
-use Rattle.descriptors.specs.declared.records.Record.{Record}
-use Rattle.descriptors.specs.declared.records.Record.the-variants.{NoRecord, Hierarchy, Extension}
+use Rattle.descriptors.specs.declared.hierarchy.HierarchyRecord.{HierarchyRecord}
+use Rattle.descriptors.specs.declared.extension.ExtensionRecord.{ExtensionRecord}
+use Rattle.descriptors.specs.declared.«record».Record.{Record}
+use Rattle.descriptors.specs.declared.«record».Record.the-variants.{NoRecord, Hierarchy, Extension}
 use Rattle.descriptors.specs.declared.looking.Seen.{Seen}
-use Rattle.descriptors.specs.Tables.{descriptorHead, hierarchyDescriptor, extensionHead, embeddedLayer}
-use Rattle.descriptors.specs.Records.{noLayer, hierarchyFrom, hierarchyOf, extensionFrom, extensionOf, layersOf}
-use Rattle.descriptors.specs.Looking.{Kind, hierarchy, extension, payloadKind, extensionKind, descriptorLength, kindOf, kindsOf, seenOfKinds, seenOf}
+use Rattle.descriptors.specs.Head.{descriptorHead, descriptorLength, headTable}
+use Rattle.descriptors.specs.Hierarchy.{hierarchyDescriptor, hierarchyFrom, hierarchyOf, hierarchyFields, hierarchyGiven}
+use Rattle.descriptors.specs.Extension.{extensionHead, embeddedLayer, noLayer, extensionFrom, extensionOf, layersOf, extensionFields, layerTable, extensionGiven}
+use Rattle.descriptors.specs.Looking.{Kind, hierarchy, extension, payloadKind, extensionKind, kindOf, kindsOf, seenOfKinds, seenOf}
 use Rattle.es_loop.specs.declared.entries.Entry.{Entry}
 use Rattle.es_loop.specs.declared.entries.Stream.{Stream}
 use Rattle.es_loop.specs.Entries.{entryHead, esInfoLength, seenIn, streamOf, streamsOf}
-use Rattle.es_loop.specs.Meant.{by-head}
-use Rattle.loop_layout.specs.Layout.{filled, bytesIn, tooWideIn, hierarchyFields, extensionFields, layerTable, recordTables, infoBytes, loopBytes, tooWide}
-use Rattle.loop_layout.specs.Fields.{hierarchy-fields, extension-fields}
-use Rattle.loop_layout.specs.Sizes.{fit-first, fit-others, hierarchy-fit, extension-fit, layers-fit, count-small, head-fit, record-fit, length-layers}
-use Rattle.loop_layout.specs.Bytes.{extension-bytes}
-use Rattle.loop_verdict.specs.Verdict.{streamFor}
+use Rattle.es_loop.proofs.Meant.{by-head}
+use Rattle.syntax.specs.Named.{byNames}
+use Rattle.syntax.specs.Filled.{filled, bytesIn, tooWideIn}
+use Rattle.descriptors.specs.Records.{recordTables}
+use Rattle.loop_writer.specs.Layout.{infoBytes, loopBytes, tooWide}
+use Rattle.descriptors.proofs.Payloads.{hierarchy-fields, extension-fields, extension-written}
+use Rattle.descriptors.proofs.Sizes.{fit-first, fit-others, hierarchy-fit, extension-fit, layers-fit, count-small, length-layers}
+use Rattle.loop_writer.proofs.Entries.{head-fit, record-fit}
+use Rattle.loop_writer.specs.Verdict.{streamFor}
 
 -- THE ENTRIES READ. The layers that a record lists, and blanks after them: what stands beyond the count in the array is not written.
 abbrev pub layersKept : Record → List LayerIndex → List LayerIndex
@@ -78,11 +82,11 @@ layer-sound = record { whole = refl; fixed-fit = refl }
 
 hierarchy-back : (h : HierarchyRecord) → Fit (hierarchyDescriptor Edition2015) (hierarchyFields h)
     → hierarchyOf Edition2015 (writeTable (hierarchyDescriptor Edition2015) (hierarchyFields h)) ≡ h
-hierarchy-back h fit = ap hierarchyFrom (read-write hierarchy-sound fit []) ∙ hierarchy-fields h
+hierarchy-back h fit = ap (λ (vs : List ℕ). hierarchyFrom (byNames (hierarchyDescriptor Edition2015) vs)) (read-write hierarchy-sound fit []) ∙ hierarchy-fields h
 
 extension-back : (x : ExtensionRecord) (rest : List ℕ) → Fit extensionHead (extensionFields x)
     → extensionOf (writeTable extensionHead (extensionFields x) ++ rest) ≡ x
-extension-back x rest fit = ap extensionFrom (read-write extension-sound fit rest) ∙ extension-fields x
+extension-back x rest fit = ap (λ (vs : List ℕ). extensionFrom (byNames extensionHead vs)) (read-write extension-sound fit rest) ∙ extension-fields x
 
 layers-back : (layers : List LayerIndex) → any tooWideIn (map layerTable layers) ≡ false → layersOf (gather bytesIn (map layerTable layers)) ≡ layers
 layers-back [] e = refl
@@ -130,11 +134,11 @@ seen-extension x layers room e =
     let payload : List ℕ = writeTable extensionHead (extensionFields x) ++ list in
     let counted : length (take n layers) ≡ n = length-take-le n layers (omega (arith, count-small x layers e)) in
     let size : length payload ≡ 7 + n = omega (arith, length-layers (take n layers)) in
-    let first : getD payload 0 0 ≡ 6 = sym (ap (λ (l : List ℕ). getD (l ++ list) 0 0) (extension-bytes x fit)) in
+    let first : getD payload 0 0 ≡ 6 = sym (ap (λ (l : List ℕ). getD (l ++ list) 0 0) (extension-written x fit)) in
     let back : extensionOf payload ≡ x = extension-back x list fit in
     let kind : extensionKind payload ≡ extension x (take n layers) =
     rw (lt-ltb 0 (length payload) (omega arith), eq-eqb (getD payload 0 0) 6 first, eq-eqb (length payload) (7 + (extensionOf payload) .«num_embedded_layers») (size ∙ sym (ap (λ (y : ExtensionRecord). 7 + y .«num_embedded_layers») back)), back, layers-back (take n layers) (layers-fit x layers e)) in
-    ap seenOfKinds (one-kind 63 (7 + n) payload (fit-first (filled descriptorHead (63 ∷ (7 + n) ∷ [])) (filled extensionHead (extensionFields x) ∷ map layerTable (take n layers)) e) size ∙ ap (λ (k : Kind). k ∷ []) kind)
+    ap seenOfKinds (one-kind 63 (7 + n) payload (fit-first (headTable 63 (7 + n)) (filled extensionHead (extensionGiven x) ∷ map layerTable (take n layers)) e) size ∙ ap (λ (k : Kind). k ∷ []) kind)
 
 seen-record : (r : Record) (layers : List LayerIndex) → length layers ≡ 63 → any tooWideIn (recordTables r layers) ≡ false
     → seenOf Edition2015 (gather bytesIn (recordTables r layers)) ≡ seenWith r (layersKept r layers)
@@ -142,8 +146,8 @@ seen-record NoRecord layers room e = refl
 seen-record (Hierarchy h) layers room e =
     let payload : List ℕ = writeTable (hierarchyDescriptor Edition2015) (hierarchyFields h) in
     ap seenOfKinds
-    (one-kind 4 4 payload (fit-first (filled descriptorHead (4 ∷ 4 ∷ [])) (filled (hierarchyDescriptor Edition2015) (hierarchyFields h) ∷ []) e) refl
-    ∙ ap (λ (g : HierarchyRecord). hierarchy g ∷ []) (hierarchy-back h (hierarchy-fit h layers e)))
+    (one-kind 4 4 payload (fit-first (headTable 4 4) (filled (hierarchyDescriptor Edition2015) (hierarchyGiven h) ∷ []) e) refl
+    ∙ ap (λ (g : HierarchyRecord). hierarchy g ∷ []) (hierarchy-back h (hierarchy-fit h e)))
 seen-record (Extension x) layers room e = seen-extension x layers room e
 
 -- ---- an entry

@@ -11,25 +11,26 @@ use borrow.Author.Tests.{lt-ltb, le-ltb, eq-eqb, eqb-true, ltb-false}
 use lib.Dec.{eqb, ltb}
 use lib.ListN.{length, getD, take, drop, replicate, length-append, length-map, length-drop, take-append-drop, List·getD-eq-default}
 use lib.Seq.{take-at, take-all}
-use Rattle.loop_layout.specs.Fields.{bit-there}
+use Rattle.descriptors.proofs.Payloads.{bit-there}
 use Rattle.combinators.specs.Bools.{both-left, neither-left, neither-right}
 use Rattle.combinators.specs.Lists.{Nth, here, there, nth-inside, getD-nth, getD-map, any, gather}
 use Rattle.combinators.specs.Lowest.{lowestNumber, earliestPlace, lowest-is}
 use Rattle.combinators.specs.Padding.{padTo, length-padTo}
 use Rattle.framing.specs.Pieces.{Item, whole, broken, cut, Cuts, nothing-left, does-not-fit, piece, cut-cuts}
-use Rattle.syntax.specs.Table.{Table, AreBytes, number, bytes, readTable, writeTable, fixedHold, Sound}
+use Rattle.syntax.specs.Table.{Table, AreBytes, number, bytes, readTable, writeTable, fixedHold, Sound, fits}
 use Rattle.syntax.proofs.Laws.{write-read, read-fits, fit-fits}
 use Rattle.syntax.proofs.Number.{drop-bytes}
 use Rattle.syntax.proofs.Equations.{bounds}
 use Rattle.vocabulary.specs.declared.LayerIndex.{LayerIndex}
 use Rattle.vocabulary.specs.declared.stream_types.Reading.the-variants.{Edition2015}
 use Rattle.vocabulary.specs.StreamTypes.{known}
-use Rattle.descriptors.specs.declared.records.Record.{Record}
-use Rattle.descriptors.specs.declared.records.Record.the-variants.{Hierarchy, Extension}
-use Rattle.descriptors.specs.Tables.{descriptorHead, hierarchyDescriptor, extensionHead, embeddedLayer}
-use Rattle.descriptors.specs.Records.{noLayer, hierarchyFrom, hierarchyOf, extensionFrom, extensionOf, layerIndexOf, layersOf, embeddedOf}
-use Rattle.descriptors.specs.Looking.{Kind, skipped, wrong-length, hierarchy, extension, payloadKind, descriptorTag, descriptorLength, kindOf, Held, heldIn, isWrongLength, firstRecord, firstLayers, seenOf, nothingSeen}
-use Rattle.judging.specs.Judging.{isLayer}
+use Rattle.descriptors.specs.declared.«record».Record.{Record}
+use Rattle.descriptors.specs.declared.«record».Record.the-variants.{Hierarchy, Extension}
+use Rattle.descriptors.specs.Head.{descriptorHead, descriptorTag, descriptorLength}
+use Rattle.descriptors.specs.Hierarchy.{hierarchyDescriptor, hierarchyFrom, hierarchyOf, hierarchyFields}
+use Rattle.descriptors.specs.Extension.{extensionHead, embeddedLayer, noLayer, extensionFrom, extensionOf, layerIndexOf, layersOf, embeddedOf, extensionFields, layerTable}
+use Rattle.descriptors.specs.Looking.{Kind, skipped, wrong-length, hierarchy, extension, payloadKind, kindOf, Held, heldIn, isWrongLength, firstRecord, firstLayers, seenOf, nothingSeen}
+use Rattle.descriptors.specs.Records.{isLayer, recordTables}
 use Rattle.descriptors.specs.declared.looking.Seen.{Seen}
 use Rattle.vocabulary.specs.declared.refusal.Refusal.{Refusal}
 use Rattle.vocabulary.specs.declared.refusal.Refusal.the-variants.{LoopTooLong}
@@ -41,11 +42,13 @@ use Rattle.es_loop.specs.declared.reader.LoopRead.{LoopRead}
 use Rattle.es_loop.specs.Conditions.{streamAt, applies, refusalOf}
 use Rattle.es_loop.specs.Reading.{refusedWith, accepted, loopRead}
 use Rattle.es_loop.specs.Entries.{entryHead, streamType, elementaryPid, esInfoLength, seenIn, streamOf, streamsOf, noStream, entryOf, blankEntry}
-use Rattle.es_loop.specs.Meant.{by-head}
-use Rattle.loop_layout.specs.Layout.{filled, bytesIn, tooWideIn, bitOf, hierarchyFields, extensionFields, layerTable, recordTables, infoBytes, entryBytes, loopBytes, tooWide}
-use Rattle.loop_verdict.specs.Verdict.{onUnknownType}
-use Rattle.loop_writer.specs.declared.Written.{Written}
-use Rattle.loop_writer.specs.declared.Written.the-variants.{Bytes, Refused}
+use Rattle.es_loop.proofs.Meant.{by-head}
+use Rattle.syntax.specs.Named.{byNames}
+use Rattle.syntax.specs.Filled.{filled, bytesIn, tooWideIn, bitOf}
+use Rattle.loop_writer.specs.Layout.{infoBytes, entryBytes, loopBytes, tooWide}
+use Rattle.loop_writer.specs.Verdict.{onUnknownType}
+use Rattle.loop_writer.specs.declared.writer.Written.{Written}
+use Rattle.loop_writer.specs.declared.writer.Written.the-variants.{Bytes, Refused}
 use Rattle.loop_writer.specs.Writing.{answer}
 use Rattle.loop_round_trip.specs.ReadBack.{Typed, none, one-more as one-typed, by-tag, entry-sound, descriptor-sound, hierarchy-sound, extension-sound, layer-sound}
 use Rattle.loop_round_trip.specs.RoundTrip.{Refuses, wide, too-long, judged-by, no-room, writes, refuses, numbered, none-below, same-refusal}
@@ -68,14 +71,14 @@ again : {t : Table} → Sound t → (l : List ℕ) → AreBytes l → length l �
     → writeTable t (readTable t l) ≡ l
 again {t} s l b long f ones = write-read s l b (omega arith) f ones ∙ take-all (bytes t) l (omega arith)
 
-fits-filled : (t : Table) (l : List ℕ) → tooWideIn (filled t (readTable t l)) ≡ false
+fits-filled : (t : Table) (l : List ℕ) → not (fits t (readTable t l)) ≡ false
 fits-filled t l = ap not (fit-fits (read-fits t l))
 
 hierarchy-values : (a b c d t i f e ch : ℕ) → a < 2 → b < 2 → c < 2 → d < 2 → f < 2
-    → hierarchyFields (hierarchyFrom (a ∷ b ∷ c ∷ d ∷ t ∷ i ∷ f ∷ e ∷ ch ∷ [])) ≡ a ∷ b ∷ c ∷ d ∷ t ∷ i ∷ f ∷ e ∷ ch ∷ []
+    → hierarchyFields (hierarchyFrom (byNames (hierarchyDescriptor Edition2015) (a ∷ b ∷ c ∷ d ∷ t ∷ i ∷ f ∷ e ∷ ch ∷ []))) ≡ a ∷ b ∷ c ∷ d ∷ t ∷ i ∷ f ∷ e ∷ ch ∷ []
 hierarchy-values a b c d t i f e ch ha hb hc hd hf = rw (bit-there a ha, bit-there b hb, bit-there c hc, bit-there d hd, bit-there f hf)
 
-extension-values : (d i t n f c h : ℕ) → f < 2 → extensionFields (extensionFrom (d ∷ i ∷ t ∷ n ∷ f ∷ c ∷ h ∷ [])) ≡ d ∷ i ∷ t ∷ n ∷ f ∷ c ∷ h ∷ []
+extension-values : (d i t n f c h : ℕ) → f < 2 → extensionFields (extensionFrom (byNames extensionHead (d ∷ i ∷ t ∷ n ∷ f ∷ c ∷ h ∷ []))) ≡ d ∷ i ∷ t ∷ n ∷ f ∷ c ∷ h ∷ []
 extension-values d i t n f c h hf = rw (bit-there f hf)
 
 hierarchy-again : (payload : List ℕ) → hierarchyFields (hierarchyOf Edition2015 payload) ≡ readTable (hierarchyDescriptor Edition2015) payload
@@ -143,11 +146,11 @@ record Back (r : Record) (layers : List LayerIndex) (info : List ℕ) : Type 0 w
   info-room : length layers ≡ 63
 
 head-again : (head : List ℕ) (tag long : ℕ) → AreBytes head → length head ≡ 2 → descriptorTag head ≡ tag → descriptorLength head ≡ long
-    → (writeTable descriptorHead (tag ∷ long ∷ []) ≡ head) × (tooWideIn (filled descriptorHead (tag ∷ long ∷ [])) ≡ false)
+    → (writeTable descriptorHead (tag ∷ long ∷ []) ≡ head) × (not (fits descriptorHead (tag ∷ long ∷ [])) ≡ false)
 head-again head tag long b size t l =
     let values : readTable descriptorHead head ≡ tag ∷ long ∷ [] = ap₂ (λ (x y : ℕ). x ∷ y ∷ []) t l in (
       ap (writeTable descriptorHead) (sym values) ∙ again descriptor-sound head b size refl refl,
-      ap (λ (vs : List ℕ). tooWideIn (filled descriptorHead vs)) (sym values) ∙ fits-filled descriptorHead head,
+      ap (λ (vs : List ℕ). not (fits descriptorHead vs)) (sym values) ∙ fits-filled descriptorHead head,
     )
 
 module _ (head payload : List ℕ) (size : length head ≡ 2) (long : length payload ≡ descriptorLength head) (bh : AreBytes head) (bp : AreBytes payload) where
@@ -158,7 +161,7 @@ module _ (head payload : List ℕ) (size : length head ≡ 2) (long : length pay
       record {
         info-bytes = ap₂ (λ (x y : List ℕ). x ++ y) (front .0)
             (ap (writeTable (hierarchyDescriptor Edition2015)) (hierarchy-again payload) ∙ again hierarchy-sound payload bp l refl ones);
-        info-fit = ap (λ (vs : List ℕ). tooWideIn (filled (hierarchyDescriptor Edition2015) vs) || false) (hierarchy-again payload)
+        info-fit = ap (λ (vs : List ℕ). not (fits (hierarchyDescriptor Edition2015) vs) || false) (hierarchy-again payload)
             ∙ ap (λ (x : Bool). x || false) (fits-filled (hierarchyDescriptor Edition2015) payload);
         info-room = refl;
       }
@@ -187,7 +190,7 @@ module _ (head payload : List ℕ) (size : length head ≡ 2) (long : length pay
               (ap (λ (ls : List LayerIndex). gather bytesIn (map layerTable ls)) kept ∙ list-again (drop 7 payload) (drop-bytes 7 payload bp) list)
               ∙ take-append-drop 7 payload);
           info-fit = ap₂ _||_ (front .1)
-              (ap₂ _||_ (ap (λ (vs : List ℕ). tooWideIn (filled extensionHead vs)) (extension-again payload) ∙ fits-filled extensionHead payload)
+              (ap₂ _||_ (ap (λ (vs : List ℕ). not (fits extensionHead vs)) (extension-again payload) ∙ fits-filled extensionHead payload)
               (ap (λ (ls : List LayerIndex). any tooWideIn (map layerTable ls)) kept ∙ list-fits (drop 7 payload)));
           info-room = length-padTo 63 noLayer (embeddedOf payload) (omega (arith, counted, n-small));
         }
@@ -266,7 +269,7 @@ module _ (head info : List ℕ) (size : length head ≡ 5) (long : length info �
       ap (λ (n : ℕ). streamType head ∷ elementaryPid head ∷ n ∷ []) (sym (ap length (back .info-bytes) ∙ long)) in
       record {
         bytes-again = ap₂ (λ (x y : List ℕ). x ++ y) (ap (writeTable entryHead) (sym values) ∙ again entry-sound head bh size refl ones) (back .info-bytes);
-        fit-again = ap₂ _||_ (ap (λ (vs : List ℕ). tooWideIn (filled entryHead vs)) (sym values) ∙ fits-filled entryHead head) (back .info-fit);
+        fit-again = ap₂ _||_ (ap (λ (vs : List ℕ). not (fits entryHead vs)) (sym values) ∙ fits-filled entryHead head) (back .info-fit);
         room-again = back .info-room;
         known-again = unknown;
       }

@@ -27,11 +27,11 @@ use Rattle.es_loop.specs.declared.reader.Outcome.the-variants.{Accepted}
 use Rattle.es_loop.specs.Entries.{blankEntry, entryOf, streamsOf}
 use Rattle.es_loop.specs.Conditions.{applies, refusalOf}
 use Rattle.es_loop.specs.Reading.{refusedWith, accepted, judged, loopRead}
-use Rattle.es_loop.specs.Judged.{judged-refused, judged-accepted}
-use Rattle.loop_layout.specs.Layout.{loopBytes, tooWide}
-use Rattle.loop_verdict.specs.Verdict.{streamFor, onUnknownType, appliesTo}
-use Rattle.loop_writer.specs.declared.Written.{Written}
-use Rattle.loop_writer.specs.declared.Written.the-variants.{Bytes, Refused}
+use Rattle.es_loop.proofs.Judged.{judged-refused, judged-accepted}
+use Rattle.loop_writer.specs.Layout.{loopBytes, tooWide}
+use Rattle.loop_writer.specs.Verdict.{streamFor, onUnknownType, appliesTo}
+use Rattle.loop_writer.specs.declared.writer.Written.{Written}
+use Rattle.loop_writer.specs.declared.writer.Written.the-variants.{Bytes, Refused}
 use Rattle.loop_writer.specs.Writing.{answer, contentAfter, content}
 use Rattle.loop_round_trip.specs.ReadBack.{normal, readAs, Typed, read-written}
 use Rattle.loop_round_trip.specs.Verdicts.{NotBySix, read-normal, same-lowest, none-unknown}

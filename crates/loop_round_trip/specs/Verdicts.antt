@@ -19,17 +19,20 @@ use Rattle.combinators.specs.Padding.{padTo}
 use Rattle.vocabulary.specs.declared.LayerIndex.{LayerIndex}
 use Rattle.vocabulary.specs.declared.stream_types.Reading.the-variants.{Edition2015}
 use Rattle.vocabulary.specs.StreamTypes.{known}
-use Rattle.descriptors.specs.declared.records.Record.{Record}
-use Rattle.descriptors.specs.declared.records.Record.the-variants.{NoRecord, Hierarchy, Extension}
-use Rattle.descriptors.specs.Records.{noLayer}
-use Rattle.judging.specs.Judging.{isLayer, indexOf, sameIndex, plain, typeNotAllowed, wrongFlags, wrongList, wrongEmbedded, tooManyEmbedded}
+use Rattle.descriptors.specs.declared.«record».Record.{Record}
+use Rattle.descriptors.specs.declared.«record».Record.the-variants.{NoRecord, Hierarchy, Extension}
+use Rattle.descriptors.specs.Extension.{noLayer}
+use Rattle.descriptors.specs.Records.{isLayer, indexOf, plain, recordTables}
+use Rattle.judging.specs.Judging.{sameIndex, typeNotAllowed, wrongFlags, wrongList, wrongEmbedded, tooManyEmbedded}
 use Rattle.es_loop.specs.declared.entries.Entry.{Entry}
 use Rattle.es_loop.specs.declared.entries.Stream.{Stream}
 use Rattle.es_loop.specs.Entries.{noStream, blankEntry}
 use Rattle.es_loop.specs.Conditions.{streamAt, pidAt, recordAt, repeatedPid, repeatedIndex, conditions, applies}
-use Rattle.loop_layout.specs.Layout.{tooWideIn, recordTables, tooWide}
-use Rattle.loop_layout.specs.Sizes.{record-fit, count-small}
-use Rattle.loop_verdict.specs.Verdict.{streamFor, onUnknownType, appliesTo}
+use Rattle.syntax.specs.Filled.{tooWideIn}
+use Rattle.loop_writer.specs.Layout.{tooWide}
+use Rattle.loop_writer.proofs.Entries.{record-fit}
+use Rattle.descriptors.proofs.Sizes.{count-small}
+use Rattle.loop_writer.specs.Verdict.{streamFor, onUnknownType, appliesTo}
 use Rattle.loop_round_trip.specs.ReadBack.{layersKept, normal, withoutRecord, readAs, Typed, typed-at}
 
 -- ONE ENTRY, by whether its type is known

@@ -16,10 +16,10 @@ use Rattle.vocabulary.specs.declared.refusal.Refusal.{Refusal}
 use Rattle.vocabulary.specs.declared.refusal.Refusal.the-variants.{LoopTooLong, NoRoom, TooWide}
 use Rattle.es_loop.specs.declared.entries.Entry.{Entry}
 use Rattle.es_loop.specs.Conditions.{refusalOf}
-use Rattle.loop_layout.specs.Layout.{loopBytes, tooWide}
-use Rattle.loop_verdict.specs.Verdict.{appliesTo}
-use Rattle.loop_writer.specs.declared.Written.{Written}
-use Rattle.loop_writer.specs.declared.Written.the-variants.{Bytes, Refused}
+use Rattle.loop_writer.specs.Layout.{loopBytes, tooWide}
+use Rattle.loop_writer.specs.Verdict.{appliesTo}
+use Rattle.loop_writer.specs.declared.writer.Written.{Written}
+use Rattle.loop_writer.specs.declared.writer.Written.the-variants.{Bytes, Refused}
 use Rattle.loop_writer.specs.Writing.{inRoom, answer, contentAfter, content}
 
 module _ (count : ℕ) (array : List Entry) (old : List ℕ) where

@@ -1,1 +1,5 @@
+pub mod Entries
+pub mod Sixes
+pub mod Walk
 pub mod Answers
+pub mod Meant

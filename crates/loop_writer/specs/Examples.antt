@@ -5,13 +5,13 @@ use mathlib.Core.Bool.{true, false}
 use mathlib.Core.List.{[], _∷_}
 use Rattle.combinators.specs.Padding.{padTo}
 use Rattle.vocabulary.specs.declared.refusal.Refusal.the-variants.{RepeatedPid, TypeNotAllowed, NoRoom, TooWide}
-use Rattle.descriptors.specs.declared.records.Record.the-variants.{Hierarchy, Extension}
-use Rattle.descriptors.specs.Records.{noLayer}
+use Rattle.descriptors.specs.declared.«record».Record.the-variants.{Hierarchy, Extension}
+use Rattle.descriptors.specs.Extension.{noLayer}
 use Rattle.es_loop.specs.declared.entries.Entry.{Entry}
 use Rattle.es_loop.specs.Entries.{blankEntry}
 use Rattle.es_loop.specs.Examples.{loopA}
-use Rattle.loop_layout.specs.Layout.{loopBytes}
-use Rattle.loop_writer.specs.declared.Written.the-variants.{Bytes, Refused}
+use Rattle.loop_writer.specs.Layout.{loopBytes}
+use Rattle.loop_writer.specs.declared.writer.Written.the-variants.{Bytes, Refused}
 use Rattle.loop_writer.specs.Writing.{answer}
 
 abbrev base : Entry

@@ -1,4 +1,5 @@
+pub mod Layout
+pub mod Verdict
 pub mod Writing
 pub mod Meaning
-pub mod Meant
 pub mod Examples

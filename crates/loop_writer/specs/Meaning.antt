@@ -11,20 +11,21 @@ use Rattle.syntax.specs.Table.{Fit}
 use Rattle.vocabulary.specs.declared.stream_types.Reading.the-variants.{Edition2015}
 use Rattle.vocabulary.specs.declared.refusal.Refusal.the-variants.{LoopTooLong, NoRoom, TooWide}
 use Rattle.vocabulary.specs.StreamTypes.{known}
-use Rattle.judging.specs.Judging.{isLayer, indexOf}
+use Rattle.descriptors.specs.Records.{isLayer, indexOf}
 use Rattle.judging.specs.Meaning.{TypeNotAllowed, WrongFlags, WrongEmbedded, TooManyEmbedded}
 use Rattle.es_loop.specs.declared.entries.Entry.{Entry}
 use Rattle.es_loop.specs.Conditions.{refusalOf}
-use Rattle.loop_layout.specs.Layout.{Filled, entryTables, loopBytes}
-use Rattle.loop_writer.specs.declared.Written.{Written}
-use Rattle.loop_writer.specs.declared.Written.the-variants.{Bytes, Refused}
+use Rattle.syntax.specs.Filled.{Filled, valuesIn}
+use Rattle.loop_writer.specs.Layout.{entryTables, loopBytes}
+use Rattle.loop_writer.specs.declared.writer.Written.{Written}
+use Rattle.loop_writer.specs.declared.writer.Written.the-variants.{Bytes, Refused}
 
 -- 25: 'a value to be written is too wide for its field': some table of some entry cannot hold its values. Else every one can.
 pub data SomeTooWide (entries : List Entry) : Type 0 where
-  too-wide-at : {k i : ℕ} {e : Entry} {f : Filled} → Nth entries k e → Nth (entryTables e) i f → (Fit (f .table) (f .values) → ⊥) → SomeTooWide entries
+  too-wide-at : {k i : ℕ} {e : Entry} {f : Filled} → Nth entries k e → Nth (entryTables e) i f → (Fit (f .table) (valuesIn f) → ⊥) → SomeTooWide entries
 
 abbrev pub EachFits : List Entry → Type 0
-EachFits entries = (k i : ℕ) (e : Entry) (f : Filled) → Nth entries k e → Nth (entryTables e) i f → Fit (f .table) (f .values)
+EachFits entries = (k i : ℕ) (e : Entry) (f : Filled) → Nth entries k e → Nth (entryTables e) i f → Fit (f .table) (valuesIn f)
 
 -- The table 'Refusal numbers', 3 and 6 to 10: the condition of each number, and the entry that is its place.
 module _ (entries : List Entry) where

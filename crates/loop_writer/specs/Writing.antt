@@ -10,10 +10,10 @@ use Rattle.combinators.specs.Lowest.{lowestNumber, earliestPlace}
 use Rattle.vocabulary.specs.declared.refusal.Refusal.the-variants.{LoopTooLong, NoRoom, TooWide}
 use Rattle.es_loop.specs.declared.entries.Entry.{Entry}
 use Rattle.es_loop.specs.Conditions.{refusalOf}
-use Rattle.loop_layout.specs.Layout.{loopBytes, tooWide}
-use Rattle.loop_verdict.specs.Verdict.{appliesTo}
-use Rattle.loop_writer.specs.declared.Written.{Written}
-use Rattle.loop_writer.specs.declared.Written.the-variants.{Bytes, Refused}
+use Rattle.loop_writer.specs.Layout.{loopBytes, tooWide}
+use Rattle.loop_writer.specs.Verdict.{appliesTo}
+use Rattle.loop_writer.specs.declared.writer.Written.{Written}
+use Rattle.loop_writer.specs.declared.writer.Written.the-variants.{Bytes, Refused}
 
 -- 17, or the number of bytes
 abbrev pub inRoom : ℕ → ℕ → Written

@@ -2,42 +2,10 @@
 // its place.
 //
 // What is to be written is judged, and its size found, before the first byte is laid into the buffer.
-ghost use mathlib.Core.Path.{_≡_};
-ghost use lib.ListN.{length};
-ghost use Rattle.loop_writer.specs.Writing.{answer, content};
-use combinators::lesser;
-use es_loop::Entry;
-use es_loop::refusal_of;
-use vocabulary::Refusal;
+mod entry;
+mod passes;
+mod verdict;
+mod writer;
 
-// What writing a loop answers: how many bytes were written, or the refusal.
-pub enum Written {
-    Bytes(usize),
-    Refused(Refusal),
-}
-
-// Writes the first `count` entries into `out`, from its front on.
-pub fn write_loop(count: usize, entries: [Entry; 201], out: &mut [u8]) -> Written
-    ensures { λ r. ⌜ (r ≡ answer (length (now (out .entry))) count entries) × (now (out .exit) ≡ content count entries (now (out .entry))) ⌝ }
-{
-    let given = lesser(count, 201);
-    if loop_widths::some_too_wide(given, entries) {
-        return Written::Refused(Refusal::TooWide);
-    }
-    if 201 < count {
-        return Written::Refused(Refusal::LoopTooLong);
-    }
-    let size = loop_layout::loop_size(given, entries);
-    if 1008 < size {
-        return Written::Refused(Refusal::LoopTooLong);
-    }
-    let fault = loop_verdict::lowest_of(given, entries);
-    if fault.number < 11 {
-        return Written::Refused(refusal_of(fault.number, fault.place));
-    }
-    if out.len() < size {
-        return Written::Refused(Refusal::NoRoom);
-    }
-    loop_laying::put_entries(out, given, entries);
-    Written::Bytes(size)
-}
+pub use writer::Written;
+pub use writer::write_loop;

@@ -6,7 +6,7 @@ use mathlib.Core.Path.{_≡_}
 use mathlib.Core.Bool.{Bool, true, false, cond, _&&_, _||_}
 use mathlib.Core.List.{List, [], _∷_}
 use lib.Text.{eqt}
-use Rattle.syntax.specs.Table.{value, reserved, fixed, Table, bits, writeTable, Written}
+use Rattle.syntax.specs.Table.{value, reserved, fixed, Table, bits, readTable, writeTable, Written}
 
 -- READING. The value of the first line of that name, in a number that holds the table's bits; 0 where no line has it.
 abbrev pub named : String → Table → ℕ → ℕ
@@ -15,13 +15,27 @@ named name (value w line ∷ t) n = cond (eqt name line) (n / 2 ^ bits t % 2 ^ w
 named name (reserved w ∷ t) n = named name t n
 named name (fixed w b ∷ t) n = named name t n
 
--- WRITING. Numbers given to names, in any order. A name that is given none has 0.
+-- Numbers given to names, in any order. A name that is given none has 0.
 abbrev pub Given : Type 0
 Given = List (String × ℕ)
 
 abbrev pub givenTo : String → Given → ℕ
 givenTo name [] = 0
 givenTo name ((line, n) ∷ given) = cond (eqt name line) n (givenTo name given)
+
+-- the values of a table in its order, each given to the name of its line
+abbrev pub byNames : Table → List ℕ → Given
+byNames [] vs = []
+byNames (value w name ∷ t) [] = []
+byNames (value w name ∷ t) (v ∷ vs) = (name, v) ∷ byNames t vs
+byNames (reserved w ∷ t) vs = byNames t vs
+byNames (fixed w b ∷ t) vs = byNames t vs
+
+-- what bytes give to the names of a table's lines
+abbrev pub readBy : Table → List ℕ → Given
+readBy t l = byNames t (readTable t l)
+
+-- WRITING.
 
 -- the values of a table in its order, each what its line's name is given
 abbrev pub valuesBy : Table → Given → List ℕ

@@ -48,10 +48,10 @@ use Rattle.es_loop.specs.declared.reader.LoopRead.{LoopRead}
 use Rattle.es_loop.specs.Entries.{esInfoLength, streamOf, streamsOf}
 use Rattle.es_loop.specs.Conditions.{applies, refusalOf}
 use Rattle.es_loop.specs.Reading.{refusedWith, accepted as loopAccepted, judged, loopRead}
-use Rattle.loop_writer.specs.declared.Written.{Written}
-use Rattle.loop_writer.specs.declared.Written.the-variants.{Bytes, Refused as NotWritten}
-use Rattle.loop_layout.specs.Layout.{loopBytes, tooWide}
-use Rattle.loop_verdict.specs.Verdict.{appliesTo}
+use Rattle.loop_writer.specs.declared.writer.Written.{Written}
+use Rattle.loop_writer.specs.declared.writer.Written.the-variants.{Bytes, Refused as NotWritten}
+use Rattle.loop_writer.specs.Layout.{loopBytes, tooWide}
+use Rattle.loop_writer.specs.Verdict.{appliesTo}
 use Rattle.loop_writer.specs.Writing.{inRoom, judgedIn, answer}
 use Rattle.loop_layers.specs.Layers.{layersOf}
 use Rattle.loop_layers.specs.Closures.{entriesRead, closureFor, loopClosure}

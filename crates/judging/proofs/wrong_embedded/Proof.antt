@@ -5,9 +5,10 @@ use mathlib.Core.List.{List, map}
 use native.Mathlib.Omega.{arith}
 use lib.ListN.{length}
 use Rattle.vocabulary.specs.declared.LayerIndex.{LayerIndex}
-use Rattle.descriptors.specs.declared.records.Record.{Record}
-use Rattle.judging.specs.Judging.{plain, wrongList, wrongEmbedded}
-use Rattle.judging.proofs.Loops.{all-listed}
+use Rattle.descriptors.specs.declared.«record».Record.{Record}
+use Rattle.descriptors.specs.Records.{plain}
+use Rattle.judging.specs.Judging.{wrongList, wrongEmbedded}
+use Rattle.descriptors.proofs.Naming.{all-listed}
 use borrow.Author.Needs.{needs}
 use Rattle.judging.proofs.wrong_embedded.Statement.{statement}
 use Rattle.judging.proofs.wrong_embedded.Tie as tie

@@ -7,7 +7,7 @@ use mathlib.Core.List.{List, []}
 use native.Mathlib.Omega.{arith}
 use lib.ListN.{length, take}
 use Rattle.es_loop.specs.declared.entries.Entry.{Entry}
-use Rattle.descriptors.specs.declared.records.Record.the-variants.{NoRecord}
+use Rattle.descriptors.specs.declared.«record».Record.the-variants.{NoRecord}
 use Rattle.loop_layers.specs.declared.LayerTable.{LayerTable}
 use Rattle.loop_layers.specs.Layers.{tableOf}
 use Rattle.loop_layers.proofs.Pass.{turn, passed, counted}

@@ -6,7 +6,7 @@ use mathlib.Core.Path.{_≡_, _∙_, ap, sym, subst}
 use mathlib.Core.Logic.{_≢_}
 use lib.ListN.{length, take, drop, length-drop}
 use lib.Seq.{take-all}
-use Rattle.descriptors.specs.declared.records.ExtensionRecord.{ExtensionRecord}
+use Rattle.descriptors.specs.declared.extension.ExtensionRecord.{ExtensionRecord}
 use Rattle.descriptors.specs.Steps.{lookedOf}
 use Rattle.descriptors.proofs.Cases.{count-small, extension-empty, extension-other, extension-wrong, extension-right}
 use borrow.Author.Needs.{needs}

@@ -1,7 +1,7 @@
 -- `laying::head_of` meets its contract: which arm was taken says which record it is.
 -- Assumes nothing.
 use mathlib.Core.Path.{sym, _∙_, ap}
-use Rattle.descriptors.specs.declared.records.Record.{Record}
+use Rattle.descriptors.specs.declared.«record».Record.{Record}
 use Rattle.entry_rows.specs.Rows.{headOf}
 use native.Mathlib.Omega.{arith}
 use borrow.Author.Needs.{needs}

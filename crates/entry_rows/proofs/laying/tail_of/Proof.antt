@@ -1,7 +1,7 @@
 -- `laying::tail_of` meets its contract: only an extension counts embedded layers.
 -- Assumes nothing.
 use mathlib.Core.Path.{sym, _∙_, ap}
-use Rattle.descriptors.specs.declared.records.Record.{Record}
+use Rattle.descriptors.specs.declared.«record».Record.{Record}
 use Rattle.entry_rows.specs.Rows.{tailOf}
 use native.Mathlib.Omega.{arith}
 use borrow.Author.Needs.{needs}

@@ -4,7 +4,7 @@ use mathlib.Core.Path.{ap}
 use mathlib.Core.List.{List}
 use lib.ListN.{replicate}
 use Rattle.vocabulary.specs.declared.LayerIndex.{LayerIndex}
-use Rattle.descriptors.specs.declared.records.Record.the-variants.{NoRecord}
+use Rattle.descriptors.specs.declared.«record».Record.the-variants.{NoRecord}
 use borrow.Author.Needs.{needs}
 use Rattle.es_loop.proofs.entries.blank_entries.Statement.{statement}
 use Rattle.es_loop.proofs.entries.blank_entries.Tie as tie

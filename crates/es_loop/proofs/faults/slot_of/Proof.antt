@@ -3,7 +3,7 @@
 use mathlib.Core.Path.{_≡_, _∙_, ap, sym}
 use native.Mathlib.Omega.{arith}
 use mathlib.Core.Bool.{Bool, cond}
-use Rattle.judging.specs.Judging.{indexOf, plain}
+use Rattle.descriptors.specs.Records.{indexOf, plain}
 use borrow.Author.Needs.{needs}
 use Rattle.es_loop.proofs.faults.slot_of.Statement.{statement}
 use Rattle.es_loop.proofs.faults.slot_of.Tie as tie

@@ -13,7 +13,7 @@ use Rattle.combinators.specs.Lists.{part-to-end, next}
 use Rattle.es_loop.specs.declared.entries.Stream.{Stream}
 use Rattle.es_loop.specs.Entries.{noStream, sizeOf, streamsOf}
 use Rattle.es_loop.specs.Reading.{refusedWith}
-use Rattle.es_loop.specs.Marked.{slot-below}
+use Rattle.es_loop.proofs.Marked.{slot-below}
 use Rattle.es_loop.proofs.Walk.{State, start, size-large, pid-below, front-broken, front-of, does-not-fit, turn, end-refused, end-accepted}
 use Rattle.es_loop.proofs.reader.read_entries.Statement.{statement}
 use Rattle.es_loop.proofs.reader.read_entries.Tie as tie

@@ -1,0 +1,162 @@
+// What makes a stream a layer, if anything does, and what both descriptors share: whether there is a layer, its index, the layers that it
+// names, its channel, whether a value of it is too wide, and the descriptor as it is written.
+ghost use mathlib.Core.Path.{_≡_};
+ghost use mathlib.Core.Bool.{false};
+ghost use mathlib.Core.List.{[], map};
+ghost use Prim.Native.Nat.{_≤_, min};
+ghost use lib.ListN.{length, take};
+ghost use Rattle.combinators.specs.Lists.{any, gather};
+ghost use Rattle.buffers.specs.Buffers.{Laid};
+ghost use Rattle.sets.specs.Sets.{added};
+ghost use Rattle.syntax.specs.Filled.{bytesIn, tooWideIn};
+ghost use Rattle.descriptors.specs.Records.{isLayer, indexOf, channelOf, isBase, plain, withIndices, namesOf, recordTables};
+use super::extension::ExtensionRecord;
+use super::extension::extension_fits;
+use super::extension::list_too_wide;
+use super::extension::put_extension;
+use super::hierarchy::HierarchyRecord;
+use super::hierarchy::hierarchy_fits;
+use super::hierarchy::put_hierarchy;
+use vocabulary::HierarchyChannel;
+use vocabulary::LayerIndex;
+
+pub enum Record {
+    NoRecord,
+    Hierarchy(HierarchyRecord),
+    Extension(ExtensionRecord),
+}
+
+// Whether a stream with this record is a layer.
+pub fn is_layer(record: Record) -> bool
+    ensures { λ r. ⌜ r ≡ isLayer «record» ⌝ }
+{
+    match record {
+        Record::NoRecord => false,
+        Record::Hierarchy(_) => true,
+        Record::Extension(_) => true,
+    }
+}
+
+// The layer's index, and 0 without a record.
+pub fn layer_index(record: Record) -> LayerIndex
+    ensures { λ r. ⌜ r ≡ record { 0 = indexOf «record» } ⌝ }
+{
+    match record {
+        Record::NoRecord => LayerIndex(0),
+        Record::Hierarchy(hierarchy) => hierarchy.layer_index,
+        Record::Extension(extension) => extension.layer_index,
+    }
+}
+
+// The channel on which a layer is sent, and 0 without a record.
+pub fn channel(record: Record) -> HierarchyChannel
+    ensures { λ r. ⌜ r ≡ channelOf «record» ⌝ }
+{
+    match record {
+        Record::NoRecord => HierarchyChannel(0),
+        Record::Hierarchy(hierarchy) => hierarchy.channel,
+        Record::Extension(extension) => extension.channel,
+    }
+}
+
+// Type 15 is a base layer: its embedded index names nothing.
+pub fn is_base(hierarchy: HierarchyRecord) -> bool
+    ensures { λ r. ⌜ r ≡ isBase hierarchy ⌝ }
+{
+    hierarchy.hierarchy_type == 15
+}
+
+// How many layers of the array an extension lists: as many as it counts, and no more than there are.
+pub fn listed_count(num_embedded_layers: u8) -> usize
+    ensures { λ r. ⌜ r ≡ min «num_embedded_layers» 63 ⌝ }
+{
+    if num_embedded_layers < 63 {
+        num_embedded_layers as usize
+    } else {
+        63
+    }
+}
+
+// A set with one index more: bit i stands for index i.
+fn with_index(set: u64, index: LayerIndex) -> u64
+    ensures { λ r. ⌜ r ≡ added set (plain index) ⌝ }
+{
+    sets::with(set, index.0 as usize)
+}
+
+// The set of the first `count` indices.
+fn names_in(count: usize, embedded: [LayerIndex; 63]) -> u64
+    requires { ⌜ count ≤ 63 ⌝ }
+    ensures { λ r. ⌜ r ≡ withIndices 0 (map plain (take count embedded)) ⌝ }
+{
+    let mut set = 0u64;
+    let mut i = 0;
+    while i < count {
+        set = with_index(set, embedded[i]);
+        i += 1;
+    }
+    set
+}
+
+fn names_of_hierarchy(hierarchy: HierarchyRecord) -> u64
+    ensures { λ r. ⌜ r ≡ namesOf (Record.Hierarchy hierarchy) [] ⌝ }
+{
+    if is_base(hierarchy) {
+        return 0;
+    }
+    with_index(0, hierarchy.embedded_layer_index)
+}
+
+// The layers that a record names, as a set: bit i is 1 exactly when it names layer i.
+pub fn names(record: Record, embedded: [LayerIndex; 63]) -> u64
+    ensures { λ r. ⌜ r ≡ namesOf «record» embedded ⌝ }
+{
+    match record {
+        Record::NoRecord => 0,
+        Record::Hierarchy(hierarchy) => names_of_hierarchy(hierarchy),
+        Record::Extension(extension) => names_in(
+            listed_count(extension.num_embedded_layers),
+            embedded,
+        ),
+    }
+}
+
+// Refusal 25 of a record: whether a value is too wide for its field.
+pub fn record_too_wide(record: Record, embedded: [LayerIndex; 63]) -> bool
+    ensures { λ r. ⌜ r ≡ any tooWideIn (recordTables «record» embedded) ⌝ }
+{
+    match record {
+        Record::NoRecord => false,
+        Record::Hierarchy(hierarchy) => !hierarchy_fits(hierarchy),
+        Record::Extension(extension) => {
+            if extension_fits(extension) {
+                return list_too_wide(extension.num_embedded_layers as usize, embedded);
+            }
+            true
+        }
+    }
+}
+
+// How many bytes the descriptor takes: its head of two, and what the tag demands.
+pub fn record_size(record: Record, embedded: [LayerIndex; 63]) -> usize
+    requires { ⌜ any tooWideIn (recordTables «record» embedded) ≡ false ⌝ }
+    ensures { λ r. ⌜ (r ≡ length (gather bytesIn (recordTables «record» embedded))) × (r ≤ 72) ⌝ }
+{
+    match record {
+        Record::NoRecord => 0,
+        Record::Hierarchy(_) => 6,
+        Record::Extension(extension) => 9 + extension.num_embedded_layers as usize,
+    }
+}
+
+// The descriptor laid into `out` from place `at` on, nothing without a record.
+pub fn put_record(out: &mut [u8], at: usize, record: Record, embedded: [LayerIndex; 63]) -> usize
+    requires { ⌜ any tooWideIn (recordTables «record» embedded) ≡ false ⌝ }
+    ensures { λ r. ⌜ Laid (now (out .entry)) at (gather bytesIn (recordTables «record» embedded)) r (now (out .exit)) ⌝ }
+{
+    match record {
+        Record::NoRecord => buffers::put(out, at, b""),
+        Record::Hierarchy(hierarchy) => put_hierarchy(out, at, hierarchy),
+        Record::Extension(extension) => put_extension(out, at, extension, embedded),
+    }
+}

@@ -1,0 +1,60 @@
+-- What is said of an entry before it, read off two arrays of marks: one mark for each PID, and one for each layer index. The reader and the
+-- writer of a loop both keep them.
+-- Assumes nothing.
+use Prim.Native.Nat.{ℕ, _<_}
+use mathlib.Core.Path.{_≡_, refl, sym, _∙_, ap}
+use mathlib.Core.Bool.{Bool, true, false, _&&_, and-false}
+use mathlib.Core.List.{List}
+use native.Mathlib.Omega.{arith}
+use borrow.Author.Tests.{ne-eqb}
+use lib.Dec.{eqb}
+use lib.ListN.{getD}
+use Rattle.combinators.specs.Below.{some, some-same, at-none}
+use Rattle.combinators.specs.Marks.{Marks}
+use Rattle.descriptors.specs.declared.«record».Record.{Record}
+use Rattle.descriptors.specs.Records.{isLayer, indexOf}
+use Rattle.judging.specs.Judging.{sameIndex}
+use Rattle.es_loop.specs.declared.entries.Stream.{Stream}
+use Rattle.es_loop.specs.Conditions.{streamAt, pidAt, recordAt, repeatedPid, repeatedIndex, conditions, slotOf}
+
+pub slot-below : (r : Record) → indexOf r < 256 → slotOf r < 257
+slot-below r h = go (isLayer r) refl
+  where
+    go : (b : Bool) → isLayer r ≡ b → slotOf r < 257
+    go true p = rw p (omega arith)
+    go false p = rw p (omega arith)
+
+-- A mark for each slot says whether an earlier layer holds the index; a stream that is no layer asks none.
+held-before : (streams : List Stream) (n : ℕ) (r : Record) (held : List Bool) → indexOf r < 256
+    → Marks 257 (λ j. slotOf (recordAt streams j)) n held
+    → (isLayer r && getD held (slotOf r) false) ≡ some (λ j. sameIndex (recordAt streams j) r) n
+held-before streams n r held small m = go (isLayer r) refl
+  where
+    layer : (s : Record) (i : ℕ) → i < 256 → (b : Bool) → isLayer s ≡ b → eqb (slotOf s) i ≡ ((isLayer s && true) && eqb (indexOf s) i)
+    layer s i h true p = rw p
+    layer s i h false p = rw (p, ne-eqb 256 i (omega arith))
+
+    go : (b : Bool) → isLayer r ≡ b → (isLayer r && getD held (slotOf r) false) ≡ some (λ j. sameIndex (recordAt streams j) r) n
+    go true p =
+        rw p
+        (m .marked (indexOf r) (omega arith)
+        ∙ some-same (λ j. eqb (slotOf (recordAt streams j)) (indexOf r)) _ n
+        (λ k h. layer (recordAt streams k) (indexOf r) small (isLayer (recordAt streams k)) refl))
+    go false p =
+        rw p
+        (sym
+        (at-none (λ j. (isLayer (recordAt streams j) && false) && eqb (indexOf (recordAt streams j)) (indexOf r)) n
+        (λ k h. rw (and-false (isLayer (recordAt streams k))))))
+
+-- The conditions at an entry, with both marks for what is said before it.
+module _ (all : List Stream) (count : ℕ) (marks held : List Bool) (pids : Marks 8192 (pidAt all) count marks)
+    (indices : Marks 257 (λ j. slotOf (recordAt all j)) count held) (s : Stream) (here : streamAt all count ≡ s) (pid-small : s .pid < 8192)
+    (index-small : indexOf (s .seen .«record») < 256) where
+  pub marked-tests : conditions (repeatedPid all count) (repeatedIndex all count) (streamAt all count)
+      ≡ conditions (getD marks (s .pid) false) (isLayer (s .seen .«record») && getD held (slotOf (s .seen .«record»)) false) s
+  marked-tests =
+      ap
+      (λ (t : Stream). conditions (some (λ j. eqb (pidAt all j) (t .pid)) count) (some (λ j. sameIndex (recordAt all j) (t .seen .«record»)) count) t)
+      here
+      ∙ ap (λ (b : Bool). conditions b (some (λ j. sameIndex (recordAt all j) (s .seen .«record»)) count) s) (sym (pids .marked (s .pid) pid-small))
+      ∙ ap (λ (b : Bool). conditions (getD marks (s .pid) false) b s) (sym (held-before all count (s .seen .«record») held index-small indices))

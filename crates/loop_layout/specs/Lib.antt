@@ -1,4 +1,0 @@
-pub mod Layout
-pub mod Sizes
-pub mod Bytes
-pub mod Fields

@@ -1,0 +1,44 @@
+// The call: judged first, and written only where nothing refuses it.
+ghost use mathlib.Core.Path.{_≡_};
+ghost use lib.ListN.{length};
+ghost use Rattle.loop_writer.specs.Writing.{answer, content};
+use super::passes::loop_size;
+use super::passes::put_entries;
+use super::passes::some_too_wide;
+use super::verdict::lowest_of;
+use combinators::lesser;
+use es_loop::Entry;
+use es_loop::refusal_of;
+use vocabulary::Refusal;
+
+// What writing a loop answers: how many bytes were written, or the refusal.
+pub enum Written {
+    Bytes(usize),
+    Refused(Refusal),
+}
+
+// Writes the first `count` entries into `out`, from its front on.
+pub fn write_loop(count: usize, entries: [Entry; 201], out: &mut [u8]) -> Written
+    ensures { λ r. ⌜ (r ≡ answer (length (now (out .entry))) count entries) × (now (out .exit) ≡ content count entries (now (out .entry))) ⌝ }
+{
+    let given = lesser(count, 201);
+    if some_too_wide(given, entries) {
+        return Written::Refused(Refusal::TooWide);
+    }
+    if 201 < count {
+        return Written::Refused(Refusal::LoopTooLong);
+    }
+    let size = loop_size(given, entries);
+    if 1008 < size {
+        return Written::Refused(Refusal::LoopTooLong);
+    }
+    let fault = lowest_of(given, entries);
+    if fault.number < 11 {
+        return Written::Refused(refusal_of(fault.number, fault.place));
+    }
+    if out.len() < size {
+        return Written::Refused(Refusal::NoRoom);
+    }
+    put_entries(out, given, entries);
+    Written::Bytes(size)
+}
