@@ -40,11 +40,11 @@ use Rattle.closure.specs.Meaning.{RestsOn}
 use Rattle.loop_layers.specs.Meaning.{LayersOf}
 use Rattle.joining.specs.declared.answer.Joined.{Joined}
 use Rattle.joining.specs.declared.answer.Joined.the-variants.{Units, Refused}
-use Rattle.joining.specs.Table.{Table}
+use Rattle.rows.specs.Table.{Table}
 use Rattle.joining.specs.Joining.{joinedOf}
 use Rattle.joining.specs.Meaning.{FirstRow, NoRow, InOrder, Assembles, NoAssembly, SharesRow, TargetRow, Accepted}
 use Rattle.joining.specs.Meaning as Joining
-use Rattle.joining.specs.Laws as joining
+use Rattle.joining.proofs.Meant as joining
 use Rattle.importing.specs.Meaning as Import
 use Rattle.demands.specs.Calls.{Promised}
 use Rattle.demands.specs.Readers.{readLoop, loop-read, readTimes, times-read}
