@@ -12,13 +12,13 @@ use Rattle.vocabulary.specs.declared.stream_types.Reading.{Reading}
 use Rattle.closure.specs.declared.Layers.{Layers}
 use Rattle.joining.specs.declared.answer.Joined.{Joined}
 use Rattle.joining.specs.declared.answer.Joined.the-variants as Joined
-use Rattle.joining.specs.Table.{Table}
+use Rattle.rows.specs.Table.{Table}
 use Rattle.joining.specs.Joining.{joinedOf, numbersAfter, lagsAfter}
 use Rattle.joining.specs.Meaning as Joining
-use Rattle.joining.specs.Laws as joining
+use Rattle.joining.proofs.Meant as joining
 use Rattle.importing.specs.Importing.{importOf, importedNumbers, importedLags}
 use Rattle.importing.specs.Meaning as Import
-use Rattle.importing.specs.Meant as import
+use Rattle.importing.proofs.Meant as import
 use Rattle.demands.specs.Calls.{Call, isListed, Promised, listed-first, listed-second, not-refused}
 use Rattle.demands.specs.Readers.{readLoop, closureOfTarget, read-listed, target-listed}
 
@@ -125,14 +125,14 @@ pub rows-joined : Promised joinRows
 rows-joined =
     record {
       right = λ given. right given;
-      nothing-else = λ given means. (let c = joining.nothing-else (given .layers) (given .target) (given .rows) (given .lists .numbers) (given .lists .lags) means in
+      nothing-else = λ given means. (let c = joining.joined-only (given .layers) (given .target) (given .rows) (given .lists .numbers) (given .lists .lags) means in
           computed rowsJoiner given (record { is-answer = c .is-answer; is-numbers = c .is-numbers; is-lags = c .is-lags }));
       listed = λ given. joining-listed (right given);
       untouched = λ given. kept rowsJoiner given (record { numbers-kept = λ r. refl; lags-kept = λ r. refl }) (joinRows .answer given);
     }
   where
     right : (given : RowsGiven) → joinRows .Means given (joinRows .answer given) (joinRows .after given)
-    right given = joining.meets (given .layers) (given .target) (given .rows) (given .lists .numbers) (given .lists .lags)
+    right given = joining.joined-meant (given .layers) (given .target) (given .rows) (given .lists .numbers) (given .lists .lags)
 
 -- ---- `importing::import`: 1 to 17
 
