@@ -4,3 +4,4 @@ pub mod Sizes
 pub mod Naming
 pub mod Walk
 pub mod Cases
+pub mod Meant

@@ -4,3 +4,4 @@ pub mod Extension
 pub mod Records
 pub mod Looking
 pub mod Steps
+pub mod Meaning

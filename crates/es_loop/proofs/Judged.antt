@@ -1,26 +1,82 @@
--- The answer of a loop from what is known of the lowest number and its place.
+-- The verdict on a loop from what is known of the lowest number and its place, and back.
 -- Assumes nothing.
-use Prim.Native.Nat.{ℕ, _<_}
-use mathlib.Core.Path.{_≡_, sym, _∙_, ap}
-use mathlib.Core.Bool.{Bool, cond}
+use Prim.Native.Nat.{ℕ, _≤_, _<_}
+use mathlib.Core.Path.{_≡_, refl, sym, _∙_, ap, subst}
+use mathlib.Core.Bool.{Bool, true, false, cond}
 use mathlib.Core.List.{List}
-use borrow.Author.Tests.{lt-ltb}
+use native.Mathlib.Omega.{arith}
+use borrow.Author.Tests.{lt-ltb, ltb-false}
+use lib.Dec.{ltb}
 use lib.ListN.{length}
-use Rattle.combinators.specs.Lowest.{Lowest, earliestPlace, lowest-number, earliest-place}
+use Rattle.combinators.specs.Lowest.{Lowest, lowestNumber, earliestPlace, lowest-number, earliest-place, lowest-is}
+use Rattle.vocabulary.specs.declared.stream_types.Reading.{Reading}
+use Rattle.vocabulary.specs.declared.refusal.Refusal.the-variants.{LoopTooLong}
 use Rattle.es_loop.specs.declared.entries.Stream.{Stream}
+use Rattle.es_loop.specs.declared.verdict.Verdict.{Verdict}
+use Rattle.es_loop.specs.declared.verdict.Verdict.the-variants.{Entries, Refused as Refuses}
+use Rattle.es_loop.specs.Entries.{streamsOf}
 use Rattle.es_loop.specs.Conditions.{applies, refusalOf}
-use Rattle.es_loop.specs.Reading.{refusedWith, accepted, answerAt, judged}
+use Rattle.es_loop.specs.Reading.{verdictAt, judged, verdictUpTo}
 
--- the answer, given the lowest number and its place
-pub judged-refused : (streams : List Stream) (number place : ℕ) → Lowest (applies streams) 11 (length streams) number place → number < 11
-    → refusedWith (refusalOf number place) ≡ judged streams
-judged-refused streams number place b h =
-    sym (ap (λ (t : Bool). cond t (refusedWith (refusalOf number place)) (accepted streams)) (lt-ltb number 11 h))
-    ∙ ap (λ (p : ℕ). answerAt streams number p) (earliest-place (applies streams) 11 (length streams) number place b h)
-    ∙ ap (λ (n : ℕ). answerAt streams n (earliestPlace (applies streams) n (length streams)))
-    (lowest-number (applies streams) 11 (length streams) number place b)
+module _ (most : ℕ) (streams : List Stream) where
+  -- the verdict, given the lowest number and its place
+  pub judged-refused : (number place : ℕ) → Lowest (applies most streams) 11 (length streams) number place → number < 11
+      → Refuses (refusalOf number place) ≡ judged most streams
+  judged-refused number place b h =
+      sym (ap (λ (t : Bool). cond t (Refuses (refusalOf number place)) (Entries (length streams))) (lt-ltb number 11 h))
+      ∙ ap (λ (p : ℕ). verdictAt (length streams) number p) (earliest-place (applies most streams) 11 (length streams) number place b h)
+      ∙ ap (λ (n : ℕ). verdictAt (length streams) n (earliestPlace (applies most streams) n (length streams)))
+      (lowest-number (applies most streams) 11 (length streams) number place b)
 
-pub judged-accepted : (streams : List Stream) (place : ℕ) → Lowest (applies streams) 11 (length streams) 11 place → accepted streams ≡ judged streams
-judged-accepted streams place b =
-    ap (λ (n : ℕ). answerAt streams n (earliestPlace (applies streams) n (length streams)))
-    (lowest-number (applies streams) 11 (length streams) 11 place b)
+  pub judged-accepted : (place : ℕ) → Lowest (applies most streams) 11 (length streams) 11 place → Entries (length streams) ≡ judged most streams
+  judged-accepted place b =
+      ap (λ (n : ℕ). verdictAt (length streams) n (earliestPlace (applies most streams) n (length streams)))
+      (lowest-number (applies most streams) 11 (length streams) 11 place b)
+
+  -- a verdict of entries: no number applies at any of them, and they are all
+  abbrev lowest : ℕ
+  lowest = lowestNumber (applies most streams) 11 (length streams)
+
+  abbrev Accepting : Verdict → Type 0
+  Accepting (Refuses r) = Unit {0}
+  Accepting (Entries count) = (count ≡ length streams) × ((n k : ℕ) → n < 11 → k < length streams → applies most streams n k ≡ false)
+
+  accepting : Accepting (judged most streams)
+  accepting = go (ltb lowest 11) refl
+    where
+      go : (b : Bool) → ltb lowest 11 ≡ b → Accepting (judged most streams)
+      go true p = rw p tt
+      go false p =
+          rw p
+          (refl, λ n k h l. lowest-is (applies most streams) 11 (length streams) .lower n k (omega (arith, ltb-false lowest 11 p)) l)
+
+-- the same of a loop's bytes
+module _ (most : ℕ) (reading : Reading) (bytes : List ℕ) where
+  pub record Sound (count : ℕ) : Type 0 where
+    pub short : length bytes ≤ 1008
+    pub counted : count ≡ length (streamsOf reading bytes)
+    pub none : (n k : ℕ) → n < 11 → k < length (streamsOf reading bytes) → applies most (streamsOf reading bytes) n k ≡ false
+
+  abbrev Holds : Verdict → Type 0
+  Holds (Refuses r) = Unit {0}
+  Holds (Entries n) = Sound n
+
+  abbrev IsEntries : Verdict → Type 0
+  IsEntries (Refuses r) = ⊥
+  IsEntries (Entries n) = Unit {0}
+
+  abbrev By : Bool → Verdict
+  By b = cond b (Refuses LoopTooLong) (judged most (streamsOf reading bytes))
+
+  accepted : (v : Verdict) → length bytes ≤ 1008 → Accepting most (streamsOf reading bytes) v → Holds v
+  accepted (Refuses r) short a = tt
+  accepted (Entries n) short a = record { short = short; counted = a .0; none = a .1 }
+
+  pub sound : (count : ℕ) → verdictUpTo most reading bytes ≡ Entries count → Sound count
+  sound count e = go (ltb 1008 (length bytes)) refl
+    where
+      go : (b : Bool) → ltb 1008 (length bytes) ≡ b → Sound count
+      go true p = absurd (subst IsEntries (sym (sym (ap By p) ∙ e)) tt)
+      go false p =
+          subst Holds (sym (ap By p) ∙ e)
+          (accepted (judged most (streamsOf reading bytes)) (ltb-false 1008 (length bytes) p) (accepting most (streamsOf reading bytes)))

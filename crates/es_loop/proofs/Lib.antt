@@ -1,5 +1,6 @@
 pub mod Heads
+pub mod Marked
+pub mod Judged
+pub mod Passing
 pub mod Walk
 pub mod Meant
-pub mod Judged
-pub mod Marked

@@ -1,6 +1,6 @@
 -- WHAT A LOOP'S ANSWER MEANS, in the words of document 01. The bytes are cut into entries; each number has its condition at an entry; the
 -- answer is the lowest number that applies, at its earliest place, or every entry where none applies.
--- specs/Meant.antt has the law that joins this to what is computed: the computed answer has this meaning, and no other answer has it.
+-- proofs/Meant.antt has the law that joins this to what is computed: the computed answer has this meaning, and no other answer has it.
 -- Assumes nothing.
 use Prim.Native.Nat.{ℕ, _≤_, _<_}
 use mathlib.Core.Path.{_≡_}
@@ -12,16 +12,19 @@ use Rattle.combinators.specs.Padding.{padTo}
 use Rattle.framing.specs.Pieces.{Item, whole, broken, Cuts}
 use Rattle.vocabulary.specs.declared.LayerIndex.{LayerIndex}
 use Rattle.vocabulary.specs.declared.stream_types.Reading.{Reading}
+use Rattle.vocabulary.specs.declared.refusal.Refusal.{Refusal}
 use Rattle.vocabulary.specs.declared.refusal.Refusal.the-variants.{LoopTooLong}
+use Rattle.vocabulary.specs.Refusals.{numberOf, placeOf}
 use Rattle.vocabulary.specs.StreamTypes.{known}
 use Rattle.descriptors.specs.declared.«record».Record.{Record}
 use Rattle.descriptors.specs.Extension.{noLayer}
-use Rattle.descriptors.specs.Looking.{does-not-fit, wrong-length, kindsOf, Held, heldIn}
+use Rattle.descriptors.specs.Looking.{Kind, does-not-fit, wrong-length, Held, heldIn}
+use Rattle.descriptors.specs.Meaning.{Descriptors}
 use Rattle.descriptors.specs.Records.{indexOf}
+use Rattle.judging.specs.Judging.{mostEmbedded}
 use Rattle.judging.specs.Meaning.{TypeNotAllowed, WrongFlags, WrongEmbedded, TooManyEmbedded}
 use Rattle.es_loop.specs.declared.reader.LoopRead.{LoopRead}
 use Rattle.es_loop.specs.Entries.{streamType, elementaryPid, esInfoLength, streamOf}
-use Rattle.es_loop.specs.Conditions.{refusalOf}
 use Rattle.es_loop.specs.Reading.{refusedWith, accepted}
 
 module _ (reading : Reading) (entries : List Item) where
@@ -36,42 +39,53 @@ module _ (reading : Reading) (entries : List Item) where
   pub record LayerAt (k t : ℕ) (r : Record) (layers : List LayerIndex) : Type 0 where
     pub info : List ℕ
     pub stream : KnownAt k t info
+    pub kinds : List Kind
+    pub descriptors : Descriptors reading info kinds
     pub others : List Held
-    pub first : gather heldIn (kindsOf reading info) ≡ record { held = r; layers = layers } ∷ others
+    pub first : gather heldIn kinds ≡ record { held = r; layers = layers } ∷ others
 
-  -- The table 'Refusal numbers', 2 to 10: the condition of each number, and the entry that is its place.
-  pub data Condition : ℕ → ℕ → Type 0 where
+  -- The table 'Refusal numbers', 2 to 10: the condition of each number, and the entry that is its place. `most` is the greatest number of embedded
+  -- layers, 8 in that table.
+  pub data Condition (most : ℕ) : ℕ → ℕ → Type 0 where
     -- 2: an entry or a descriptor doesn't fit in the bytes that hold it
-    entry-unfit : {k : ℕ} → Nth entries k broken → Condition 2 k
-    descriptor-unfit : {k t : ℕ} {info : List ℕ} → KnownAt k t info → {i : ℕ} → Nth (kindsOf reading info) i does-not-fit → Condition 2 k
+    entry-unfit : {k : ℕ} → Nth entries k broken → Condition most 2 k
+    descriptor-unfit : {k t : ℕ} {info : List ℕ} {kinds : List Kind} → KnownAt k t info → Descriptors reading info kinds → {i : ℕ} → Nth kinds i does-not-fit
+        → Condition most 2 k
     -- 3: a PID seen in an earlier entry
     pid-seen : {j k : ℕ} {head info head′ info′ : List ℕ} → j < k → Nth entries j (whole head info) → Nth entries k (whole head′ info′)
-        → elementaryPid head ≡ elementaryPid head′ → Condition 3 k
-    -- 4: on a known stream, tag 4 with length not 4, or the extension with another length than its count demands
-    length-wrong : {k t : ℕ} {info : List ℕ} → KnownAt k t info → {i : ℕ} → Nth (kindsOf reading info) i wrong-length → Condition 4 k
+        → elementaryPid head ≡ elementaryPid head′ → Condition most 3 k
+    -- 4: on a known stream, tag 4 with length not 4, or the extension with another length than its count demands or too short to hold its count
+    length-wrong : {k t : ℕ} {info : List ℕ} {kinds : List Kind} → KnownAt k t info → Descriptors reading info kinds → {i : ℕ} → Nth kinds i wrong-length
+        → Condition most 4 k
     -- 5: two hierarchy records on one known stream
-    two-records : {k t : ℕ} {info : List ℕ} → KnownAt k t info → 2 ≤ length (gather heldIn (kindsOf reading info)) → Condition 5 k
+    two-records : {k t : ℕ} {info : List ℕ} {kinds : List Kind} → KnownAt k t info → Descriptors reading info kinds → 2 ≤ length (gather heldIn kinds)
+        → Condition most 5 k
     -- 6: type not allowed on this stream, or an extension on 0x1B, 0x1F, 0x20
-    type-wrong : {k t : ℕ} {r : Record} {layers : List LayerIndex} → LayerAt k t r layers → TypeNotAllowed t r → Condition 6 k
+    type-wrong : {k t : ℕ} {r : Record} {layers : List LayerIndex} → LayerAt k t r layers → TypeNotAllowed t r → Condition most 6 k
     -- 7: type 9 with a flag at 0, or more than one flag at 0 and type not 8
-    flags-wrong : {k t : ℕ} {r : Record} {layers : List LayerIndex} → LayerAt k t r layers → WrongFlags r → Condition 7 k
+    flags-wrong : {k t : ℕ} {r : Record} {layers : List LayerIndex} → LayerAt k t r layers → WrongFlags r → Condition most 7 k
     -- 8: a layer index held by an earlier layer
     index-held : {j k t t′ : ℕ} {r r′ : Record} {layers layers′ : List LayerIndex} → j < k → LayerAt j t r layers → LayerAt k t′ r′ layers′
-        → indexOf r ≡ indexOf r′ → Condition 8 k
+        → indexOf r ≡ indexOf r′ → Condition most 8 k
     -- 9: an embedded index not below the layer's own, or listed twice
     embedded-wrong : {k t : ℕ} {r : Record} {layers : List LayerIndex} → LayerAt k t r layers → WrongEmbedded r (padTo 63 noLayer layers)
-        → Condition 9 k
-    -- 10: more than 8 embedded layers
-    embedded-many : {k t : ℕ} {r : Record} {layers : List LayerIndex} → LayerAt k t r layers → TooManyEmbedded r → Condition 10 k
+        → Condition most 9 k
+    -- 10: more embedded layers than the most that there may be
+    embedded-many : {k t : ℕ} {r : Record} {layers : List LayerIndex} → LayerAt k t r layers → TooManyEmbedded most r → Condition most 10 k
 
--- The answer of reading a loop.
-pub data Answers (reading : Reading) (bytes : List ℕ) : LoopRead → Type 0 where
+-- The answer of reading a loop. A refusal is the one that has the number and the place.
+pub data AnswersUpTo (most : ℕ) (reading : Reading) (bytes : List ℕ) : LoopRead → Type 0 where
   -- 1: the loop is longer than 1,008 bytes
-  too-long : 1008 < length bytes → Answers reading bytes (refusedWith LoopTooLong)
+  too-long : 1008 < length bytes → AnswersUpTo most reading bytes (refusedWith LoopTooLong)
   -- the lowest number that applies, at its earliest place
-  refuses : {entries : List Item} {n k : ℕ} → length bytes ≤ 1008 → Cuts 5 esInfoLength bytes entries → Condition reading entries n k
-      → ((m j : ℕ) → m < n → Condition reading entries m j → ⊥) → ((j : ℕ) → j < k → Condition reading entries n j → ⊥)
-      → Answers reading bytes (refusedWith (refusalOf n k))
+  refuses : {entries : List Item} {refusal : Refusal} → length bytes ≤ 1008 → Cuts 5 esInfoLength bytes entries
+      → Condition reading entries most (numberOf refusal) (placeOf refusal)
+      → ((m j : ℕ) → m < numberOf refusal → Condition reading entries most m j → ⊥)
+      → ((j : ℕ) → j < placeOf refusal → Condition reading entries most (numberOf refusal) j → ⊥)
+      → AnswersUpTo most reading bytes (refusedWith refusal)
   -- every entry, in loop order, where no number applies
   accepts : {entries : List Item} → length bytes ≤ 1008 → Cuts 5 esInfoLength bytes entries
-      → ((n k : ℕ) → Condition reading entries n k → ⊥) → Answers reading bytes (accepted (map (streamOf reading) entries))
+      → ((n k : ℕ) → Condition reading entries most n k → ⊥) → AnswersUpTo most reading bytes (accepted (map (streamOf reading) entries))
+
+abbrev pub Answers : Reading → List ℕ → LoopRead → Type 0
+Answers reading bytes answer = AnswersUpTo mostEmbedded reading bytes answer

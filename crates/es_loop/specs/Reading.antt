@@ -1,4 +1,4 @@
--- What reading a loop answers.
+-- What reading a loop answers: the verdict first, and where it accepts every entry.
 -- Assumes nothing.
 use Prim.Native.Nat.{ℕ}
 use mathlib.Core.Bool.{Bool, cond}
@@ -9,14 +9,32 @@ use Rattle.combinators.specs.Lowest.{lowestNumber, earliestPlace}
 use Rattle.vocabulary.specs.declared.stream_types.Reading.{Reading}
 use Rattle.vocabulary.specs.declared.refusal.Refusal.{Refusal}
 use Rattle.vocabulary.specs.declared.refusal.Refusal.the-variants.{LoopTooLong}
+use Rattle.judging.specs.Judging.{mostEmbedded}
 use Rattle.es_loop.specs.declared.entries.Stream.{Stream}
+use Rattle.es_loop.specs.declared.verdict.Verdict.{Verdict}
+use Rattle.es_loop.specs.declared.verdict.Verdict.the-variants.{Entries, Refused as Refuses}
 use Rattle.es_loop.specs.declared.reader.Outcome.{Outcome}
 use Rattle.es_loop.specs.declared.reader.Outcome.the-variants.{Accepted, Refused}
 use Rattle.es_loop.specs.declared.reader.LoopRead.{LoopRead}
 use Rattle.es_loop.specs.Entries.{streamsOf, entriesOf}
 use Rattle.es_loop.specs.Conditions.{applies, refusalOf}
 
--- 'A refusal returns number and place and no other content.'
+-- THE VERDICT for the lowest number and its place, or past all numbers: then so many entries are accepted
+abbrev pub verdictAt : ℕ → ℕ → ℕ → Verdict
+verdictAt count number place = cond (ltb number 11) (Refuses (refusalOf number place)) (Entries count)
+
+module _ (most : ℕ) where
+  -- 'Several at once: the lowest number that applies, at the earliest place.'
+  abbrev pub judged : List Stream → Verdict
+  judged streams =
+      let number : ℕ = lowestNumber (applies most streams) 11 (length streams) in
+      verdictAt (length streams) number (earliestPlace (applies most streams) number (length streams))
+
+  -- 'loop longer than 1,008 bytes' ends the reading.
+  abbrev pub verdictUpTo : Reading → List ℕ → Verdict
+  verdictUpTo reading bytes = cond (ltb 1008 (length bytes)) (Refuses LoopTooLong) (judged (streamsOf reading bytes))
+
+-- THE ANSWER. 'A refusal returns number and place and no other content.'
 abbrev pub refusedWith : Refusal → LoopRead
 refusedWith r = record { outcome = Refused r; count = 0; entries = entriesOf [] }
 
@@ -24,16 +42,16 @@ refusedWith r = record { outcome = Refused r; count = 0; entries = entriesOf [] 
 abbrev pub accepted : List Stream → LoopRead
 accepted streams = record { outcome = Accepted; count = length streams; entries = entriesOf streams }
 
--- the answer for the lowest number and its place, or past all numbers
-abbrev pub answerAt : List Stream → ℕ → ℕ → LoopRead
-answerAt streams number place = cond (ltb number 11) (refusedWith (refusalOf number place)) (accepted streams)
+abbrev pub answerBy : List Stream → Verdict → LoopRead
+answerBy streams (Refuses r) = refusedWith r
+answerBy streams (Entries count) = accepted streams
 
--- 'Several at once: the lowest number that applies, at the earliest place.'
-abbrev pub judged : List Stream → LoopRead
-judged streams =
-    let number : ℕ = lowestNumber (applies streams) 11 (length streams) in
-    answerAt streams number (earliestPlace (applies streams) number (length streams))
+abbrev pub readUpTo : ℕ → Reading → List ℕ → LoopRead
+readUpTo most reading bytes = answerBy (streamsOf reading bytes) (verdictUpTo most reading bytes)
 
--- 'loop longer than 1,008 bytes' ends the reading.
+-- with as many embedded layers as there may be
+abbrev pub verdictOf : Reading → List ℕ → Verdict
+verdictOf reading bytes = verdictUpTo mostEmbedded reading bytes
+
 abbrev pub loopRead : Reading → List ℕ → LoopRead
-loopRead reading bytes = cond (ltb 1008 (length bytes)) (refusedWith LoopTooLong) (judged (streamsOf reading bytes))
+loopRead reading bytes = readUpTo mostEmbedded reading bytes

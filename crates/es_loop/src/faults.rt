@@ -3,6 +3,7 @@ ghost use mathlib.Core.Path.{_≡_};
 ghost use Prim.Native.Nat.{_+_, _<_};
 ghost use Rattle.combinators.specs.Lists.{firstTrue};
 ghost use Rattle.descriptors.specs.Records.{indexOf};
+ghost use Rattle.judging.specs.Judging.{mostEmbedded};
 ghost use Rattle.es_loop.specs.Conditions.{conditions, recordConditions, lowerOf, refusalOf, slotOf};
 use super::entries::Stream;
 use super::entries::wide;
@@ -19,7 +20,7 @@ pub struct Fault {
 // The lowest number, from 2 to 10, that applies at an entry, or 11 where none does. The caller says whether an earlier entry has its
 // PID, and whether an earlier layer holds its index.
 pub fn lowest_fault(pid_seen: bool, index_held: bool, stream: Stream) -> u8
-    ensures { λ r. ⌜ r ≡ firstTrue (conditions «pid_seen» «index_held» stream) ⌝ }
+    ensures { λ r. ⌜ r ≡ firstTrue (conditions mostEmbedded «pid_seen» «index_held» stream) ⌝ }
 {
     let seen = stream.seen;
     if !stream.fits {
@@ -39,7 +40,7 @@ pub fn lowest_fault(pid_seen: bool, index_held: bool, stream: Stream) -> u8
 
 // The same of what is judged on the record alone, and of its index: 6 to 10.
 fn judged_fault(index_held: bool, stream_type: u8, seen: Seen) -> u8
-    ensures { λ r. ⌜ r ≡ 6 + firstTrue (recordConditions «index_held» «stream_type» seen) ⌝ }
+    ensures { λ r. ⌜ r ≡ 6 + firstTrue (recordConditions mostEmbedded «index_held» «stream_type» seen) ⌝ }
 {
     let record = seen.record;
     let embedded = seen.embedded;

@@ -3,6 +3,7 @@
 mod entries;
 mod faults;
 mod reader;
+mod verdict;
 
 pub use entries::Entry;
 pub use entries::Stream;
@@ -11,10 +12,14 @@ pub use entries::entry_of;
 pub use entries::entry_size;
 pub use entries::read_stream;
 pub use faults::Fault;
-pub use faults::lower;
-pub use faults::lowest_fault;
 pub use faults::refusal_of;
 pub use faults::slot_of;
 pub use reader::LoopRead;
 pub use reader::Outcome;
 pub use reader::read_loop;
+pub use verdict::Verdict;
+pub use verdict::judge;
+pub use verdict::judge_next;
+pub use verdict::no_fault;
+pub use verdict::no_indices;
+pub use verdict::no_pids;

@@ -1,20 +1,15 @@
-// The whole loop in one pass: each entry is framed, looked into, judged and stored, and the lowest fault so far is kept.
+// The loop with every entry by value: judged first, and laid out where it is accepted.
 ghost use mathlib.Core.Path.{_≡_};
-ghost use mathlib.Core.Bool.{false};
-ghost use Prim.Native.Nat.{_≤_};
-ghost use lib.ListN.{length, replicate};
-ghost use Rattle.es_loop.specs.Entries.{streamsOf};
-ghost use Rattle.es_loop.specs.Reading.{refusedWith, judged, loopRead};
+ghost use lib.ListN.{length};
+ghost use Rattle.es_loop.specs.Entries.{streamsOf, entriesOf};
+ghost use Rattle.es_loop.specs.Reading.{refusedWith, verdictOf, loopRead};
 use super::entries::Entry;
 use super::entries::blank_entries;
 use super::entries::entry_of;
 use super::entries::entry_size;
 use super::entries::read_stream;
-use super::faults::Fault;
-use super::faults::lower;
-use super::faults::lowest_fault;
-use super::faults::refusal_of;
-use super::faults::slot_of;
+use super::verdict::Verdict;
+use super::verdict::judge;
 use vocabulary::Reading;
 use vocabulary::Refusal;
 
@@ -40,72 +35,34 @@ fn refused(refusal: Refusal) -> LoopRead
     }
 }
 
-// A mark for each of the 8,192 PIDs, none set.
-fn no_pids() -> [bool; 8192]
-    ensures { λ r. ⌜ r ≡ replicate 8192 false ⌝ }
-{
-    [false; 8192]
-}
-
-// A mark for each value of an index's byte, and one for streams that are no layer, none set.
-fn no_indices() -> [bool; 257]
-    ensures { λ r. ⌜ r ≡ replicate 257 false ⌝ }
-{
-    [false; 257]
-}
-
-// A loop of at most 1,008 bytes.
-fn read_entries(reading: Reading, bytes: &[u8]) -> LoopRead
-    requires { ⌜ length (now bytes) ≤ 1008 ⌝ }
-    ensures { λ r. ⌜ r ≡ judged (streamsOf reading (now (bytes .entry))) ⌝ }
+// The entries of a loop that was judged and accepted.
+fn entries_in(reading: Reading, bytes: &[u8]) -> [Entry; 201]
+    requires { ⌜ verdictOf reading (now bytes) ≡ Verdict.Entries (length (streamsOf reading (now bytes))) ⌝ }
+    ensures { λ r. ⌜ r ≡ entriesOf (streamsOf reading (now (bytes .entry))) ⌝ }
 {
     let mut entries = blank_entries();
-    let mut pids = no_pids();
-    let mut indices = no_indices();
-    let mut fault = Fault {
-        number: 11,
-        place: 0,
-    };
     let mut count = 0;
     let mut at = 0;
     while at < bytes.len() {
         let left = &bytes[at..];
         let size = entry_size(left);
-        if left.len() < size {
-            return refused(Refusal::DoesNotFit(count));
-        }
-        let stream = read_stream(reading, &left[..size]);
-        if !stream.fits {
-            return refused(Refusal::DoesNotFit(count));
-        }
-        let pid = stream.pid as usize;
-        let seen = stream.seen;
-        let record = seen.record;
-        let slot = slot_of(record);
-        let index_held = descriptors::is_layer(record) & indices[slot];
-        fault = lower(fault, lowest_fault(pids[pid], index_held, stream), count);
-        pids[pid] = true;
-        indices[slot] = true;
-        entries[count] = entry_of(stream);
+        entries[count] = entry_of(read_stream(reading, &left[..size]));
         count += 1;
         at += size;
     }
-    if fault.number < 11 {
-        return refused(refusal_of(fault.number, fault.place));
-    }
-    LoopRead {
-        outcome: Outcome::Accepted,
-        count,
-        entries,
-    }
+    entries
 }
 
 // The loop of a program map section, any bytes at all.
 pub fn read_loop(reading: Reading, bytes: &[u8]) -> LoopRead
     ensures { λ r. ⌜ r ≡ loopRead reading (now (bytes .entry)) ⌝ }
 {
-    if 1008 < bytes.len() {
-        return refused(Refusal::LoopTooLong);
+    match judge(reading, bytes) {
+        Verdict::Refused(refusal) => refused(refusal),
+        Verdict::Entries(count) => LoopRead {
+            outcome: Outcome::Accepted,
+            count,
+            entries: entries_in(reading, bytes),
+        },
     }
-    read_entries(reading, bytes)
 }

@@ -1,27 +1,28 @@
 -- Refusals 6, 7, 9 and 10: the computed test is true exactly when document 01's row holds.
 -- Assumes nothing.
-use Prim.Native.Nat.{ℕ, _≤_, _<_}
-use mathlib.Core.Path.{_≡_, refl, sym, _∙_, ap}
+use Prim.Native.Nat.{ℕ, zero, suc, _≤_, _<_}
+use mathlib.Core.Path.{_≡_, refl, sym, _∙_, ap, ap₂}
 use mathlib.Core.Logic.{_≢_, _↔_, ⊎-elim}
 use mathlib.Core.Bool.{Bool, true, false, not, _&&_, _||_}
-use mathlib.Core.List.{List}
+use mathlib.Core.List.{List, [], _∷_}
 use native.Mathlib.Omega.{arith}
 use borrow.Author.Tests.{ltb-true, lt-ltb, leb-true, le-leb, eqb-true, eqb-false, ne-eqb, not-true}
 use lib.Dec.{eqb, leb, ltb}
 use lib.ListN.{length, getD, take}
 use lib.Seq.{length-take-le, getD-take}
-use Rattle.combinators.specs.Bools.{both-left, both-right, either-left, either-right, apart, either-which}
+use Rattle.combinators.specs.Bools.{both-ways, neither-left, neither-right, both-left, both-right, either-left, either-right, apart, either-which}
 use Rattle.combinators.specs.Below.{some, some-at, some-which}
 use Rattle.combinators.specs.Members.{member, member-at, member-which}
-use Rattle.vocabulary.specs.StreamTypes.{mayStandOn}
+use Rattle.vocabulary.specs.StreamTypes.{known, knownButMvc, streamTypes, mayStandOn}
+use Rattle.vocabulary.specs.declared.stream_types.Reading.the-variants.{Edition2015}
 use Rattle.vocabulary.specs.declared.LayerIndex.{LayerIndex}
 use Rattle.descriptors.specs.declared.hierarchy.HierarchyRecord.{HierarchyRecord}
 use Rattle.descriptors.specs.declared.extension.ExtensionRecord.{ExtensionRecord}
 use Rattle.descriptors.specs.declared.«record».Record.{Record}
 use Rattle.descriptors.specs.declared.«record».Record.the-variants.{NoRecord, Hierarchy, Extension}
-use Rattle.descriptors.specs.Records.{indexOf, named}
-use Rattle.judging.specs.Judging.{typeNotAllowed, flagsAt0, wrongFlags, wrongAt, wrongEmbedded, tooManyEmbedded}
-use Rattle.judging.specs.Meaning.{TypeNotAllowed, hierarchy-type, extension-on-avc, extension-on-svc, extension-on-mvc, Flag, view, temporal, spatial, quality, flag, WrongFlags, type-9, more-than-one, WrongEmbedded, not-below, listed-twice, TooManyEmbedded, more-than-8}
+use Rattle.descriptors.specs.Records.{isLayer, indexOf, named}
+use Rattle.judging.specs.Judging.{extensionOn, typeNotAllowed, flagsAt0, wrongFlags, wrongAt, wrongEmbedded, tooManyEmbedded}
+use Rattle.judging.specs.Meaning.{TypeNotAllowed, hierarchy-type, extension-on-avc, extension-on-svc, extension-on-mvc, unknown-type, Flag, view, temporal, spatial, quality, flag, WrongFlags, type-9, more-than-one, WrongEmbedded, not-below, listed-twice, TooManyEmbedded, more-than-most}
 
 -- one of two tests holds
 which : {A : Type 0} (a b : Bool) → a || b ≡ true → (a ≡ true → A) → (b ≡ true → A) → A
@@ -31,16 +32,69 @@ which a b e f g = ⊎-elim f g (either-which a b e)
 type-means : (t : ℕ) (r : Record) → typeNotAllowed t r ≡ true → TypeNotAllowed t r
 type-means t NoRecord e = apart e
 type-means t (Hierarchy h) e = hierarchy-type (not-true (mayStandOn (h .«hierarchy_type») t) e)
-type-means t (Extension x) e =
-    which (eqb t 0x1B) (eqb t 0x1F || (eqb t 0x20 || false)) e (λ p. extension-on-avc (eqb-true t 0x1B p))
-    (λ p. which (eqb t 0x1F) (eqb t 0x20 || false) p (λ q. extension-on-svc (eqb-true t 0x1F q))
-    (λ q. which (eqb t 0x20) false q (λ s. extension-on-mvc (eqb-true t 0x20 s)) apart))
+type-means t (Extension x) e = by-known (known Edition2015 t) refl
+  where
+    other : Bool
+    other = member t extensionOn
+
+    by-known : (b : Bool) → known Edition2015 t ≡ b → TypeNotAllowed t (Extension x)
+    by-known false p = unknown-type refl p
+    by-known true p =
+        which (eqb t 0x1B) (eqb t 0x1F || (eqb t 0x20 || other)) p (λ q. extension-on-avc (eqb-true t 0x1B q))
+        (λ q. which (eqb t 0x1F) (eqb t 0x20 || other) q (λ s. extension-on-svc (eqb-true t 0x1F s))
+        (λ s. which (eqb t 0x20) other s (λ u. extension-on-mvc (eqb-true t 0x20 u)) (λ u. both-ways u (not-true other e))))
+
+-- no record may stand on a type that the 2015 reading does not know
+module _ (t : ℕ) (u : known Edition2015 t ≡ false) where
+  abbrev afterAvc : List ℕ
+  afterAvc = 0x1F ∷ 0x20 ∷ extensionOn
+
+  not-avc : eqb t 0x1B ≡ false
+  not-avc = neither-left (eqb t 0x1B) (member t afterAvc) u
+
+  after-avc : member t afterAvc ≡ false
+  after-avc = neither-right (eqb t 0x1B) (member t afterAvc) u
+
+  not-svc : eqb t 0x1F ≡ false
+  not-svc = neither-left (eqb t 0x1F) (member t (0x20 ∷ extensionOn)) after-avc
+
+  after-svc : member t (0x20 ∷ extensionOn) ≡ false
+  after-svc = neither-right (eqb t 0x1F) (member t (0x20 ∷ extensionOn)) after-avc
+
+  not-mvc : eqb t 0x20 ≡ false
+  not-mvc = neither-left (eqb t 0x20) (member t extensionOn) after-svc
+
+  no-extension : member t extensionOn ≡ false
+  no-extension = neither-right (eqb t 0x20) (member t extensionOn) after-svc
+
+  abbrev InNone : List (List ℕ) → Type 0
+  InNone [] = Unit {0}
+  InNone (l ∷ ls) = (member t l ≡ false) × InNone ls
+
+  none-at-all : (ls : List (List ℕ)) → InNone ls → (k : ℕ) → member t (getD ls k []) ≡ false
+  none-at-all [] n k = refl
+  none-at-all (l ∷ ls) n zero = n .0
+  none-at-all (l ∷ ls) n (suc k) = none-at-all ls (n .1) k
+
+  no-hierarchy : (hierarchyType : ℕ) → mayStandOn hierarchyType t ≡ false
+  no-hierarchy =
+      let some : member t knownButMvc ≡ false = ap₂ _||_ not-avc (ap₂ _||_ not-svc no-extension) in
+      let base : member t (0x1B ∷ 0x24 ∷ []) ≡ false =
+      ap₂ _||_ not-avc (ap (λ (b : Bool). b || false) (neither-left (eqb t 0x24) (member t (0x25 ∷ 0x28 ∷ 0x29 ∷ 0x2A ∷ 0x2B ∷ [])) no-extension)) in
+      none-at-all streamTypes
+      (refl, (some, (some, (some, (some, (some, (some, (some, (some, (ap (λ (b : Bool). b || false) not-mvc, (refl, (refl, (refl, (refl, (refl, (base, tt))))))))))))))))
 
 type-test : {t : ℕ} {r : Record} → TypeNotAllowed t r → typeNotAllowed t r ≡ true
 type-test (hierarchy-type p) = rw p
 type-test (extension-on-avc p) = rw p
 type-test (extension-on-svc p) = rw p
 type-test (extension-on-mvc p) = rw p
+type-test {t} (unknown-type {r} l u) = none-stands r l
+  where
+    none-stands : (r : Record) → isLayer r ≡ true → typeNotAllowed t r ≡ true
+    none-stands NoRecord l = apart l
+    none-stands (Hierarchy h) l = ap not (no-hierarchy t u (h .«hierarchy_type»))
+    none-stands (Extension x) l = ap not (no-extension t u)
 
 pub refusal-6 : (streamType : ℕ) (r : Record) → typeNotAllowed streamType r ≡ true ↔ TypeNotAllowed streamType r
 refusal-6 t r = (type-means t r, type-test)
@@ -158,13 +212,14 @@ module _ (r : Record) (layers : List LayerIndex) where
   pub refusal-9 : wrongEmbedded r layers ≡ true ↔ WrongEmbedded r layers
   refusal-9 = (embedded-means, embedded-test)
 
-many-means : (r : Record) → tooManyEmbedded r ≡ true → TooManyEmbedded r
-many-means NoRecord e = apart e
-many-means (Hierarchy h) e = apart e
-many-means (Extension x) e = more-than-8 (ltb-true 8 (x .«num_embedded_layers») e)
+module _ (most : ℕ) where
+  many-means : (r : Record) → tooManyEmbedded most r ≡ true → TooManyEmbedded most r
+  many-means NoRecord e = apart e
+  many-means (Hierarchy h) e = apart e
+  many-means (Extension x) e = more-than-most (ltb-true most (x .«num_embedded_layers») e)
 
-many-test : {r : Record} → TooManyEmbedded r → tooManyEmbedded r ≡ true
-many-test (more-than-8 {x} h) = lt-ltb 8 (x .«num_embedded_layers») h
+  many-test : {r : Record} → TooManyEmbedded most r → tooManyEmbedded most r ≡ true
+  many-test (more-than-most {x} h) = lt-ltb most (x .«num_embedded_layers») h
 
-pub refusal-10 : (r : Record) → tooManyEmbedded r ≡ true ↔ TooManyEmbedded r
-refusal-10 r = (many-means r, many-test)
+  pub refusal-10 : (r : Record) → tooManyEmbedded most r ≡ true ↔ TooManyEmbedded most r
+  refusal-10 r = (many-means r, many-test)

@@ -18,15 +18,16 @@ use Rattle.descriptors.specs.declared.«record».Record.the-variants.{NoRecord,
 abbrev pub sameIndex : Record → Record → Bool
 sameIndex a b = isLayer a && isLayer b && eqb (indexOf a) (indexOf b)
 
--- 6. 'type not allowed on this stream, or an extension on 0x1B, 0x1F, 0x20 in the 2015 reading'. The 2009 reading skips every extension,
--- and so has no such record.
-abbrev pub noExtensionOn : List ℕ
-noExtensionOn = 0x1B ∷ 0x1F ∷ 0x20 ∷ []
+-- 6. 'type not allowed on this stream, or an extension on 0x1B, 0x1F, 0x20 in the 2015 reading'; 'the loop writer uses 6 also for a record on a
+-- stream type the 2015 reading doesn't know'. So an extension may stand on the types that reading knows but for these three, and of a stream whose
+-- type is not known a reading has no record. The 2009 reading skips every extension.
+abbrev pub extensionOn : List ℕ
+extensionOn = 0x24 ∷ 0x25 ∷ 0x28 ∷ 0x29 ∷ 0x2A ∷ 0x2B ∷ []
 
 abbrev pub typeNotAllowed : ℕ → Record → Bool
 typeNotAllowed streamType NoRecord = false
 typeNotAllowed streamType (Hierarchy h) = not (mayStandOn (h .«hierarchy_type») streamType)
-typeNotAllowed streamType (Extension x) = member streamType noExtensionOn
+typeNotAllowed streamType (Extension x) = not (member streamType extensionOn)
 
 -- 7. 'type 9 with a flag at 0, or more than one flag at 0 and type not 8 (2009: the last three flags only)'. The 2009 reading answers
 -- no_view as 1, so that of its records this rule counts the last three flags alone.
@@ -56,8 +57,11 @@ wrongList own indices = some (wrongAt own indices) (length indices)
 abbrev pub wrongEmbedded : Record → List LayerIndex → Bool
 wrongEmbedded r layers = wrongList (indexOf r) (named r layers)
 
--- 10. 'more than 8 embedded layers'
-abbrev pub tooManyEmbedded : Record → Bool
-tooManyEmbedded NoRecord = false
-tooManyEmbedded (Hierarchy h) = false
-tooManyEmbedded (Extension x) = ltb 8 (x .«num_embedded_layers»)
+-- 10. 'more than 8 embedded layers': the greatest number is a parameter of what is said of a loop, and 8 here
+abbrev pub mostEmbedded : ℕ
+mostEmbedded = 8
+
+abbrev pub tooManyEmbedded : ℕ → Record → Bool
+tooManyEmbedded most NoRecord = false
+tooManyEmbedded most (Hierarchy h) = false
+tooManyEmbedded most (Extension x) = ltb most (x .«num_embedded_layers»)

@@ -4,23 +4,26 @@
 use Prim.Native.Nat.{ℕ, _≤_, _<_}
 use mathlib.Core.Path.{_≡_}
 use mathlib.Core.Logic.{_≢_}
-use mathlib.Core.Bool.{Bool, false}
+use mathlib.Core.Bool.{Bool, true, false}
 use mathlib.Core.List.{List}
 use lib.ListN.{length, getD}
-use Rattle.vocabulary.specs.StreamTypes.{mayStandOn}
+use Rattle.vocabulary.specs.StreamTypes.{known, mayStandOn}
+use Rattle.vocabulary.specs.declared.stream_types.Reading.the-variants.{Edition2015}
 use Rattle.vocabulary.specs.declared.LayerIndex.{LayerIndex}
 use Rattle.descriptors.specs.declared.hierarchy.HierarchyRecord.{HierarchyRecord}
 use Rattle.descriptors.specs.declared.extension.ExtensionRecord.{ExtensionRecord}
 use Rattle.descriptors.specs.declared.«record».Record.{Record}
 use Rattle.descriptors.specs.declared.«record».Record.the-variants.{Hierarchy, Extension}
-use Rattle.descriptors.specs.Records.{indexOf, named}
+use Rattle.descriptors.specs.Records.{isLayer, indexOf, named}
 
--- 6. 'type not allowed on this stream, or an extension on 0x1B, 0x1F, 0x20'
+-- 6. 'type not allowed on this stream, or an extension on 0x1B, 0x1F, 0x20'; 'the loop writer uses 6 also for a record on a stream type the 2015
+-- reading doesn't know' (a reading has no record of a stream whose type it doesn't know)
 pub data TypeNotAllowed (streamType : ℕ) : Record → Type 0 where
   hierarchy-type : {h : HierarchyRecord} → mayStandOn (h .«hierarchy_type») streamType ≡ false → TypeNotAllowed streamType (Hierarchy h)
   extension-on-avc : {x : ExtensionRecord} → streamType ≡ 0x1B → TypeNotAllowed streamType (Extension x)
   extension-on-svc : {x : ExtensionRecord} → streamType ≡ 0x1F → TypeNotAllowed streamType (Extension x)
   extension-on-mvc : {x : ExtensionRecord} → streamType ≡ 0x20 → TypeNotAllowed streamType (Extension x)
+  unknown-type : {r : Record} → isLayer r ≡ true → known Edition2015 streamType ≡ false → TypeNotAllowed streamType r
 
 -- 7. 'type 9 with a flag at 0, or more than one flag at 0 and type not 8'
 pub data Flag : Type 0 where
@@ -43,6 +46,6 @@ pub data WrongEmbedded (r : Record) (layers : List LayerIndex) : Type 0 where
   not-below : (i : ℕ) → i < length (named r layers) → indexOf r ≤ getD (named r layers) i 0 → WrongEmbedded r layers
   listed-twice : (i j : ℕ) → i < j → j < length (named r layers) → getD (named r layers) i 0 ≡ getD (named r layers) j 0 → WrongEmbedded r layers
 
--- 10. 'more than 8 embedded layers'
-pub data TooManyEmbedded : Record → Type 0 where
-  more-than-8 : {x : ExtensionRecord} → 8 < x .«num_embedded_layers» → TooManyEmbedded (Extension x)
+-- 10. 'more than 8 embedded layers', where 8 is the most that there may be
+pub data TooManyEmbedded (most : ℕ) : Record → Type 0 where
+  more-than-most : {x : ExtensionRecord} → most < x .«num_embedded_layers» → TooManyEmbedded most (Extension x)

@@ -9,18 +9,19 @@ ghost use Prim.Native.Nat.{_≤_, _<_};
 ghost use lib.ListN.{take, replicate};
 ghost use Rattle.combinators.specs.Members.{member};
 ghost use Rattle.descriptors.specs.Records.{plain};
-ghost use Rattle.judging.specs.Judging.{noExtensionOn, typeNotAllowed, at0, flagsAt0, flagsWrongFor, wrongFlags, wrongList, wrongEmbedded, tooManyEmbedded};
+ghost use Rattle.judging.specs.Judging.{extensionOn, typeNotAllowed, at0, flagsAt0, flagsWrongFor, wrongFlags, wrongList, wrongEmbedded, mostEmbedded, tooManyEmbedded};
 use descriptors::HierarchyRecord;
 use descriptors::Record;
 use vocabulary::LayerIndex;
 use vocabulary::may_stand_on;
 
-// The stream types on which no extension may stand.
-fn no_extension_on(stream_type: u8) -> bool
-    ensures { λ r. ⌜ r ≡ member «stream_type» noExtensionOn ⌝ }
+// The stream types on which an extension may stand.
+fn extension_on(stream_type: u8) -> bool
+    ensures { λ r. ⌜ r ≡ member «stream_type» extensionOn ⌝ }
 {
     match stream_type {
-        0x1B | 0x1F | 0x20 => true,
+        0x24 | 0x25 => true,
+        0x28..=0x2B => true,
         _ => false,
     }
 }
@@ -32,7 +33,7 @@ pub fn type_not_allowed(stream_type: u8, record: Record) -> bool
     match record {
         Record::NoRecord => false,
         Record::Hierarchy(hierarchy) => !may_stand_on(hierarchy.hierarchy_type, stream_type),
-        Record::Extension(_) => no_extension_on(stream_type),
+        Record::Extension(_) => !extension_on(stream_type),
     }
 }
 
@@ -133,13 +134,16 @@ pub fn wrong_embedded(record: Record, embedded: [LayerIndex; 63]) -> bool
     }
 }
 
+// The most embedded layers that an extension may list.
+const MOST_EMBEDDED: u8 = 8;
+
 // Refusal 10.
 pub fn too_many_embedded(record: Record) -> bool
-    ensures { λ r. ⌜ r ≡ tooManyEmbedded «record» ⌝ }
+    ensures { λ r. ⌜ r ≡ tooManyEmbedded mostEmbedded «record» ⌝ }
 {
     match record {
         Record::NoRecord => false,
         Record::Hierarchy(_) => false,
-        Record::Extension(extension) => 8 < extension.num_embedded_layers,
+        Record::Extension(extension) => MOST_EMBEDDED < extension.num_embedded_layers,
     }
 }

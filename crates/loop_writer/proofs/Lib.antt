@@ -1,5 +1,4 @@
 pub mod Entries
-pub mod Sixes
-pub mod Walk
+pub mod Writes
 pub mod Answers
 pub mod Meant

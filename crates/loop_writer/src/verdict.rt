@@ -1,21 +1,21 @@
-// The lowest of 3 and 6 to 10 that applies to the entries of a loop that is to be written, and its earliest place.
+// The lowest of 3 and 6 to 10 that applies to the entries of a loop that is to be written, and its earliest place: they are judged by the step by which
+// a loop is read.
 ghost use mathlib.Core.Path.{_≡_};
 ghost use mathlib.Core.Bool.{false};
 ghost use Prim.Native.Nat.{_≤_};
-ghost use lib.ListN.{length, take, replicate};
+ghost use lib.ListN.{length, take};
 ghost use Rattle.combinators.specs.Lists.{any};
 ghost use Rattle.combinators.specs.Lowest.{Lowest};
 ghost use Rattle.loop_writer.specs.Layout.{tooWide};
-ghost use Rattle.loop_writer.specs.Verdict.{streamFor, onUnknownType, appliesTo};
-ghost use Rattle.loop_writer.specs.Verdict.{alsoSix};
+ghost use Rattle.loop_writer.specs.Verdict.{streamFor, appliesTo};
 use descriptors::Seen;
 use es_loop::Entry;
 use es_loop::Fault;
 use es_loop::Stream;
-use es_loop::lower;
-use es_loop::lowest_fault;
-use es_loop::slot_of;
-use vocabulary::Reading;
+use es_loop::judge_next;
+use es_loop::no_fault;
+use es_loop::no_indices;
+use es_loop::no_pids;
 
 // An entry as it is judged.
 fn stream_for(entry: Entry) -> Stream
@@ -38,57 +38,18 @@ fn stream_for(entry: Entry) -> Stream
     }
 }
 
-fn on_unknown_type(entry: Entry) -> bool
-    ensures { λ r. ⌜ r ≡ onUnknownType entry ⌝ }
-{
-    let record = entry.record;
-    descriptors::is_layer(record) & !vocabulary::knows(Reading::Edition2015, entry.stream_type)
-}
-
-// The lowest number at an entry, once 6 applies there too or does not.
-fn also_six(number: u8, six: bool) -> u8
-    ensures { λ r. ⌜ r ≡ alsoSix number six ⌝ }
-{
-    if six & (6 < number) { 6 } else { number }
-}
-
-// A mark for each of the 8,192 PIDs, none set.
-fn no_pids() -> [bool; 8192]
-    ensures { λ r. ⌜ r ≡ replicate 8192 false ⌝ }
-{
-    [false; 8192]
-}
-
-// A mark for each value of an index's byte, and one for streams that are no layer, none set.
-fn no_indices() -> [bool; 257]
-    ensures { λ r. ⌜ r ≡ replicate 257 false ⌝ }
-{
-    [false; 257]
-}
-
-// The first `count` entries, none with a value that is too wide. Number 11 says that none applies.
+// The first `count` entries, none with a value that is too wide. Number 11, at place 0, says that none applies.
 pub fn lowest_of(count: usize, entries: [Entry; 201]) -> Fault
     requires { ⌜ (count ≤ 201) × (any tooWide (take count entries) ≡ false) ⌝ }
     ensures { λ r. ⌜ Lowest (appliesTo (take count entries)) 11 (length (take count entries)) (r .number) (r .place) ⌝ }
+    ensures { λ r. ⌜ (11 ≤ r .number → r .place ≡ 0) ⌝ }
 {
     let mut pids = no_pids();
     let mut indices = no_indices();
-    let mut fault = Fault {
-        number: 11,
-        place: 0,
-    };
+    let mut fault = no_fault();
     let mut i = 0;
     while i < count {
-        let entry = entries[i];
-        let stream = stream_for(entry);
-        let pid = entry.pid as usize;
-        let record = entry.record;
-        let slot = slot_of(record);
-        let index_held = descriptors::is_layer(record) & indices[slot];
-        let number = lowest_fault(pids[pid], index_held, stream);
-        fault = lower(fault, also_six(number, on_unknown_type(entry)), i);
-        pids[pid] = true;
-        indices[slot] = true;
+        fault = judge_next(&mut pids, &mut indices, fault, stream_for(entries[i]), i);
         i += 1;
     }
     fault

@@ -2,3 +2,4 @@ pub mod Number
 pub mod Laws
 pub mod Equations
 pub mod NamedLaws
+pub mod FilledLaws

@@ -1,7 +1,7 @@
 -- `judging::too_many_embedded` meets its contract: which arm was taken says which record it is.
 -- Assumes nothing.
 use mathlib.Core.Path.{ap, sym}
-use Rattle.judging.specs.Judging.{tooManyEmbedded}
+use Rattle.judging.specs.Judging.{mostEmbedded, tooManyEmbedded}
 use borrow.Author.Needs.{needs}
 use Rattle.judging.proofs.too_many_embedded.Statement.{statement}
 use Rattle.judging.proofs.too_many_embedded.Tie as tie
@@ -22,7 +22,7 @@ returns-2 : tie.Need-returns-2
 returns-2 c = search needs
 
 returns-3 : tie.Need-returns-3
-returns-3 c = sym (ap tooManyEmbedded (c .before .before .«record» .given .1))
+returns-3 c = sym (ap (tooManyEmbedded mostEmbedded) (c .before .before .«record» .given .1))
 
 pub too-many-embedded-spec : {M : Type 1} → statement M
 too-many-embedded-spec =

@@ -19,8 +19,8 @@ may-stand-on-requires c κs = search needs
 enum-told-2 : tie.Need-enum-told-2
 enum-told-2 c = search needs
 
-no-extension-on-requires : tie.Need-no-extension-on-requires
-no-extension-on-requires c κs = search needs
+extension-on-requires : tie.Need-extension-on-requires
+extension-on-requires c κs = search needs
 
 returns : tie.Need-returns
 returns c = search needs
@@ -33,7 +33,7 @@ returns-2 c =
 returns-3 : tie.Need-returns-3
 returns-3 c =
     let a = c .before .before .before .args in
-    c .no-extension-on .ensures ∙ sym (ap (typeNotAllowed (a .stream-type)) (c .before .enum-told2 .given .1))
+    ap not (c .extension-on .ensures) ∙ sym (ap (typeNotAllowed (a .stream-type)) (c .before .enum-told2 .given .1))
 
 pub type-not-allowed-spec : {M : Type 1} → statement M
 type-not-allowed-spec =
@@ -43,7 +43,7 @@ type-not-allowed-spec =
     enum-known-record
     may-stand-on-requires
     enum-told-2
-    no-extension-on-requires
+    extension-on-requires
     returns
     returns-2
     returns-3)
