@@ -2,7 +2,7 @@
 -- Assumes nothing.
 use Prim.Native.Nat.{ℕ, _+_}
 use mathlib.Core.Path.{_≡_, refl, sym, _∙_, ap, ap₂, subst}
-use mathlib.Core.Bool.{Bool, true, false, cond}
+use mathlib.Core.Bool.{Bool, true, false, cond, not, _&&_}
 use mathlib.Core.List.{List, [], _∷_, _++_, map, append-nil, append-assoc}
 use native.Mathlib.Omega.{arith}
 use borrow.Author.Tests.{lt-ltb, eq-eqb}
@@ -26,6 +26,7 @@ use Rattle.descriptors.specs.declared.looking.Seen.{Seen}
 use Rattle.descriptors.specs.Head.{descriptorHead, descriptorLength, headTable}
 use Rattle.descriptors.specs.Hierarchy.{hierarchyDescriptor, hierarchyFrom, hierarchyOf, hierarchyFields, hierarchyGiven}
 use Rattle.descriptors.specs.Extension.{extensionHead, embeddedLayer, noLayer, extensionFrom, extensionOf, layersOf, extensionFields, layerTable, extensionGiven}
+use Rattle.descriptors.proofs.Meant.{by-tag}
 use Rattle.descriptors.specs.Looking.{Kind, hierarchy, extension, payloadKind, extensionKind, kindOf, kindsOf, seenOfKinds, seenOf}
 use Rattle.es_loop.specs.declared.entries.Entry.{Entry}
 use Rattle.es_loop.specs.declared.entries.Stream.{Stream}
@@ -33,7 +34,7 @@ use Rattle.es_loop.specs.Entries.{entryHead, esInfoLength, seenIn, streamOf, st
 use Rattle.es_loop.proofs.Meant.{by-head}
 use Rattle.syntax.specs.Named.{byNames}
 use Rattle.syntax.specs.Filled.{filled, bytesIn, tooWideIn}
-use Rattle.descriptors.specs.Records.{recordTables}
+use Rattle.descriptors.specs.Records.{isLayer, recordTables}
 use Rattle.loop_writer.specs.Layout.{infoBytes, loopBytes, tooWide}
 use Rattle.descriptors.proofs.Payloads.{hierarchy-fields, extension-fields, extension-written}
 use Rattle.descriptors.proofs.Sizes.{fit-first, fit-others, hierarchy-fit, extension-fit, layers-fit, count-small, length-layers}
@@ -55,6 +56,10 @@ normal e =
       «record» = e .«record»;
       embedded = padTo 63 noLayer (layersKept (e .«record») (e .embedded));
     }
+
+-- a record on a stream type that the 2015 reading does not know
+abbrev pub onUnknownType : Entry → Bool
+onUnknownType e = isLayer (e .«record») && not (known Edition2015 (e .«stream_type»))
 
 -- an entry as it is read again: of a type that the 2015 reading does not know no record is seen
 abbrev pub withoutRecord : Entry → Entry
@@ -97,9 +102,6 @@ layers-back (index ∷ layers) e =
     (layers-back layers (fit-others (layerTable index) (map layerTable layers) e))
 
 -- ---- one descriptor
-
-pub by-tag : (head rest : List ℕ) → length head ≡ 2 → descriptorLength (head ++ rest) ≡ descriptorLength head
-by-tag head rest h = ap (λ (vs : List ℕ). getD vs 1 0) (read-before descriptorHead head rest (omega arith))
 
 -- a descriptor's head, and a payload as long as it says
 module _ (tag long : ℕ) (payload : List ℕ) (fit : Fit descriptorHead (tag ∷ long ∷ [])) (size : length payload ≡ long) where

@@ -41,16 +41,17 @@ use Rattle.es_loop.specs.declared.reader.Outcome.the-variants.{Accepted}
 use Rattle.es_loop.specs.declared.reader.LoopRead.{LoopRead}
 use Rattle.es_loop.specs.Conditions.{streamAt, applies, refusalOf}
 use Rattle.es_loop.specs.Reading.{refusedWith, accepted, loopRead}
+use Rattle.judging.specs.Judging.{mostEmbedded}
+use Rattle.descriptors.proofs.Meant.{by-tag}
 use Rattle.es_loop.specs.Entries.{entryHead, streamType, elementaryPid, esInfoLength, seenIn, streamOf, streamsOf, noStream, entryOf, blankEntry}
 use Rattle.es_loop.proofs.Meant.{by-head}
 use Rattle.syntax.specs.Named.{byNames}
 use Rattle.syntax.specs.Filled.{filled, bytesIn, tooWideIn, bitOf}
 use Rattle.loop_writer.specs.Layout.{infoBytes, entryBytes, loopBytes, tooWide}
-use Rattle.loop_writer.specs.Verdict.{onUnknownType}
 use Rattle.loop_writer.specs.declared.writer.Written.{Written}
 use Rattle.loop_writer.specs.declared.writer.Written.the-variants.{Bytes, Refused}
 use Rattle.loop_writer.specs.Writing.{answer}
-use Rattle.loop_round_trip.specs.ReadBack.{Typed, none, one-more as one-typed, by-tag, entry-sound, descriptor-sound, hierarchy-sound, extension-sound, layer-sound}
+use Rattle.loop_round_trip.specs.ReadBack.{Typed, none, one-more as one-typed, onUnknownType, entry-sound, descriptor-sound, hierarchy-sound, extension-sound, layer-sound}
 use Rattle.loop_round_trip.specs.RoundTrip.{Refuses, wide, too-long, judged-by, no-room, writes, refuses, numbered, none-below, same-refusal}
 use Rattle.loop_round_trip.specs.OwnShape.{Ones, ListOnes, no-more, one-more, OwnDescriptor, hierarchy-own, extension-own, OwnEntry, known-own, bare-own, OwnShape}
 
@@ -344,7 +345,7 @@ least-size (e ∷ es) = omega (arith, least-size es, length-append (entryBytes e
 record Taken (loop : List ℕ) : Type 0 where
   short : length loop ≤ 1008
   answered : loopRead Edition2015 loop ≡ accepted (streamsOf Edition2015 loop)
-  none-applies : (n k : ℕ) → n < 11 → k < length (streamsOf Edition2015 loop) → applies (streamsOf Edition2015 loop) n k ≡ false
+  none-applies : (n k : ℕ) → n < 11 → k < length (streamsOf Edition2015 loop) → applies mostEmbedded (streamsOf Edition2015 loop) n k ≡ false
 
 taken : (loop : List ℕ) → (loopRead Edition2015 loop) .outcome ≡ Accepted → Taken loop
 taken loop ok = go (ltb 1008 (length loop)) refl (ltb lowest 11) refl
@@ -353,19 +354,19 @@ taken loop ok = go (ltb 1008 (length loop)) refl (ltb lowest 11) refl
     streams = streamsOf Edition2015 loop
 
     lowest : ℕ
-    lowest = lowestNumber (applies streams) 11 (length streams)
+    lowest = lowestNumber (applies mostEmbedded streams) 11 (length streams)
 
     refused : (r : Refusal) → loopRead Edition2015 loop ≡ refusedWith r → Taken loop
     refused r e = let z : _≡_ {A = ℕ} 0 1 = cc (ap (λ (x : LoopRead). x .outcome) e) in absurd (omega arith)
 
     go : (a : Bool) → ltb 1008 (length loop) ≡ a → (b : Bool) → ltb lowest 11 ≡ b → Taken loop
     go true p b q = refused LoopTooLong (rw p)
-    go false p true q = refused (refusalOf lowest (earliestPlace (applies streams) lowest (length streams))) (rw (p, q))
+    go false p true q = refused (refusalOf lowest (earliestPlace (applies mostEmbedded streams) lowest (length streams))) (rw (p, q))
     go false p false q =
         record {
           short = ltb-false 1008 (length loop) p;
           answered = rw (p, q);
-          none-applies = λ n k h l. (lowest-is (applies streams) 11 (length streams)) .lower n k (omega (arith, ltb-false lowest 11 q)) l;
+          none-applies = λ n k h l. (lowest-is (applies mostEmbedded streams) 11 (length streams)) .lower n k (omega (arith, ltb-false lowest 11 q)) l;
         }
 
 module _ (loop : List ℕ) (b : AreBytes loop) (own : OwnShape loop) (ok : (loopRead Edition2015 loop) .outcome ≡ Accepted) where

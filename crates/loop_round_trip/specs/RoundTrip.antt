@@ -26,14 +26,17 @@ use Rattle.es_loop.specs.declared.entries.Stream.{Stream}
 use Rattle.es_loop.specs.declared.reader.Outcome.the-variants.{Accepted}
 use Rattle.es_loop.specs.Entries.{blankEntry, entryOf, streamsOf}
 use Rattle.es_loop.specs.Conditions.{applies, refusalOf}
-use Rattle.es_loop.specs.Reading.{refusedWith, accepted, judged, loopRead}
+use Rattle.es_loop.specs.declared.reader.LoopRead.{LoopRead}
+use Rattle.es_loop.specs.declared.verdict.Verdict.the-variants.{Refused as VerdictRefused}
+use Rattle.es_loop.specs.Reading.{refusedWith, judged, answerBy, loopRead}
+use Rattle.judging.specs.Judging.{mostEmbedded}
 use Rattle.es_loop.proofs.Judged.{judged-refused, judged-accepted}
 use Rattle.loop_writer.specs.Layout.{loopBytes, tooWide}
-use Rattle.loop_writer.specs.Verdict.{streamFor, onUnknownType, appliesTo}
+use Rattle.loop_writer.specs.Verdict.{streamFor, appliesTo}
 use Rattle.loop_writer.specs.declared.writer.Written.{Written}
 use Rattle.loop_writer.specs.declared.writer.Written.the-variants.{Bytes, Refused}
 use Rattle.loop_writer.specs.Writing.{answer, contentAfter, content}
-use Rattle.loop_round_trip.specs.ReadBack.{normal, readAs, Typed, read-written}
+use Rattle.loop_round_trip.specs.ReadBack.{onUnknownType, normal, readAs, Typed, read-written}
 use Rattle.loop_round_trip.specs.Verdicts.{NotBySix, read-normal, same-lowest, none-unknown}
 
 -- THE ANSWER, CASE BY CASE: what is known where it is so many bytes, and where it is a refusal.
@@ -114,18 +117,21 @@ module _ {es : List Entry} (typed : Typed es) (fit : any tooWide es ≡ false) w
   as-long : length seen ≡ length es
   as-long = length-map (map readAs es) streamFor ∙ length-map es readAs
 
-  reading : length (loopBytes es) ≤ 1008 → loopRead Edition2015 (loopBytes es) ≡ judged seen
+  abbrev by-length : Bool → LoopRead
+  by-length b =
+      let all : List Stream = streamsOf Edition2015 (loopBytes es) in
+      answerBy all (cond b (VerdictRefused LoopTooLong) (judged mostEmbedded all))
+
+  reading : length (loopBytes es) ≤ 1008 → loopRead Edition2015 (loopBytes es) ≡ answerBy seen (judged mostEmbedded seen)
   reading short =
-      ap (λ (b : Bool). cond b (refusedWith LoopTooLong) (judged (streamsOf Edition2015 (loopBytes es)))) (le-ltb 1008 (length (loopBytes es)) short)
-      ∙ ap judged (read-written typed fit)
+      ap by-length (le-ltb 1008 (length (loopBytes es)) short) ∙ ap (λ (ss : List Stream). answerBy ss (judged mostEmbedded ss)) (read-written typed fit)
 
   reading-long : 1008 < length (loopBytes es) → loopRead Edition2015 (loopBytes es) ≡ refusedWith LoopTooLong
-  reading-long long =
-      ap (λ (b : Bool). cond b (refusedWith LoopTooLong) (judged (streamsOf Edition2015 (loopBytes es)))) (lt-ltb 1008 (length (loopBytes es)) long)
+  reading-long long = ap by-length (lt-ltb 1008 (length (loopBytes es)) long)
 
   module _ (number place : ℕ) (low : Lowest (appliesTo es) 11 (length es) number place) (u : NotBySix es typed fit number place) where
-    seen-lowest : Lowest (applies seen) 11 (length seen) number place
-    seen-lowest = subst (λ (n : ℕ). Lowest (applies seen) 11 n number place) (sym as-long) (same-lowest es typed fit number place low u)
+    seen-lowest : Lowest (applies mostEmbedded seen) 11 (length seen) number place
+    seen-lowest = subst (λ (n : ℕ). Lowest (applies mostEmbedded seen) 11 n number place) (sym as-long) (same-lowest es typed fit number place low u)
 
   -- no number applies: the reader accepts, and answers the entries
   reading-accepts : (place : ℕ) → Lowest (appliesTo es) 11 (length es) 11 place → length (loopBytes es) ≤ 1008
@@ -134,7 +140,7 @@ module _ {es : List Entry} (typed : Typed es) (fit : any tooWide es ≡ false) w
       let unknown : (k : ℕ) (e : Entry) → Nth es k e → onUnknownType e ≡ false =
       λ k e n. sym (ap onUnknownType (nth-getD blankEntry n)) ∙ none-unknown es typed fit 11 place low (omega arith) k (nth-inside n) in
       let low-seen = seen-lowest 11 place low (λ six. absurd (omega arith)) in
-      reading short ∙ sym (judged-accepted seen place low-seen)
+      reading short ∙ sym (ap (answerBy seen) (judged-accepted mostEmbedded seen place low-seen))
       ∙ ap₂ (λ (n : ℕ) (l : List Entry). record { outcome = Accepted; count = n; entries = padTo 201 blankEntry l }) as-long
       (entries-back (map readAs es) ∙ all-normal es unknown)
 
@@ -206,8 +212,8 @@ module _ (room count : ℕ) (array : List Entry) (typed : Typed (take count arra
       go (judged-by {n} {k} p f short low l) h s =
           let named = numbered n k l (none-below es n k (low .holds l)) in
           reading typed p short
-          ∙ sym (judged-refused (map streamFor (map readAs es)) n k
-          (seen-lowest typed p n k low (λ is-six. rw (← named .1) (s (named .0 ∙ is-six)))) l)
+          ∙ sym (ap (answerBy (map streamFor (map readAs es))) (judged-refused mostEmbedded (map streamFor (map readAs es)) n k
+          (seen-lowest typed p n k low (λ is-six. rw (← named .1) (s (named .0 ∙ is-six)))) l))
       go (no-room p q) h s = absurd (omega arith)
 
 -- What the buffer holds after writing are the bytes of which this speaks.

@@ -4,15 +4,15 @@
 -- Assumes nothing.
 use Prim.Native.Nat.{ℕ, _-_, _≤_, _<_}
 use mathlib.Core.Path.{_≡_, refl, sym, _∙_, ap, ap₂}
-use mathlib.Core.Bool.{Bool, true, false, _&&_, and-true, or-false}
+use mathlib.Core.Bool.{Bool, true, false, not, _&&_, and-true}
 use mathlib.Core.List.{List, map}
 use native.Mathlib.Omega.{arith}
-use borrow.Author.Tests.{eqb-true}
+use borrow.Author.Tests.{not-true}
 use lib.Dec.{eqb}
 use lib.ListN.{length, getD, take, replicate}
 use lib.Seq.{length-take-le, take-at}
 use Rattle.combinators.specs.Below.{some-at, some-which, some-same}
-use Rattle.combinators.specs.Bools.{both-left, both-right, neither-left, neither-right, apart, false-unless}
+use Rattle.combinators.specs.Bools.{both-left, both-right, both-ways, apart, false-unless}
 use Rattle.combinators.specs.Lists.{Nth, getD-nth, nth-map, getD-map, any, any-false, handled}
 use Rattle.combinators.specs.Lowest.{Lowest}
 use Rattle.combinators.specs.Padding.{padTo}
@@ -23,7 +23,9 @@ use Rattle.descriptors.specs.declared.«record».Record.{Record}
 use Rattle.descriptors.specs.declared.«record».Record.the-variants.{NoRecord, Hierarchy, Extension}
 use Rattle.descriptors.specs.Extension.{noLayer}
 use Rattle.descriptors.specs.Records.{isLayer, indexOf, plain, recordTables}
-use Rattle.judging.specs.Judging.{sameIndex, typeNotAllowed, wrongFlags, wrongList, wrongEmbedded, tooManyEmbedded}
+use Rattle.judging.specs.Judging.{sameIndex, typeNotAllowed, wrongFlags, wrongList, wrongEmbedded, mostEmbedded, tooManyEmbedded}
+use Rattle.judging.specs.Meaning.{unknown-type}
+use Rattle.judging.proofs.Meant.{refusal-6}
 use Rattle.es_loop.specs.declared.entries.Entry.{Entry}
 use Rattle.es_loop.specs.declared.entries.Stream.{Stream}
 use Rattle.es_loop.specs.Entries.{noStream, blankEntry}
@@ -32,8 +34,8 @@ use Rattle.syntax.specs.Filled.{tooWideIn}
 use Rattle.loop_writer.specs.Layout.{tooWide}
 use Rattle.loop_writer.proofs.Entries.{record-fit}
 use Rattle.descriptors.proofs.Sizes.{count-small}
-use Rattle.loop_writer.specs.Verdict.{streamFor, onUnknownType, appliesTo}
-use Rattle.loop_round_trip.specs.ReadBack.{layersKept, normal, withoutRecord, readAs, Typed, typed-at}
+use Rattle.loop_writer.specs.Verdict.{streamFor, appliesTo}
+use Rattle.loop_round_trip.specs.ReadBack.{onUnknownType, layersKept, normal, withoutRecord, readAs, Typed, typed-at}
 
 -- ONE ENTRY, by whether its type is known
 by-type : (e : Entry) (P : Entry → Type 0) → (known Edition2015 (e .«stream_type») ≡ true → P (normal e))
@@ -137,19 +139,19 @@ module _ (es : List Entry) (typed : Typed es) (fit : any tooWide es ≡ false) w
 
   -- the conditions at an entry, as it was given and as it is read
   abbrev givenTests : ℕ → List Bool
-  givenTests k = conditions (repeatedPid given k) (repeatedIndex given k) (streamFor (entryAt k))
+  givenTests k = conditions mostEmbedded (repeatedPid given k) (repeatedIndex given k) (streamFor (entryAt k))
 
   abbrev seenTests : ℕ → List Bool
-  seenTests k = conditions (repeatedPid seen k) (repeatedIndex seen k) (streamFor (readAs (entryAt k)))
+  seenTests k = conditions mostEmbedded (repeatedPid seen k) (repeatedIndex seen k) (streamFor (readAs (entryAt k)))
 
-  given-tests : {k : ℕ} → k < length es → (n : ℕ) → applies given n k ≡ getD (givenTests k) n false
-  given-tests {k} h n = ap (λ (s : Stream). getD (conditions (repeatedPid given k) (repeatedIndex given k) s) n false) (given-at h)
+  given-tests : {k : ℕ} → k < length es → (n : ℕ) → applies mostEmbedded given n k ≡ getD (givenTests k) n false
+  given-tests {k} h n = ap (λ (s : Stream). getD (conditions mostEmbedded (repeatedPid given k) (repeatedIndex given k) s) n false) (given-at h)
 
-  seen-tests : {k : ℕ} → k < length es → (n : ℕ) → applies seen n k ≡ getD (seenTests k) n false
-  seen-tests {k} h n = ap (λ (s : Stream). getD (conditions (repeatedPid seen k) (repeatedIndex seen k) s) n false) (seen-at h)
+  seen-tests : {k : ℕ} → k < length es → (n : ℕ) → applies mostEmbedded seen n k ≡ getD (seenTests k) n false
+  seen-tests {k} h n = ap (λ (s : Stream). getD (conditions mostEmbedded (repeatedPid seen k) (repeatedIndex seen k) s) n false) (seen-at h)
 
   -- WHAT APPLIES IN READING APPLIES IN WRITING.
-  reads-writes : (n k : ℕ) → k < length es → applies seen n k ≡ true → applies given n k ≡ true
+  reads-writes : (n k : ℕ) → k < length es → applies mostEmbedded seen n k ≡ true → applies mostEmbedded given n k ≡ true
   reads-writes n k h t =
       given-tests h n
       ∙ handled (λ m. getD (givenTests k) m false ≡ true) (seenTests k)
@@ -172,8 +174,8 @@ module _ (es : List Entry) (typed : Typed es) (fit : any tooWide es ≡ false) w
           by-type e (λ x. wrongEmbedded (x .«record») (x .embedded) ≡ true → wrongEmbedded (e .«record») (e .embedded) ≡ true)
           (λ p q. sym (named-alike h) ∙ q) (λ p q. apart q)
 
-      ten : tooManyEmbedded ((readAs e) .«record») ≡ true → tooManyEmbedded (e .«record») ≡ true
-      ten = by-type e (λ x. tooManyEmbedded (x .«record») ≡ true → tooManyEmbedded (e .«record») ≡ true) (λ p q. q) (λ p q. apart q)
+      ten : tooManyEmbedded mostEmbedded ((readAs e) .«record») ≡ true → tooManyEmbedded mostEmbedded (e .«record») ≡ true
+      ten = by-type e (λ x. tooManyEmbedded mostEmbedded (x .«record») ≡ true → tooManyEmbedded mostEmbedded (e .«record») ≡ true) (λ p q. q) (λ p q. apart q)
 
   -- WHAT APPLIES IN WRITING APPLIES IN READING: 3 in any case, 6 unless the record stands on an unknown type, 7 to 10 where no record up to
   -- there does.
@@ -183,7 +185,7 @@ module _ (es : List Entry) (typed : Typed es) (fit : any tooWide es ≡ false) w
   abbrev KnownUpTo : ℕ → ℕ → Type 0
   KnownUpTo n k = 6 < n → (j : ℕ) → j ≤ k → onUnknownType (entryAt j) ≡ false
 
-  writes-reads : (n k : ℕ) → k < length es → NotBySix n k → KnownUpTo n k → applies given n k ≡ true → applies seen n k ≡ true
+  writes-reads : (n k : ℕ) → k < length es → NotBySix n k → KnownUpTo n k → applies mostEmbedded given n k ≡ true → applies mostEmbedded seen n k ≡ true
   writes-reads n k h u v t =
       seen-tests h n
       ∙ handled
@@ -211,39 +213,40 @@ module _ (es : List Entry) (typed : Typed es) (fit : any tooWide es ≡ false) w
           → wrongEmbedded ((readAs e) .«record») ((readAs e) .embedded) ≡ true
       nine p x y = rw (read-normal e (y (omega arith) k (omega arith))) (named-alike h ∙ p)
 
-      ten : tooManyEmbedded (e .«record») ≡ true → NotBySix 10 k → KnownUpTo 10 k
-          → tooManyEmbedded ((readAs e) .«record») ≡ true
+      ten : tooManyEmbedded mostEmbedded (e .«record») ≡ true → NotBySix 10 k → KnownUpTo 10 k
+          → tooManyEmbedded mostEmbedded ((readAs e) .«record») ≡ true
       ten p x y = rw (read-normal e (y (omega arith) k (omega arith))) p
 
   -- THE LOWEST NUMBER IS THE SAME.
-  not-read : (n k : ℕ) → k < length es → appliesTo es n k ≡ false → applies seen n k ≡ false
-  not-read n k h f =
-      false-unless (applies seen n k)
-      (λ t. let z : _≡_ {A = ℕ} 0 1 = cc (reads-writes n k h t, neither-left (applies given n k) (eqb n 6 && onUnknownType (entryAt k)) f) in omega arith)
+  not-read : (n k : ℕ) → k < length es → appliesTo es n k ≡ false → applies mostEmbedded seen n k ≡ false
+  not-read n k h f = false-unless (applies mostEmbedded seen n k) (λ t. both-ways (reads-writes n k h t) f)
 
   -- 6 applies to no entry, so no record stands on an unknown type
-  all-known : (k : ℕ) → appliesTo es 6 k ≡ false → onUnknownType (entryAt k) ≡ false
-  all-known k f = neither-right (applies given 6 k) (onUnknownType (entryAt k)) f
+  all-known : (k : ℕ) → k < length es → appliesTo es 6 k ≡ false → onUnknownType (entryAt k) ≡ false
+  all-known k h f =
+      let e : Entry = entryAt k in
+      let layer : Bool = isLayer (e .«record») in
+      let unknown : Bool = not (known Edition2015 (e .«stream_type»)) in
+      false-unless (onUnknownType e)
+      (λ u. both-ways
+      ((refusal-6 (e .«stream_type») (e .«record»)) .1
+      (unknown-type (both-left layer unknown u) (not-true (known Edition2015 (e .«stream_type»)) (both-right layer unknown u))))
+      (sym (ap (λ (s : Stream). typeNotAllowed (s .«stream_type») (s .seen .«record»)) (given-at h)) ∙ f))
 
   module _ (number place : ℕ) (lowest : Lowest (appliesTo es) 11 (length es) number place) where
-    pub same-lowest : NotBySix number place → Lowest (applies seen) 11 (length es) number place
+    pub same-lowest : NotBySix number place → Lowest (applies mostEmbedded seen) 11 (length es) number place
     same-lowest u =
         record {
           within = lowest .within;
           lower = λ n k l h. not-read n k h (lowest .lower n k l h);
           inside = lowest .inside;
           holds = λ l. writes-reads number place (lowest .inside l) u
-              (λ m j i. all-known j (lowest .lower 6 j m (let p = lowest .inside l in omega arith)))
-              (given-holds (lowest .holds l));
+              (λ m j i. (let p = lowest .inside l in
+              let within : j < length es = omega arith in
+              all-known j within (lowest .lower 6 j m within)))
+              (lowest .holds l);
           earlier = λ l k h. not-read number k (let p = lowest .inside l in omega arith) (lowest .earlier l k h);
         }
-      where
-        given-holds : appliesTo es number place ≡ true → applies given number place ≡ true
-        given-holds t = go (eqb number 6) refl
-          where
-            go : (b : Bool) → eqb number 6 ≡ b → applies given number place ≡ true
-            go true p = rw (p, u (eqb-true number 6 p), or-false (applies given number place)) at t
-            go false p = rw (p, or-false (applies given number place)) at t
 
     pub none-unknown : 11 ≤ number → (k : ℕ) → k < length es → onUnknownType (entryAt k) ≡ false
-    none-unknown h k l = all-known k (lowest .lower 6 k (omega arith) l)
+    none-unknown h k l = all-known k l (lowest .lower 6 k (omega arith) l)
