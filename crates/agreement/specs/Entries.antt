@@ -3,10 +3,14 @@
 -- Assumes nothing.
 use Prim.Native.Nat.{ℕ, suc, _<_}
 use mathlib.Core.Path.{_≡_, refl, sym, _∙_, ap, ap₂, subst}
-use mathlib.Core.Bool.{Bool, true, false, cond, true≢false, false≢true, not-eq-not}
+use mathlib.Core.Bool.{Bool, true, false, cond, _||_, true≢false, false≢true, not-eq-not}
 use mathlib.Core.List.{List, [], _∷_, map, nil≢cons, head-eq-of-cons-eq}
 use native.Mathlib.Omega.{arith}
+use mathlib.Core.Logic.{⊎-elim}
 use native.Mathlib.Decide.{decLt}
+use borrow.Author.Tests.{eqb-true}
+use lib.Dec.{eqb}
+use Rattle.combinators.specs.Bools.{apart, either-which}
 use native.Mathlib.Nat.{not-suc-le-zero}
 use lib.ListN.{length, length-map}
 use Rattle.combinators.specs.Lists.{Nth, here, there, nth-of-map, any, any-which, gather}
@@ -20,10 +24,13 @@ use Rattle.descriptors.specs.declared.hierarchy.HierarchyRecord.{HierarchyRecor
 use Rattle.descriptors.specs.declared.«record».Record.{Record}
 use Rattle.descriptors.specs.declared.«record».Record.the-variants.{NoRecord, Hierarchy, Extension}
 use Rattle.descriptors.specs.declared.looking.Seen.{Seen}
+use Rattle.descriptors.specs.declared.extension.ExtensionRecord.{ExtensionRecord}
+use Rattle.descriptors.proofs.Meant.{descriptors-meant, descriptors-only}
 use Rattle.descriptors.specs.Extension.{noLayer}
 use Rattle.descriptors.specs.Looking.{Kind, does-not-fit, skipped, wrong-length, hierarchy, extension, kindsOf, Held, heldIn, isWrongLength, firstRecord, firstLayers, seenOf, nothingSeen, is-wrong-length}
-use Rattle.judging.specs.Meaning.{TypeNotAllowed, hierarchy-type, WrongFlags, type-9, more-than-one, Flag, view, temporal, spatial, quality, flag, WrongEmbedded, not-below, listed-twice, TooManyEmbedded}
-use Rattle.judging.proofs.Meant.{refusal-6, refusal-10}
+use Rattle.judging.specs.Judging.{mostEmbedded}
+use Rattle.judging.specs.Meaning.{TypeNotAllowed, hierarchy-type, extension-on-avc, extension-on-svc, extension-on-mvc, unknown-type, WrongFlags, type-9, more-than-one, Flag, view, temporal, spatial, quality, flag, WrongEmbedded, not-below, listed-twice, TooManyEmbedded}
+use Rattle.judging.proofs.Meant.{refusal-10}
 use Rattle.descriptors.specs.Records.{indexOf}
 use Rattle.es_loop.specs.declared.entries.Entry.{Entry}
 use Rattle.es_loop.specs.declared.reader.Outcome.the-variants.{Accepted}
@@ -33,7 +40,7 @@ use Rattle.es_loop.specs.Reading.{accepted, loopRead}
 use Rattle.es_loop.specs.Meaning.{KnownAt, LayerAt, Condition, entry-unfit, descriptor-unfit, pid-seen, length-wrong, two-records, type-wrong, flags-wrong, index-held, embedded-wrong, embedded-many, Answers, too-long, refuses, accepts}
 use Rattle.es_loop.proofs.Meant.{answer-meant, answer-only}
 use Rattle.loop_layers.specs.Closures.{entriesRead}
-use Rattle.loop_layers.specs.Meant.{entries-read}
+use Rattle.loop_layers.proofs.Meant.{entries-read}
 use Rattle.agreement.specs.Records.{viewUnread, recordIn2009, withRecord, entryIn2009, known-later}
 use Rattle.agreement.specs.Looking.{kindIn2009, heldIn2009, isExtension, Plain, kinds-alike, held-alike}
 
@@ -57,6 +64,9 @@ was-wrong (extension x layers) e = let z : _≡_ {A = ℕ} 0 1 = cc in absurd (o
 
 type-refused : (t : ℕ) (r : Record) → TypeNotAllowed t (recordIn2009 r) → TypeNotAllowed t r
 type-refused t (Hierarchy h) (hierarchy-type p) = hierarchy-type p
+type-refused t (Hierarchy h) (unknown-type l u) = unknown-type refl u
+type-refused t (Extension x) (unknown-type l u) = apart l
+type-refused t NoRecord (unknown-type l u) = apart l
 
 -- a flag that the 2009 reading answers as 0 is 0
 flag-read : (h : HierarchyRecord) (f : Flag) → flag (viewUnread h) f ≡ false → flag h f ≡ false
@@ -76,13 +86,13 @@ embedded-refused (Hierarchy h) layers (listed-twice i j l k p) = listed-twice i 
 embedded-refused (Extension x) layers (not-below i l p) = absurd (not-suc-le-zero l)
 embedded-refused (Extension x) layers (listed-twice i j l k p) = absurd (not-suc-le-zero k)
 
-many-refused : (r : Record) → TooManyEmbedded (recordIn2009 r) → TooManyEmbedded r
+many-refused : (r : Record) → TooManyEmbedded mostEmbedded (recordIn2009 r) → TooManyEmbedded mostEmbedded r
 many-refused NoRecord w = w
 many-refused (Hierarchy h) w = absurd (none w)
   where
-    none : {h : HierarchyRecord} → TooManyEmbedded (Hierarchy h) → ⊥
-    none w = false≢true ((refusal-10 _) .1 w)
-many-refused (Extension x) w = absurd (false≢true ((refusal-10 NoRecord) .1 w))
+    none : {h : HierarchyRecord} → TooManyEmbedded mostEmbedded (Hierarchy h) → ⊥
+    none w = false≢true ((refusal-10 mostEmbedded _) .1 w)
+many-refused (Extension x) w = absurd (false≢true ((refusal-10 mostEmbedded NoRecord) .1 w))
 
 same-index : (r : Record) → isExtension r ≡ false → indexOf (recordIn2009 r) ≡ indexOf r
 same-index NoRecord e = refl
@@ -91,7 +101,7 @@ same-index (Extension x) e = absurd (true≢false e)
 
 -- ---- the conditions of an accepted loop: none holds in the 2015 reading
 
-module _ (items : List Item) (none : (n k : ℕ) → Condition Edition2015 items n k → ⊥) where
+module _ (items : List Item) (none : (n k : ℕ) → Condition Edition2015 items mostEmbedded n k → ⊥) where
   known-too : {k t : ℕ} {info : List ℕ} → KnownAt Edition2009 items k t info → KnownAt Edition2015 items k t info
   known-too {t = t} s = record { head = s .head; entry = s .entry; type = s .type; is-known = known-later t (s .is-known) }
 
@@ -102,7 +112,7 @@ module _ (items : List Item) (none : (n k : ℕ) → Condition Edition2015 items
         right-length = not-eq-not {a = any isWrongLength kinds} {b = false} .0
             (λ e.
             let w = any-which isWrongLength kinds e in
-            none 4 k (length-wrong (known-too s) (subst (λ (x : Kind). Nth kinds (w .0) x) (is-wrong-length (w .1) (w .3)) (w .2))));
+            none 4 k (length-wrong (known-too s) (descriptors-meant Edition2015 info) (subst (λ (x : Kind). Nth kinds (w .0) x) (is-wrong-length (w .1) (w .3)) (w .2))));
         one-record = few (decLt (length (gather heldIn kinds)) 2);
         no-extension = first (gather heldIn kinds) refl;
       }
@@ -112,14 +122,21 @@ module _ (items : List Item) (none : (n k : ℕ) → Condition Edition2015 items
 
       few : Dec (length (gather heldIn kinds) < 2) → length (gather heldIn kinds) < 2
       few (yes h) = h
-      few (no h) = absurd (none 5 k (two-records (known-too s) (omega arith)))
+      few (no h) = absurd (none 5 k (two-records (known-too s) (descriptors-meant Edition2015 info) (omega arith)))
+
+      -- an extension on a type of 2009
+      on-2009 : {x : ExtensionRecord} → known Edition2009 t ≡ true → TypeNotAllowed t (Extension x)
+      on-2009 e =
+          ⊎-elim (λ p. extension-on-avc (eqb-true t 0x1B p))
+          (λ p. ⊎-elim (λ q. extension-on-svc (eqb-true t 0x1F q)) (λ q. ⊎-elim (λ r. extension-on-mvc (eqb-true t 0x20 r)) apart (either-which (eqb t 0x20) false q)) (either-which (eqb t 0x1F) (eqb t 0x20 || false) p))
+          (either-which (eqb t 0x1B) (eqb t 0x1F || (eqb t 0x20 || false)) e)
 
       by-record : (r : Record) (layers : List LayerIndex) (others : List Held) → gather heldIn kinds ≡ record { held = r; layers = layers } ∷ others
           → isExtension r ≡ false
       by-record NoRecord layers others e = refl
       by-record (Hierarchy h) layers others e = refl
       by-record (Extension x) layers others e =
-          absurd (none 6 k (type-wrong (record { info = info; stream = known-too s; others = others; first = e }) ((refusal-6 t (Extension x)) .0 (s .is-known))))
+          absurd (none 6 k (type-wrong (record { info = info; stream = known-too s; kinds = kinds; descriptors = descriptors-meant Edition2015 info; others = others; first = e }) (on-2009 (s .is-known))))
 
       first : (hs : List Held) → gather heldIn kinds ≡ hs → isExtension (firstRecord hs) ≡ false
       first [] e = refl
@@ -138,16 +155,21 @@ module _ (items : List Item) (none : (n k : ℕ) → Condition Edition2015 items
       plain : Plain (l .info)
       plain = plain-at (l .stream)
 
+      early : gather heldIn (kindsOf Edition2009 (l .info)) ≡ record { held = r; layers = layers } ∷ l .others
+      early = sym (ap (gather heldIn) (descriptors-only Edition2009 (l .descriptors))) ∙ l .first
+
       go : (hs : List Held) → gather heldIn (kindsOf Edition2015 (l .info)) ≡ hs → Later k t r layers
-      go [] e = absurd (nil≢cons (sym (held-alike plain ∙ ap (map heldIn2009) e) ∙ l .first))
+      go [] e = absurd (nil≢cons (sym (held-alike plain ∙ ap (map heldIn2009) e) ∙ early))
       go (h ∷ hs) e =
-          let same : heldIn2009 h ≡ record { held = r; layers = layers } = head-eq-of-cons-eq (sym (held-alike plain ∙ ap (map heldIn2009) e) ∙ l .first) in
+          let same : heldIn2009 h ≡ record { held = r; layers = layers } = head-eq-of-cons-eq (sym (held-alike plain ∙ ap (map heldIn2009) e) ∙ early) in
           let as-listed : h .layers ≡ layers = ap (λ (x : Held). x .layers) same in
           record {
             was = h .held;
             layer = record {
               info = l .info;
               stream = known-too (l .stream);
+              kinds = kindsOf Edition2015 (l .info);
+              descriptors = descriptors-meant Edition2015 (l .info);
               others = hs;
               first = e ∙ ap (λ (ls : List LayerIndex). record { held = h .held; layers = ls } ∷ hs) as-listed;
             };
@@ -156,18 +178,20 @@ module _ (items : List Item) (none : (n k : ℕ) → Condition Edition2015 items
           }
 
   -- NONE HOLDS IN THE 2009 READING.
-  none-in-2009 : {n k : ℕ} → Condition Edition2009 items n k → ⊥
+  none-in-2009 : {n k : ℕ} → Condition Edition2009 items mostEmbedded n k → ⊥
   none-in-2009 (entry-unfit {k} e) = none 2 k (entry-unfit e)
-  none-in-2009 (descriptor-unfit {k} {info = info} s {i} d) =
-      let w = nth-of-map kindIn2009 (kindsOf Edition2015 info) (subst (λ (l : List Kind). Nth l i does-not-fit) (kinds-alike (plain-at s)) d) in
-      none 2 k (descriptor-unfit (known-too s) (subst (λ (x : Kind). Nth (kindsOf Edition2015 info) i x) (was-unfit (w .0) (w .2)) (w .1)))
+  none-in-2009 (descriptor-unfit {k} {info = info} s ds {i} d) =
+      let w = nth-of-map kindIn2009 (kindsOf Edition2015 info)
+      (subst (λ (l : List Kind). Nth l i does-not-fit) (descriptors-only Edition2009 ds ∙ kinds-alike (plain-at s)) d) in
+      none 2 k (descriptor-unfit (known-too s) (descriptors-meant Edition2015 info) (subst (λ (x : Kind). Nth (kindsOf Edition2015 info) i x) (was-unfit (w .0) (w .2)) (w .1)))
   none-in-2009 (pid-seen {k = k} h e e′ p) = none 3 k (pid-seen h e e′ p)
-  none-in-2009 (length-wrong {k} {info = info} s {i} d) =
-      let w = nth-of-map kindIn2009 (kindsOf Edition2015 info) (subst (λ (l : List Kind). Nth l i wrong-length) (kinds-alike (plain-at s)) d) in
+  none-in-2009 (length-wrong {k} {info = info} s ds {i} d) =
+      let w = nth-of-map kindIn2009 (kindsOf Edition2015 info)
+      (subst (λ (l : List Kind). Nth l i wrong-length) (descriptors-only Edition2009 ds ∙ kinds-alike (plain-at s)) d) in
       none 4 k
-      (length-wrong (known-too s) (subst (λ (x : Kind). Nth (kindsOf Edition2015 info) i x) (is-wrong-length (w .0) (was-wrong (w .0) (w .2))) (w .1)))
-  none-in-2009 (two-records {k} {info = info} s h) =
-      let as-many = ap length (held-alike (plain-at s)) ∙ length-map (gather heldIn (kindsOf Edition2015 info)) heldIn2009 in
+      (length-wrong (known-too s) (descriptors-meant Edition2015 info) (subst (λ (x : Kind). Nth (kindsOf Edition2015 info) i x) (is-wrong-length (w .0) (was-wrong (w .0) (w .2))) (w .1)))
+  none-in-2009 (two-records {k} {info = info} s ds h) =
+      let as-many = ap (λ (ks : List Kind). length (gather heldIn ks)) (descriptors-only Edition2009 ds) ∙ ap length (held-alike (plain-at s)) ∙ length-map (gather heldIn (kindsOf Edition2015 info)) heldIn2009 in
       let few = plain-at s .one-record in
       absurd (omega arith)
   none-in-2009 (type-wrong {k} {t} l w) =
@@ -187,7 +211,7 @@ module _ (items : List Item) (none : (n k : ℕ) → Condition Edition2015 items
       (embedded-refused (v .was) (padTo 63 noLayer layers) (subst (λ (x : Record). WrongEmbedded x (padTo 63 noLayer layers)) (sym (v .same)) w)))
   none-in-2009 (embedded-many {k} l w) =
       let v = later l in
-      none 10 k (embedded-many (v .layer) (many-refused (v .was) (subst TooManyEmbedded (sym (v .same)) w)))
+      none 10 k (embedded-many (v .layer) (many-refused (v .was) (subst (TooManyEmbedded mostEmbedded) (sym (v .same)) w)))
 
   -- THE SAME ENTRIES, but for what Records says.
   entry-alike : {k : ℕ} (x : Item) → Nth items k x → entryOf (streamOf Edition2009 x) ≡ entryIn2009 (entryOf (streamOf Edition2015 x))
@@ -251,10 +275,10 @@ module _ (bytes : List ℕ) (is-accepted : IsAccepted Edition2015 bytes) where
     items : List Item
     in-2015 : loopRead Edition2015 bytes ≡ accepted (map (streamOf Edition2015) items)
     in-2009 : loopRead Edition2009 bytes ≡ accepted (map (streamOf Edition2009) items)
-    none : (n k : ℕ) → Condition Edition2015 items n k → ⊥
+    none : (n k : ℕ) → Condition Edition2015 items mostEmbedded n k → ⊥
 
   both : Both
-  both = go (answer-meant Edition2015 bytes) is-accepted
+  both = go (answer-meant mostEmbedded Edition2015 bytes) is-accepted
     where
       go : {read : LoopRead} → Answers Edition2015 bytes read → read .outcome ≡ Accepted → Both
       go (too-long h) e = let z : _≡_ {A = ℕ} 0 1 = cc in absurd (omega arith)
@@ -262,8 +286,8 @@ module _ (bytes : List ℕ) (is-accepted : IsAccepted Edition2015 bytes) where
       go (accepts {entries} short c none) e =
           record {
             items = entries;
-            in-2015 = sym (answer-only Edition2015 bytes (accepts short c none));
-            in-2009 = sym (answer-only Edition2009 bytes (accepts short c (λ n k. none-in-2009 entries none)));
+            in-2015 = sym (answer-only mostEmbedded Edition2015 bytes (accepts short c none));
+            in-2009 = sym (answer-only mostEmbedded Edition2009 bytes (accepts short c (λ n k. none-in-2009 entries none)));
             none = none;
           }
 

@@ -27,9 +27,9 @@ use Rattle.es_loop.specs.declared.entries.Entry.{Entry}
 use Rattle.closure.specs.Closures.{isLayer}
 use Rattle.loop_layers.specs.Layers.{embeddedIn, layersOf}
 use Rattle.loop_layers.specs.Meaning.{LayerAt, LayerOf, HasLayer}
-use Rattle.loop_layers.specs.Columns.{column-meant}
-use Rattle.loop_layers.specs.Meant.{layers-meant}
-use Rattle.loop_layers.specs.Accepted.{every-layer}
+use Rattle.loop_layers.proofs.Columns.{column-meant}
+use Rattle.loop_layers.proofs.Meant.{layers-meant}
+use Rattle.loop_layers.proofs.Accepted.{every-layer}
 use Rattle.agreement.specs.Meaning.{StreamType2009, avc, svc, mvc}
 use Rattle.agreement.specs.Records.{recordIn2009, withRecord, entryIn2009}
 use Rattle.agreement.specs.Looking.{isExtension}

@@ -29,7 +29,7 @@ use Rattle.loop_layers.specs.Closures.{loopClosure}
 use Rattle.loop_layers.proofs.closure_of_loop.Kinds as closure-of-loop-kinds
 use Rattle.loop_layers.proofs.closure_of_loop.Reads as closure-of-loop
 use Rattle.loop_layers.specs.Meaning as LoopTarget
-use Rattle.loop_layers.specs.Meant as loop-target
+use Rattle.loop_layers.proofs.Meant as loop-target
 use Rattle.pes_reader.specs.declared.Answer.{Answer}
 use Rattle.pes_reader.specs.declared.Answer.the-variants as Answer
 use Rattle.pes_reader.specs.Reading.{readOf}

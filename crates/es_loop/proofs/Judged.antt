@@ -10,13 +10,15 @@ use lib.Dec.{ltb}
 use lib.ListN.{length}
 use Rattle.combinators.specs.Lowest.{Lowest, lowestNumber, earliestPlace, lowest-number, earliest-place, lowest-is}
 use Rattle.vocabulary.specs.declared.stream_types.Reading.{Reading}
+use Rattle.vocabulary.specs.declared.refusal.Refusal.{Refusal}
 use Rattle.vocabulary.specs.declared.refusal.Refusal.the-variants.{LoopTooLong}
 use Rattle.es_loop.specs.declared.entries.Stream.{Stream}
 use Rattle.es_loop.specs.declared.verdict.Verdict.{Verdict}
 use Rattle.es_loop.specs.declared.verdict.Verdict.the-variants.{Entries, Refused as Refuses}
 use Rattle.es_loop.specs.Entries.{streamsOf}
 use Rattle.es_loop.specs.Conditions.{applies, refusalOf}
-use Rattle.es_loop.specs.Reading.{verdictAt, judged, verdictUpTo}
+use Rattle.es_loop.specs.declared.reader.Outcome.the-variants.{Accepted, Refused as OutcomeRefused}
+use Rattle.es_loop.specs.Reading.{verdictAt, judged, verdictUpTo, answerBy, readUpTo, accepted as accepted-read}
 
 module _ (most : ℕ) (streams : List Stream) where
   -- the verdict, given the lowest number and its place
@@ -80,3 +82,21 @@ module _ (most : ℕ) (reading : Reading) (bytes : List ℕ) where
       go false p =
           subst Holds (sym (ap By p) ∙ e)
           (accepted (judged most (streamsOf reading bytes)) (ltb-false 1008 (length bytes) p) (accepting most (streamsOf reading bytes)))
+
+  -- a loop that is accepted: every entry is answered, and no number applies at any
+  pub record Taken : Type 0 where
+    pub short : length bytes ≤ 1008
+    pub is-read : readUpTo most reading bytes ≡ accepted-read (streamsOf reading bytes)
+    pub none : (n k : ℕ) → n < 11 → k < length (streamsOf reading bytes) → applies most (streamsOf reading bytes) n k ≡ false
+
+  pub taken : (readUpTo most reading bytes) .outcome ≡ Accepted → Taken
+  taken is-accepted = go (verdictUpTo most reading bytes) refl is-accepted
+    where
+      never : {r : Refusal} → OutcomeRefused r ≡ Accepted → Taken
+      never e = let z : _≡_ {A = ℕ} 0 1 = cc in absurd (omega arith)
+
+      go : (v : Verdict) → verdictUpTo most reading bytes ≡ v → (answerBy (streamsOf reading bytes) v) .outcome ≡ Accepted → Taken
+      go (Refuses r) e o = never o
+      go (Entries count) e o =
+          let s = sound count e in
+          record { short = s .short; is-read = ap (answerBy (streamsOf reading bytes)) e; none = s .none }

@@ -1,1 +1,4 @@
 pub mod Pass
+pub mod Columns
+pub mod Meant
+pub mod Accepted

@@ -15,7 +15,7 @@ use Rattle.descriptors.proofs.Naming.{indices-last}
 use Rattle.vocabulary.specs.declared.HierarchyChannel.{HierarchyChannel}
 use Rattle.es_loop.specs.declared.entries.Entry.{Entry}
 use Rattle.loop_layers.specs.declared.LayerTable.{LayerTable}
-use Rattle.loop_layers.specs.Columns.{column-length}
+use Rattle.loop_layers.proofs.Columns.{column-length}
 use Rattle.loop_layers.specs.Layers.{placeOf, presentIn, columnWith, columnOf, embeddedIn, tableOf}
 
 present-last : (l : List Entry) (e : Entry) → presentIn (l ++ e ∷ []) ≡ added (presentIn l) (placeOf e)

@@ -41,6 +41,7 @@ use Rattle.es_loop.specs.declared.reader.Outcome.the-variants.{Accepted}
 use Rattle.es_loop.specs.declared.reader.LoopRead.{LoopRead}
 use Rattle.es_loop.specs.Conditions.{streamAt, applies, refusalOf}
 use Rattle.es_loop.specs.Reading.{refusedWith, accepted, loopRead}
+use Rattle.es_loop.proofs.Judged.{Taken, taken}
 use Rattle.judging.specs.Judging.{mostEmbedded}
 use Rattle.descriptors.proofs.Meant.{by-tag}
 use Rattle.es_loop.specs.Entries.{entryHead, streamType, elementaryPid, esInfoLength, seenIn, streamOf, streamsOf, noStream, entryOf, blankEntry}
@@ -341,34 +342,6 @@ least-size (e ∷ es) = omega (arith, least-size es, length-append (entryBytes e
 
 -- ---- REWRITING
 
--- what is known of a loop that the reader accepts
-record Taken (loop : List ℕ) : Type 0 where
-  short : length loop ≤ 1008
-  answered : loopRead Edition2015 loop ≡ accepted (streamsOf Edition2015 loop)
-  none-applies : (n k : ℕ) → n < 11 → k < length (streamsOf Edition2015 loop) → applies mostEmbedded (streamsOf Edition2015 loop) n k ≡ false
-
-taken : (loop : List ℕ) → (loopRead Edition2015 loop) .outcome ≡ Accepted → Taken loop
-taken loop ok = go (ltb 1008 (length loop)) refl (ltb lowest 11) refl
-  where
-    streams : List Stream
-    streams = streamsOf Edition2015 loop
-
-    lowest : ℕ
-    lowest = lowestNumber (applies mostEmbedded streams) 11 (length streams)
-
-    refused : (r : Refusal) → loopRead Edition2015 loop ≡ refusedWith r → Taken loop
-    refused r e = let z : _≡_ {A = ℕ} 0 1 = cc (ap (λ (x : LoopRead). x .outcome) e) in absurd (omega arith)
-
-    go : (a : Bool) → ltb 1008 (length loop) ≡ a → (b : Bool) → ltb lowest 11 ≡ b → Taken loop
-    go true p b q = refused LoopTooLong (rw p)
-    go false p true q = refused (refusalOf lowest (earliestPlace (applies mostEmbedded streams) lowest (length streams))) (rw (p, q))
-    go false p false q =
-        record {
-          short = ltb-false 1008 (length loop) p;
-          answered = rw (p, q);
-          none-applies = λ n k h l. (lowest-is (applies mostEmbedded streams) 11 (length streams)) .lower n k (omega (arith, ltb-false lowest 11 q)) l;
-        }
-
 module _ (loop : List ℕ) (b : AreBytes loop) (own : OwnShape loop) (ok : (loopRead Edition2015 loop) .outcome ≡ Accepted) where
   abbrev items : List Item
   items = cut 5 esInfoLength loop
@@ -376,15 +349,15 @@ module _ (loop : List ℕ) (b : AreBytes loop) (own : OwnShape loop) (ok : (loop
   abbrev streams : List Stream
   streams = streamsOf Edition2015 loop
 
-  known-taken : Taken loop
-  known-taken = taken loop ok
+  known-taken : Taken mostEmbedded Edition2015 loop
+  known-taken = taken mostEmbedded Edition2015 loop ok
 
   fine : (k : ℕ) (i : Item) → Nth items k i → Fine i
   fine k i n =
       let inside : k < length streams = rw (length-map items (streamOf Edition2015)) (nth-inside n) in
       let at : streamAt streams k ≡ streamOf Edition2015 i = getD-map (streamOf Edition2015) noStream n in (
-        sym (ap (λ (s : Stream). s .seen .«wrong_length») at) ∙ known-taken .none-applies 4 k (omega arith) inside,
-        sym (ap (λ (s : Stream). s .seen .«second_record») at) ∙ known-taken .none-applies 5 k (omega arith) inside,
+        sym (ap (λ (s : Stream). s .seen .«wrong_length») at) ∙ known-taken .none 4 k (omega arith) inside,
+        sym (ap (λ (s : Stream). s .seen .«second_record») at) ∙ known-taken .none 5 k (omega arith) inside,
       )
 
   back : LoopBack (map entryOf streams) loop
@@ -439,4 +412,4 @@ module _ (loop : List ℕ) (b : AreBytes loop) (own : OwnShape loop) (ok : (loop
         (answer room (read .count) (read .entries) ≡ Bytes (length loop)) × (loopBytes (take (read .count) (read .entries)) ≡ loop)
     rewrite =
         subst (λ (x : LoopRead). (answer room (x .count) (x .entries) ≡ Bytes (length loop)) × (loopBytes (take (x .count) (x .entries)) ≡ loop))
-        (sym (known-taken .answered)) (same-size (answer room (length streams) array) refl, same-bytes)
+        (sym (known-taken .is-read)) (same-size (answer room (length streams) array) refl, same-bytes)

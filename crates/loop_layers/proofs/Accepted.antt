@@ -26,18 +26,19 @@ use Rattle.descriptors.specs.Extension.{extensionOf, embeddedOf}
 use Rattle.descriptors.specs.Looking.{Kind, does-not-fit, skipped, wrong-length, hierarchy, extension, tag4Kind, tag63Kind, kindOf, Held, heldIn, firstRecord, seenOf, nothingSeen}
 use Rattle.descriptors.specs.Head.{descriptorTag, descriptorLength}
 use Rattle.descriptors.specs.Records.{indexOf, named}
-use Rattle.judging.specs.Judging.{sameIndex, wrongAt, wrongEmbedded}
+use Rattle.judging.specs.Judging.{mostEmbedded, sameIndex, wrongAt, wrongEmbedded}
 use Rattle.es_loop.specs.declared.entries.Entry.{Entry}
 use Rattle.es_loop.specs.declared.entries.Stream.{Stream}
-use Rattle.es_loop.specs.declared.reader.Outcome.the-variants.{Accepted, Refused}
+use Rattle.es_loop.specs.declared.reader.Outcome.the-variants.{Accepted}
 use Rattle.es_loop.specs.Entries.{streamType, esInfoLength, noStream, streamOf, streamsOf, entryOf}
-use Rattle.es_loop.specs.Conditions.{streamAt, recordAt, applies, refusalOf}
-use Rattle.es_loop.specs.Reading.{refusedWith, accepted, judged, loopRead}
+use Rattle.es_loop.specs.Conditions.{streamAt, recordAt}
+use Rattle.es_loop.specs.Reading.{loopRead}
+use Rattle.es_loop.proofs.Judged.{Taken, taken}
 use Rattle.closure.specs.Meaning.{Names}
 use Rattle.loop_layers.specs.Layers.{layersOf}
 use Rattle.loop_layers.specs.Closures.{entriesRead}
 use Rattle.loop_layers.specs.Meaning.{LayerAt, LayerOf}
-use Rattle.loop_layers.specs.Meant.{layers-meant, entries-read}
+use Rattle.loop_layers.proofs.Meant.{layers-meant, entries-read}
 
 -- ---- a layer index that was read has six bits
 
@@ -94,38 +95,6 @@ stream-index reading (whole head info) = go (known reading (streamType head))
 
 -- ---- an accepted loop: no number applies at any entry
 
-never : {A : Type 0} {refusal : Refusal} → Refused refusal ≡ Accepted → A
-never e = let z : _≡_ {A = ℕ} 0 1 = cc in absurd (omega arith)
-
-record NoFault (reading : Reading) (bytes : List ℕ) : Type 0 where
-  is-read : loopRead reading bytes ≡ accepted (streamsOf reading bytes)
-  none : (n k : ℕ) → n < 11 → k < length (streamsOf reading bytes) → applies (streamsOf reading bytes) n k ≡ false
-
-no-fault : (reading : Reading) (bytes : List ℕ) → (loopRead reading bytes) .outcome ≡ Accepted → NoFault reading bytes
-no-fault reading bytes is-accepted = by-length (ltb 1008 (length bytes)) refl is-accepted
-  where
-    all : List Stream
-    all = streamsOf reading bytes
-
-    number : ℕ
-    number = lowestNumber (applies all) 11 (length all)
-
-    place : ℕ
-    place = earliestPlace (applies all) number (length all)
-
-    by-number : (b : Bool) → ltb number 11 ≡ b → (cond b (refusedWith (refusalOf number place)) (accepted all)) .outcome ≡ Accepted
-        → loopRead reading bytes ≡ judged all → NoFault reading bytes
-    by-number true p o e = never o
-    by-number false p o e =
-        record {
-          is-read = e ∙ ap (λ (b : Bool). cond b (refusedWith (refusalOf number place)) (accepted all)) p;
-          none = λ n k h l. lowest-is (applies all) 11 (length all) .lower n k (omega (arith, ltb-false number 11 p)) l;
-        }
-
-    by-length : (b : Bool) → ltb 1008 (length bytes) ≡ b → (cond b (refusedWith LoopTooLong) (judged all)) .outcome ≡ Accepted → NoFault reading bytes
-    by-length true p o = never o
-    by-length false p o = by-number (ltb number 11) refl o (ap (λ (b : Bool). cond b (refusedWith LoopTooLong) (judged all)) p)
-
 module _ (reading : Reading) (bytes : List ℕ) (is-accepted : (loopRead reading bytes) .outcome ≡ Accepted) where
   abbrev pub entries : List Entry
   entries = entriesRead (loopRead reading bytes)
@@ -133,8 +102,8 @@ module _ (reading : Reading) (bytes : List ℕ) (is-accepted : (loopRead reading
   abbrev streams : List Stream
   streams = streamsOf reading bytes
 
-  fine : NoFault reading bytes
-  fine = no-fault reading bytes is-accepted
+  fine : Taken mostEmbedded reading bytes
+  fine = taken mostEmbedded reading bytes is-accepted
 
   are-entries : entries ≡ map entryOf streams
   are-entries = ap entriesRead (fine .is-read) ∙ entries-read streams
