@@ -3,6 +3,10 @@ pub mod Shown
 pub mod Readers
 pub mod Writers
 pub mod Joiners
+pub mod Told
+pub mod ToldShown
+pub mod ForC
+pub mod ForCShown
 pub mod Demand1
 pub mod Demand2
 pub mod Demand3
