@@ -24,7 +24,7 @@ use Rattle.pes_writer.specs.declared.Written.{Written as TimesWritten}
 use Rattle.pes_writer.specs.declared.Written.the-variants as TimesWritten
 use Rattle.joining.specs.declared.answer.Joined.{Joined}
 use Rattle.joining.specs.declared.answer.Joined.the-variants as Joined
-use Rattle.joining.specs.Table.{Table, table}
+use Rattle.rows.specs.Table.{Table, table}
 use Rattle.entry_rows.specs.Rows.{rowsOf, someTooWide, rowCount, entriesIn}
 use Rattle.thoquenry.specs.Joins.{layersGiven}
 use Rattle.thoquenry.proofs.thq_read_loop.Kinds as read-loop-kinds

@@ -14,17 +14,17 @@ use Rattle.vocabulary.specs.declared.stream_types.Reading.{Reading}
 use Rattle.closure.specs.declared.Layers.{Layers}
 use Rattle.joining.specs.declared.answer.Joined.{Joined}
 use Rattle.joining.specs.declared.answer.Joined.the-variants as Joined
-use Rattle.joining.specs.Table.{Table, table}
+use Rattle.rows.specs.Table.{Table, table}
 use Rattle.joining.specs.Joining.{joinedOf, numbersAfter, lagsAfter}
 use Rattle.joining.proofs.join.Kinds as join-kinds
 use Rattle.joining.proofs.join.Reads as join
 use Rattle.joining.specs.Meaning as Joining
-use Rattle.joining.specs.Laws as joining
+use Rattle.joining.proofs.Meant as joining
 use Rattle.importing.specs.Importing.{importOf, importedNumbers, importedLags}
 use Rattle.importing.proofs.import.Kinds as import-kinds
 use Rattle.importing.proofs.import.Reads as import-reads
 use Rattle.importing.specs.Meaning as Import
-use Rattle.importing.specs.Meant as import
+use Rattle.importing.proofs.Meant as import
 use Rattle.demands.specs.Calls.{Run, Call, isListed, Promised}
 use Rattle.demands.specs.Shown.{Computed, promised, listed-first, listed-second, not-refused}
 use Rattle.demands.specs.Readers.{readLoop, closureOfTarget, read-listed, target-listed}
@@ -134,14 +134,14 @@ rowsJoinedComputed =
       asks-nothing = λ run. tt;
       ensured = λ run e. equals rowsJoiner (joinRows .given run) (record { is-answer = e .0; is-numbers = e .1 .0; is-lags = e .1 .1 });
       right = right;
-      nothing-else = λ given means. (let c = joining.nothing-else (given .layers) (given .target) (given .rows) (given .lists .numbers) (given .lists .lags) means in
+      nothing-else = λ given means. (let c = joining.joined-only (given .layers) (given .target) (given .rows) (given .lists .numbers) (given .lists .lags) means in
           equals rowsJoiner given (record { is-answer = c .is-answer; is-numbers = c .is-numbers; is-lags = c .is-lags }));
       listed = λ given. joining-listed (right given);
       untouched = λ given. kept rowsJoiner given (record { numbers-kept = λ r. refl; lags-kept = λ r. refl }) (rowsJoiner .joined given);
     }
   where
     right : (given : RowsGiven) → joinRows .Means given (rowsJoiner .joined given) (after rowsJoiner given (rowsJoiner .joined given))
-    right given = joining.meets (given .layers) (given .target) (given .rows) (given .lists .numbers) (given .lists .lags)
+    right given = joining.joined-meant (given .layers) (given .target) (given .rows) (given .lists .numbers) (given .lists .lags)
 
 pub rows-joined : Promised joinRows
 rows-joined = promised rowsJoinedComputed
