@@ -1,8 +1,3 @@
-pub mod Calls
-pub mod Shown
-pub mod Readers
-pub mod Writers
-pub mod Joiners
 pub mod Told
 pub mod ToldShown
 pub mod ForC

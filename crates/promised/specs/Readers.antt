@@ -36,8 +36,8 @@ use Rattle.pes_reader.proofs.read.Kinds as read-times-kinds
 use Rattle.pes_reader.proofs.read.Reads as read-times
 use Rattle.pes_reader.specs.Meaning as Times
 use Rattle.pes_reader.specs.MeaningLaws as times
-use Rattle.demands.specs.Calls.{Run, Call, isListed, Promised}
-use Rattle.demands.specs.Shown.{Computed, promised, listed-first}
+use Rattle.promised.specs.Calls.{Run, Call, isListed, Promised}
+use Rattle.promised.specs.Shown.{Computed, promised, listed-first}
 
 -- ---- `es_loop::read_loop`: 'Loop reading uses 1 to 10'
 

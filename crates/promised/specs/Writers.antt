@@ -24,8 +24,8 @@ use Rattle.pes_writer.proofs.write.Kinds as write-times-kinds
 use Rattle.pes_writer.proofs.write.Reads as write-times
 use Rattle.pes_writer.specs.OwnShape as Times
 use Rattle.pes_writer.specs.OwnShapeLaws as times
-use Rattle.demands.specs.Calls.{Run, Call, isListed, Promised}
-use Rattle.demands.specs.Shown.{Computed, promised, not-refused}
+use Rattle.promised.specs.Calls.{Run, Call, isListed, Promised}
+use Rattle.promised.specs.Shown.{Computed, promised, not-refused}
 
 -- ---- `loop_writer::write_loop`: 'The loop writer .. uses 1, 3, 6 to 10 .., 17, 25'
 

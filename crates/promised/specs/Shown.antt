@@ -7,7 +7,7 @@ use mathlib.Core.Option.{Option, none, some, Option·some-ne-none}
 use mathlib.Core.Path.{_≡_, refl, sym, _∙_, ap, subst₂}
 use Rattle.combinators.specs.Bools.{either-left, either-right}
 use Rattle.combinators.specs.Members.{member, member-append}
-use Rattle.demands.specs.Calls.{Call, isListed, Promised}
+use Rattle.promised.specs.Calls.{Call, isListed, Promised}
 
 -- By a definition that computes the answer, and one for the buffers, which are the function's by its contract.
 pub record Computed (call : Call) (answerTo : call .Given → call .Answer) (leftBy : call .Given → call .Buffers) : Type 0 where

@@ -25,9 +25,9 @@ use Rattle.importing.proofs.import.Kinds as import-kinds
 use Rattle.importing.proofs.import.Reads as import-reads
 use Rattle.importing.specs.Meaning as Import
 use Rattle.importing.proofs.Meant as import
-use Rattle.demands.specs.Calls.{Run, Call, isListed, Promised}
-use Rattle.demands.specs.Shown.{Computed, promised, listed-first, listed-second, not-refused}
-use Rattle.demands.specs.Readers.{readLoop, closureOfTarget, read-listed, target-listed}
+use Rattle.promised.specs.Calls.{Run, Call, isListed, Promised}
+use Rattle.promised.specs.Shown.{Computed, promised, listed-first, listed-second, not-refused}
+use Rattle.promised.specs.Readers.{readLoop, closureOfTarget, read-listed, target-listed}
 
 -- the two output lists: row numbers, and a lag beside each
 pub record Lists : Type 0 where
