@@ -36,14 +36,14 @@ pub record RecordsPinned : Type 0 where
   pub others-name-one : (named (Hierarchy (ofType 1)) beside ≡ 30 ∷ []) × (named (Hierarchy (ofType 8)) beside ≡ 30 ∷ [])
       × (named (Hierarchy (ofType 9)) beside ≡ 30 ∷ []) × (named (Hierarchy (ofType 14)) beside ≡ 30 ∷ [])
   pub extension-names-as-many-as-it-counts : named (Extension (record {
-        «dimension_bits» = 1000;
-        «layer_index» = record { 0 = 40 };
-        «temporal_id» = record { 0 = 6 };
-        «nuh_layer_id» = record { 0 = 50 };
-        «tref_present_flag» = true;
-        «num_embedded_layers» = 2;
-        channel = record { 0 = 20 };
-      })) beside ≡ 7 ∷ 3 ∷ []
+    «dimension_bits» = 1000;
+    «layer_index» = record { 0 = 40 };
+    «temporal_id» = record { 0 = 6 };
+    «nuh_layer_id» = record { 0 = 50 };
+    «tref_present_flag» = true;
+    «num_embedded_layers» = 2;
+    channel = record { 0 = 20 };
+  })) beside ≡ 7 ∷ 3 ∷ []
   pub index : indexOf (Hierarchy (ofType 15)) ≡ 40
 
 pub records-pinned : RecordsPinned
