@@ -22,6 +22,7 @@ use Rattle.loop_layers.specs.Closures.{loopClosure}
 use Rattle.loop_writer.specs.declared.Written.{Written}
 use Rattle.loop_writer.specs.declared.Written.the-variants as Written
 use Rattle.loop_writer.specs.Writing.{answer, content}
+use Rattle.record_pins.specs.Records.{hierarchyPayload, hierarchy, extensionPayload, extension}
 use Rattle.listing.specs.Lines.{members, layerLine, lineAt, layersText, acceptedText, loopText}
 
 pub record Case : Type 0 where
@@ -101,10 +102,10 @@ abbrev pub distinct : List ℕ
 distinct =
     -- AVC, PID 298: type 15, index 7, TREF, embedded index 63, which names nothing, channel 21
     (0x1B ∷ 0xE1 ∷ 0x2A ∷ 0xF0 ∷ 0x06 ∷ 0x04 ∷ 0x04 ∷ 0xFF ∷ 0xC7 ∷ 0xFF ∷ 0xD5 ∷ [])
-    -- SVC, PID 300: enhances spatially, type 1, index 9, no TREF, on layer 7, channel 42
-    ++ (0x1F ∷ 0xE1 ∷ 0x2C ∷ 0xF0 ∷ 0x06 ∷ 0x04 ∷ 0x04 ∷ 0xD1 ∷ 0xC9 ∷ 0x47 ∷ 0xEA ∷ [])
-    -- HEVC, PID 301: dimension bits 0xABCD, index 12, temporal_id 6, nuh_layer_id 33, TREF, channel 47, on layers 9 and 7
-    ++ (0x29 ∷ 0xE1 ∷ 0x2D ∷ 0xF0 ∷ 0x0B ∷ 0x3F ∷ 0x09 ∷ 0x06 ∷ 0xAB ∷ 0xCD ∷ 0x33 ∷ 0x43 ∷ 0xC2 ∷ 0xEF ∷ 0xC9 ∷ 0xC7 ∷ [])
+    -- SVC, PID 300, on layer 7
+    ++ (0x1F ∷ 0xE1 ∷ 0x2C ∷ 0xF0 ∷ 0x06 ∷ 0x04 ∷ 0x04 ∷ []) ++ hierarchyPayload
+    -- HEVC, PID 301, on layers 9 and 7
+    ++ (0x29 ∷ 0xE1 ∷ 0x2D ∷ 0xF0 ∷ 0x0B ∷ 0x3F ∷ 0x09 ∷ []) ++ extensionPayload
 
 abbrev pub distinctEntries : List Entry
 distinctEntries =
@@ -127,31 +128,13 @@ distinctEntries =
     ∷ record {
       «stream_type» = 31;
       pid = 300;
-      «record» = Hierarchy (record {
-        «no_view» = true;
-        «no_temporal» = true;
-        «no_spatial» = false;
-        «no_quality» = true;
-        «hierarchy_type» = 1;
-        «layer_index» = record { 0 = 9 };
-        «tref_present_flag» = false;
-        «embedded_layer_index» = record { 0 = 7 };
-        channel = record { 0 = 42 };
-      });
+      «record» = Hierarchy hierarchy;
       embedded = replicate 63 (record { 0 = 0 });
     }
     ∷ record {
       «stream_type» = 41;
       pid = 301;
-      «record» = Extension (record {
-        «dimension_bits» = 0xABCD;
-        «layer_index» = record { 0 = 12 };
-        «temporal_id» = record { 0 = 6 };
-        «nuh_layer_id» = record { 0 = 33 };
-        «tref_present_flag» = true;
-        «num_embedded_layers» = 2;
-        channel = record { 0 = 47 };
-      });
+      «record» = Extension extension;
       embedded = padTo 63 (record { 0 = 0 }) (record { 0 = 9 } ∷ record { 0 = 7 } ∷ []);
     }
     ∷ []
