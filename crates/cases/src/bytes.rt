@@ -1,8 +1,8 @@
-// The bytes of a case, out of its words.
+// Bytes out of words, each after one blank or more: HH, a byte as two hexadecimal digits, or HH*N, that byte N times, N in decimal.
 ghost use Prim.Native.Nat.{_≤_};
-ghost use Rattle.io.specs.Counts.{Counts};
+use super::first_part;
 
-// Room for the bytes of a case, well past the 1,008 that a loop may have. What goes beyond it is not kept.
+// Room for the bytes of a case. What goes beyond it is not kept.
 pub fn empty_room() -> [u8; 2048] {
     [0; 2048]
 }
@@ -17,20 +17,6 @@ pub struct Found {
 enum Word {
     Run { byte: u8, times: usize },
     Unreadable,
-}
-
-// How many bytes stand before the first `mark`, or all of them where there is none.
-pub fn before(mark: u8, text: &[u8]) -> usize
-    ensures { λ r. ⌜ Counts r (now (text .entry)) ⌝ }
-{
-    let mut i = 0;
-    while i < text.len() {
-        if text[i] == mark {
-            return i;
-        }
-        i += 1;
-    }
-    i
 }
 
 // The value of a hexadecimal digit, and 16 of any other character.
@@ -112,7 +98,8 @@ pub fn read_bytes(words: &[u8], room: &mut [u8; 2048]) -> Found
     let mut at = 0;
     while at < words.len() {
         let rest = &words[at..];
-        let size = before(b' ', rest);
+        let word = first_part(b' ', rest);
+        let size = word.size;
         match read_word(&rest[..size]) {
             Word::Run { byte, times } => {
                 count = put(byte, times, count, room);
@@ -124,13 +111,7 @@ pub fn read_bytes(words: &[u8], room: &mut [u8; 2048]) -> Found
                 };
             }
         }
-        if size == rest.len() {
-            return Found {
-                readable: true,
-                count,
-            };
-        }
-        at += size + 1;
+        at += word.step;
     }
     Found {
         readable: true,

@@ -1,10 +1,10 @@
--- `loop_cases::run_of` is safe and ends: a number of more than four digits is left before it can grow too large.
+-- `cases::run_of` is safe and ends: a number of more than four digits is left before it can grow too large.
 -- Assumes nothing.
 use Prim.Native.Nat.{_-_}
 use borrow.Author.Needs.{needs}
 use lib.ListN.{length}
-use Rattle.loop_cases.proofs.text.run_of.Statement.{statement}
-use Rattle.loop_cases.proofs.text.run_of.Tie as tie
+use Rattle.cases.proofs.bytes.run_of.Statement.{statement}
+use Rattle.cases.proofs.bytes.run_of.Tie as tie
 
 abbrev Inv-loop : tie.InvT-loop
 Inv-loop byte decimal times₀ i₀ times i = Unit {0}

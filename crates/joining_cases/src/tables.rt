@@ -2,11 +2,11 @@
 use super::columns::Column;
 use super::columns::empty;
 use super::columns::extended;
-use super::words::Numbers;
-use super::words::before;
-use super::words::is_digit;
-use super::words::number_or;
-use super::words::numbers_of;
+use cases::Numbers;
+use cases::first_part;
+use cases::is_digit;
+use cases::number_or;
+use cases::numbers_of;
 
 // What a line has given so far. `heading` is the first letter of the last word that began with no digit: it says where numbers go.
 pub struct Case {
@@ -168,12 +168,10 @@ pub fn read(line: &[u8]) -> Case {
     let mut at = 0;
     while at < line.len() {
         let rest = &line[at..];
-        let size = before(b' ', rest);
+        let word = first_part(b' ', rest);
+        let size = word.size;
         case = with_word(case, &rest[..size]);
-        if size == rest.len() {
-            return case;
-        }
-        at += size + 1;
+        at += word.step;
     }
     case
 }

@@ -2,8 +2,8 @@
 -- Assumes nothing.
 use Prim.Native.Nat.{_≤_, _-_}
 use borrow.Author.Needs.{needs}
-use Rattle.joining_cases.proofs.cases.embedded_of.Statement.{statement}
-use Rattle.joining_cases.proofs.cases.embedded_of.Tie as tie
+use Rattle.joining_cases.proofs.tables.embedded_of.Statement.{statement}
+use Rattle.joining_cases.proofs.tables.embedded_of.Tie as tie
 
 abbrev Inv-loop : tie.InvT-loop
 Inv-loop numbers set₀ place₀ set place = place ≤ 8

@@ -1,26 +1,11 @@
-// The numbers of a word.
+// Decimal numbers out of a word, at most eight, each parted from the next by one character that is no digit.
 ghost use Prim.Native.Nat.{_≤_};
-ghost use Rattle.io.specs.Counts.{Counts};
 
 // The numbers of a word: `last` is the place of the last one in the list. A `last` above 7 is of a word that has more than eight
 // numbers, or one that is too large.
 pub struct Numbers {
     pub last: usize,
     pub list: [u64; 8],
-}
-
-// How many bytes stand before the first `mark`, or all of them where there is none.
-pub fn before(mark: u8, text: &[u8]) -> usize
-    ensures { λ r. ⌜ Counts r (now (text .entry)) ⌝ }
-{
-    let mut i = 0;
-    while i < text.len() {
-        if text[i] == mark {
-            return i;
-        }
-        i += 1;
-    }
-    i
 }
 
 pub fn is_digit(character: u8) -> bool {

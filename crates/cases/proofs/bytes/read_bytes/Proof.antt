@@ -1,11 +1,11 @@
--- `loop_cases::read_bytes` meets its contract. The loop's invariant: no more is passed than there is, and no more is kept than the
+-- `cases::read_bytes` meets its contract. The loop's invariant: no more is passed than there is, and no more is kept than the
 -- room has.
 -- Assumes nothing.
 use Prim.Native.Nat.{_≤_, _-_}
 use borrow.Author.Needs.{needs}
 use lib.ListN.{length}
-use Rattle.loop_cases.proofs.text.read_bytes.Statement.{statement}
-use Rattle.loop_cases.proofs.text.read_bytes.Tie as tie
+use Rattle.cases.proofs.bytes.read_bytes.Statement.{statement}
+use Rattle.cases.proofs.bytes.read_bytes.Tie as tie
 
 abbrev Inv-loop : tie.InvT-loop
 Inv-loop words room₀ count₀ at₀ room count at = (at ≤ length words) × (count ≤ 2048)
@@ -25,8 +25,8 @@ part-rest-start c = search needs
 part-rest-end : tie.Need-part-rest-end Inv-loop μ-loop
 part-rest-end c = search needs
 
-before-requires : tie.Need-before-requires Inv-loop μ-loop
-before-requires c κs = search needs
+first-part-requires : tie.Need-first-part-requires Inv-loop μ-loop
+first-part-requires c κs = search needs
 
 slice-aggregate-read-word : tie.Need-slice-aggregate-read-word Inv-loop μ-loop
 slice-aggregate-read-word c = search needs
@@ -46,14 +46,8 @@ enum-told c = search needs
 returns : tie.Need-returns Inv-loop μ-loop
 returns c = search needs
 
-returns-2 : tie.Need-returns-2 Inv-loop μ-loop
-returns-2 c = search needs
-
 add-at : tie.Need-add-at Inv-loop μ-loop
 add-at c = search needs
-
-add-at-2 : tie.Need-add-at-2 Inv-loop μ-loop
-add-at-2 c = search needs
 
 loop-less : tie.Need-loop-less Inv-loop μ-loop
 loop-less c = search needs
@@ -61,8 +55,8 @@ loop-less c = search needs
 loop-again : tie.Need-loop-again Inv-loop μ-loop
 loop-again c = search needs
 
-returns-3 : tie.Need-returns-3 Inv-loop μ-loop
-returns-3 c = search needs
+returns-2 : tie.Need-returns-2 Inv-loop μ-loop
+returns-2 c = search needs
 
 pub read-bytes-spec : {M : Type 1} → statement M
 read-bytes-spec =
@@ -74,16 +68,14 @@ read-bytes-spec =
     sub-rest
     part-rest-start
     part-rest-end
-    before-requires
+    first-part-requires
     slice-aggregate-read-word
     read-word-requires
     enum-known-byte
     put-requires
     enum-told
     returns
-    returns-2
     add-at
-    add-at-2
     loop-less
     loop-again
-    returns-3)
+    returns-2)

@@ -1,9 +1,9 @@
--- `loop_cases::put` meets its contract. The loop's invariant: there are never more bytes than the room has.
+-- `cases::put` meets its contract. The loop's invariant: there are never more bytes than the room has.
 -- Assumes nothing.
 use Prim.Native.Nat.{_≤_}
 use borrow.Author.Needs.{needs}
-use Rattle.loop_cases.proofs.text.put.Statement.{statement}
-use Rattle.loop_cases.proofs.text.put.Tie as tie
+use Rattle.cases.proofs.bytes.put.Statement.{statement}
+use Rattle.cases.proofs.bytes.put.Tie as tie
 
 abbrev Inv-loop : tie.InvT-loop
 Inv-loop byte times from room₀ count₀ left₀ room count left = count ≤ 2048

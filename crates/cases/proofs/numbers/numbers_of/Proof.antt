@@ -1,10 +1,10 @@
--- `joining_cases::numbers_of` is safe and ends: the place stays within the word, and what is left of it falls.
+-- `cases::numbers_of` is safe and ends: the place stays within the word, and what is left of it falls.
 -- Assumes nothing.
 use Prim.Native.Nat.{_≤_, _-_}
 use lib.ListN.{length}
 use borrow.Author.Needs.{needs}
-use Rattle.joining_cases.proofs.words.numbers_of.Statement.{statement}
-use Rattle.joining_cases.proofs.words.numbers_of.Tie as tie
+use Rattle.cases.proofs.numbers.numbers_of.Statement.{statement}
+use Rattle.cases.proofs.numbers.numbers_of.Tie as tie
 
 abbrev Inv-loop : tie.InvT-loop
 Inv-loop word numbers₀ i₀ numbers i = i ≤ length word

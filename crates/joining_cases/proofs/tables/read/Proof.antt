@@ -3,8 +3,8 @@
 use Prim.Native.Nat.{_≤_, _-_}
 use lib.ListN.{length}
 use borrow.Author.Needs.{needs}
-use Rattle.joining_cases.proofs.cases.read.Statement.{statement}
-use Rattle.joining_cases.proofs.cases.read.Tie as tie
+use Rattle.joining_cases.proofs.tables.read.Statement.{statement}
+use Rattle.joining_cases.proofs.tables.read.Tie as tie
 
 abbrev Inv-loop : tie.InvT-loop
 Inv-loop line case₀ at₀ case at = at ≤ length line
@@ -27,8 +27,8 @@ part-rest-start c = search needs
 part-rest-end : tie.Need-part-rest-end Inv-loop μ-loop
 part-rest-end c = search needs
 
-before-requires : tie.Need-before-requires Inv-loop μ-loop
-before-requires c κs = search needs
+first-part-requires : tie.Need-first-part-requires Inv-loop μ-loop
+first-part-requires c κs = search needs
 
 slice-aggregate-with-word : tie.Need-slice-aggregate-with-word Inv-loop μ-loop
 slice-aggregate-with-word c = search needs
@@ -36,14 +36,8 @@ slice-aggregate-with-word c = search needs
 with-word-requires : tie.Need-with-word-requires Inv-loop μ-loop
 with-word-requires c κs = search needs
 
-returns : tie.Need-returns Inv-loop μ-loop
-returns c = search needs
-
 add-at : tie.Need-add-at Inv-loop μ-loop
 add-at c = search needs
-
-add-at-2 : tie.Need-add-at-2 Inv-loop μ-loop
-add-at-2 c = search needs
 
 loop-less : tie.Need-loop-less Inv-loop μ-loop
 loop-less c = search needs
@@ -51,8 +45,8 @@ loop-less c = search needs
 loop-again : tie.Need-loop-again Inv-loop μ-loop
 loop-again c = search needs
 
-returns-2 : tie.Need-returns-2 Inv-loop μ-loop
-returns-2 c = search needs
+returns : tie.Need-returns Inv-loop μ-loop
+returns c = search needs
 
 pub read-spec : {M : Type 1} → statement M
 read-spec =
@@ -65,12 +59,10 @@ read-spec =
     sub-rest
     part-rest-start
     part-rest-end
-    before-requires
+    first-part-requires
     slice-aggregate-with-word
     with-word-requires
-    returns
     add-at
-    add-at-2
     loop-less
     loop-again
-    returns-2)
+    returns)
