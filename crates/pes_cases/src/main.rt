@@ -2,7 +2,6 @@
 // bytes of a header in hexadecimal, or PTS, decoding time, match time and the room of a buffer. The file `stdin` has the cases, and
 // `stdout` what every line has to say; both were worked out by hand from Table 2-21 of H.222.0, source 003 and document 01.
 ghost use Prim.Native.Nat.{_≤_};
-ghost use lib.ListN.{length};
 use cases::number_or;
 use cases::numbers_of;
 use cases::say;
