@@ -23,12 +23,12 @@ use Rattle.es_loop.specs.Meaning as Loop
 use Rattle.es_loop.specs.Meant.{answer-meant, answer-only}
 use Rattle.closure.specs.declared.Layers.{Layers}
 use Rattle.joining.specs.declared.answer.Joined.{Joined}
-use Rattle.joining.specs.Table.{Table}
+use Rattle.rows.specs.Table.{Table}
 use Rattle.loop_layers.specs.Closures.{entriesRead}
 use Rattle.loop_layers.specs.Layers.{layersOf}
 use Rattle.loop_layers.specs.Meant.{layers-meant, layers-only, entries-read, loop-answer-meant, loop-answer-only}
 use Rattle.importing.specs.Importing.{importedNumbers, importedLags}
-use Rattle.importing.specs.Meant.{import-meant, import-only}
+use Rattle.importing.proofs.Meant.{import-meant, import-only}
 use Rattle.agreement.specs.Meaning.{Accepts, Every2009, Otherwise, Answer, Gives, NoSet, no-such-layer, embedded-layer-absent, Refuses2009, Agrees}
 use Rattle.agreement.specs.Records.{entryIn2009}
 use Rattle.agreement.specs.Entries.{IsAccepted, entriesIn, accepted-in-2009, entries-in-2009}

@@ -25,7 +25,7 @@ use Rattle.loop_layers.specs.Closures.{closureFor, loopClosure}
 use Rattle.loop_layers.specs.Layers.{layersOf}
 use Rattle.joining.specs.declared.answer.Joined.{Joined}
 use Rattle.joining.specs.declared.answer.Joined.the-variants.{Refused}
-use Rattle.joining.specs.Table.{Table}
+use Rattle.rows.specs.Table.{Table}
 use Rattle.joining.specs.Joining.{joinedIn, joinedOf, numbersAfter, lagsAfter}
 use Rattle.importing.specs.Importing.{importFor, importOf, importedNumbers, importedLags}
 use Rattle.agreement.specs.Meaning.{Every2009, Otherwise, another-type, no-complete-set, Answer, answerOf, NoSet}

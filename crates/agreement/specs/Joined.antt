@@ -19,13 +19,12 @@ use Rattle.closure.specs.declared.Closure.the-variants.{Complete, Refused as No
 use Rattle.closure.specs.Closures.{closureOf}
 use Rattle.joining.specs.declared.answer.Joined.{Joined}
 use Rattle.joining.specs.declared.answer.Joined.the-variants.{Units, Refused}
-use Rattle.joining.specs.Table.{Table, rowsIn, wrongShape, firstOutOfRange, firstBroken}
-use Rattle.joining.specs.Assemblies.{upperOf, lowerOf, isEdge, edgesOf, membersOf}
-use Rattle.joining.specs.Units.{Frame, frame, rowsBelow, lagsBelow, firstUnpaired, firstShared}
-use Rattle.joining.specs.Frames.{frameOf}
-use Rattle.joining.specs.Writing.{over}
+use Rattle.rows.specs.Table.{Table, rowsIn, wrongShape, firstOutOfRange, firstBroken}
+use Rattle.assembling.specs.Assemblies.{upperOf, lowerOf, isEdge, edgesOf, membersOf}
+use Rattle.joining.specs.Units.{Frame, frame, rowsBelow, lagsBelow, firstUnpaired, firstShared, frameOf}
+use Rattle.buffers.specs.Buffers.{over}
 use Rattle.rows.specs.Verdicts.{verdictOf}
-use Rattle.joining.specs.Cases.{IsOver, units-over, refused, is-over}
+use Rattle.joining.proofs.Cases.{IsOver, units-over, refused, is-over}
 use Rattle.joining.specs.Joining.{unitsJoined, joinedBy, joinedIn, joinedOf, numbersAfter, lagsAfter}
 
 module _ (few all : Layers) (closure : ℕ)

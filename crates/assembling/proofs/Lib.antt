@@ -1,3 +1,4 @@
+pub mod Assembled
 pub mod Placing
 pub mod Searching
 pub mod Assembling

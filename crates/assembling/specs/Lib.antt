@@ -1,3 +1,2 @@
 pub mod Assemblies
 pub mod Index
-pub mod Assembled

@@ -9,7 +9,7 @@
 use Prim.Native.Nat.{ℕ, _≤_}
 use mathlib.Core.List.{List, [], map}
 use mathlib.Core.Logic.{_↔_}
-use mathlib.Core.Path.{_≡_}
+use mathlib.Core.Path.{_≡_, sym}
 use lib.IntN.{ℤ}
 use lib.ListN.{length, take}
 use Rattle.combinators.specs.Padding.{padTo}
@@ -17,9 +17,11 @@ use Rattle.syntax.specs.Table.{AreBytes}
 use Rattle.vocabulary.specs.declared.refusal.Refusal.the-variants.{Unpaired, UsedTwice}
 use Rattle.vocabulary.specs.declared.stream_types.Reading.the-variants.{Edition2015}
 use Rattle.es_loop.specs.declared.entries.Entry.{Entry}
+use Rattle.es_loop.specs.declared.entries.Stream.{Stream}
 use Rattle.es_loop.specs.declared.reader.Outcome.the-variants.{Accepted as LoopAccepted}
-use Rattle.es_loop.specs.Entries.{blankEntry}
-use Rattle.es_loop.specs.Reading.{loopRead}
+use Rattle.es_loop.specs.Entries.{blankEntry, entryOf}
+use Rattle.es_loop.specs.Reading.{loopRead, accepted}
+use Rattle.es_loop.specs.Meaning as LoopMeaning
 use Rattle.loop_writer.specs.declared.Written.the-variants as Loop
 use Rattle.loop_layout.specs.Layout.{loopBytes}
 use Rattle.loop_writer.specs.Writing.{answer}
@@ -35,14 +37,19 @@ use Rattle.pes_writer.specs.OwnShape.{OwnShape as OwnHeader}
 use Rattle.pes.specs.RoundTrips as times
 use Rattle.closure.specs.declared.Layers.{Layers}
 use Rattle.closure.specs.Meaning.{RestsOn}
+use Rattle.loop_layers.specs.Meaning.{LayersOf}
+use Rattle.joining.specs.declared.answer.Joined.{Joined}
 use Rattle.joining.specs.declared.answer.Joined.the-variants.{Units, Refused}
-use Rattle.joining.specs.Table.{Table}
+use Rattle.rows.specs.Table.{Table}
 use Rattle.joining.specs.Joining.{joinedOf}
 use Rattle.joining.specs.Meaning.{FirstRow, NoRow, InOrder, Assembles, NoAssembly, SharesRow, TargetRow, Accepted}
-use Rattle.joining.specs.Laws as joining
+use Rattle.joining.specs.Meaning as Joining
+use Rattle.joining.proofs.Meant as joining
+use Rattle.importing.specs.Meaning as Import
 use Rattle.demands.specs.Calls.{Promised}
 use Rattle.demands.specs.Readers.{readLoop, loop-read, readTimes, times-read}
 use Rattle.demands.specs.Writers.{writeLoop, loop-written, writeTimes, times-written}
+use Rattle.demands.specs.Joiners.{Lists, RowsGiven, joinRows, rows-joined, ImportGiven, importLoop, loop-imported}
 
 -- 'read and written as H.222.0 and its layered-video amendments lay them out': each call's answer has its meaning, and nothing else has; and
 -- the round trips of document 01, 'reading what a writer wrote gives back what was given, and rewriting gives the same bytes for headers
@@ -64,13 +71,19 @@ pub record ReadAndWritten : Type 0 where
   pub times-rewritten : {bytes : List ℕ} {a b c : ℕ} → OwnHeader bytes a b c → (pts decoding matching : ℕ)
       → readOf bytes ≡ Times.Times pts decoding matching → headerOf pts decoding matching ≡ bytes
 
--- THE UNITS of an accepted table: over a closure, a table in range and in order, and no row in two units
-pub record OneUnitEach (layers : Layers) (target : ℕ) (rows : Table) (numbers : List ℕ) (lags : List ℤ) (closure units left : ℕ) : Type 0 where
-  pub numbersAfter : List ℕ
-  pub lagsAfter : List ℤ
+-- THE UNITS of an accepted table, and what the two lists then hold: over a closure, a table in range and in order, and no row in two units
+pub record OneUnitEach (layers : Layers) (target : ℕ) (rows : Table) (before : Lists) (closure units left : ℕ) (after : Lists) : Type 0 where
   pub in-order : InOrder layers target closure rows
   pub in-one-unit : NoRow rows (SharesRow layers target rows)
-  pub accepted : Accepted layers target rows numbers lags units left numbersAfter lagsAfter
+  pub accepted : Accepted layers target rows (before .numbers) (before .lags) units left (after .numbers) (after .lags)
+
+-- the same from the bytes of a loop: in the layers of its entries
+pub record OneUnitEachOfLoop (given : ImportGiven) (closure units left : ℕ) (after : Lists) : Type 0 where
+  pub streams : List Stream
+  pub layers : Layers
+  pub loop-accepted : LoopMeaning.Answers (given .reading) (given .bytes) (accepted streams)
+  pub layers-of-loop : LayersOf (map entryOf streams) layers
+  pub one-unit-each : OneUnitEach layers (given .target) (given .rows) (given .lists) closure units left after
 
 -- 'unpaired exactly when some unit has no such choice': at the first target row that has none
 pub record FirstUnpaired (layers : Layers) (target : ℕ) (rows : Table) (row : ℕ) : Type 0 where
@@ -86,9 +99,13 @@ pub record FirstSharing (layers : Layers) (target : ℕ) (rows : Table) (row : �
   pub first : FirstRow rows (SharesRow layers target rows) row
 
 pub record Joins : Type 0 where
-  pub units : (layers : Layers) (target : ℕ) (rows : Table) (numbers : List ℕ) (lags : List ℤ) (closure units left : ℕ)
-      → (joinedOf layers target rows (length numbers) (length lags) ≡ Units closure units left)
-      ↔ OneUnitEach layers target rows numbers lags closure units left
+  -- answered and written: neither alone is enough
+  pub units : (given : RowsGiven) (closure units left : ℕ) (after : Lists)
+      → ((joinRows .answer given ≡ Units closure units left) × (joinRows .after given ≡ after))
+      ↔ OneUnitEach (given .layers) (given .target) (given .rows) (given .lists) closure units left after
+  pub units-of-loop : (given : ImportGiven) (closure units left : ℕ) (after : Lists)
+      → ((importLoop .answer given ≡ Units closure units left) × (importLoop .after given ≡ after))
+      ↔ OneUnitEachOfLoop given closure units left after
   pub unpaired : (layers : Layers) (target : ℕ) (rows : Table) (numbers : List ℕ) (lags : List ℤ) (row : ℕ)
       → (joinedOf layers target rows (length numbers) (length lags) ≡ Refused (Unpaired row)) ↔ FirstUnpaired layers target rows row
   pub used-twice : (layers : Layers) (target : ℕ) (rows : Table) (numbers : List ℕ) (lags : List ℤ) (row : ℕ)
@@ -101,6 +118,28 @@ pub record Joins : Type 0 where
 pub record Demand-2 : Type 0 where
   pub read-and-written : ReadAndWritten
   pub joins : Joins
+
+-- what the meaning says of units
+one-unit-each : {layers : Layers} {target : ℕ} {rows : Table} {before after : Lists} {closure units left : ℕ}
+    → Joining.Answers layers target rows (before .numbers) (before .lags) (Units closure units left) (after .numbers) (after .lags)
+    → OneUnitEach layers target rows before closure units left after
+one-unit-each (Joining.joined o s a) = record { in-order = o; in-one-unit = s; accepted = a }
+
+units-meant : {given : RowsGiven} {answer : Joined} {lists after : Lists} {closure units left : ℕ} → joinRows .Means given answer lists
+    → answer ≡ Units closure units left → lists ≡ after
+    → OneUnitEach (given .layers) (given .target) (given .rows) (given .lists) closure units left after
+units-meant {given} means is-answer is-after = one-unit-each (rw (is-answer, is-after) at means)
+
+imported-meant : {given : ImportGiven} {answer : Joined} {lists after : Lists} {closure units left : ℕ} → importLoop .Means given answer lists
+    → answer ≡ Units closure units left → lists ≡ after → OneUnitEachOfLoop given closure units left after
+imported-meant {given} means is-answer is-after = go (rw (is-answer, is-after) at means)
+  where
+    go : {closure units left : ℕ} {after : Lists}
+        → Import.Answers (given .reading) (given .bytes) (given .target) (given .rows) (given .lists .numbers) (given .lists .lags)
+        (Units closure units left) (after .numbers) (after .lags)
+        → OneUnitEachOfLoop given closure units left after
+    go (Import.loop-accepted streams {layers} a m j) =
+        record { streams = streams; layers = layers; loop-accepted = a; layers-of-loop = m; one-unit-each = one-unit-each j }
 
 pub demand-2 : Demand-2
 demand-2 =
@@ -116,11 +155,18 @@ demand-2 =
         times-rewritten = λ own pts decoding matching read. times.rewriting-what-was-read own pts decoding matching read;
       };
       joins = record {
-        units = λ layers target rows numbers lags closure units left. (
-          λ e. (let w = joining.given-units layers target rows numbers lags closure units left .0 e in
-              record { numbersAfter = w .0; lagsAfter = w .1; in-order = w .2; in-one-unit = w .3; accepted = w .4 }),
-          λ u. joining.given-units layers target rows numbers lags closure units left .1
-              (u .numbersAfter, u .lagsAfter, u .in-order, u .in-one-unit, u .accepted),
+        units = λ given closure units left after. (
+          λ e. units-meant (rows-joined .right given) (e .0) (e .1),
+          λ u. (let only = rows-joined .nothing-else given {after = after} (Joining.joined (u .in-order) (u .in-one-unit) (u .accepted)) in
+              (sym (only .0), sym (only .1))),
+        );
+        units-of-loop = λ given closure units left after. (
+          λ e. imported-meant (loop-imported .right given) (e .0) (e .1),
+          λ u. (let each = u .one-unit-each in
+              let only = loop-imported .nothing-else given {after = after}
+              (Import.loop-accepted (u .streams) (u .loop-accepted) (u .layers-of-loop)
+              (Joining.joined (each .in-order) (each .in-one-unit) (each .accepted))) in
+              (sym (only .0), sym (only .1))),
         );
         unpaired = λ layers target rows numbers lags row. (
           λ e. (let w = joining.given-15 layers target rows numbers lags row .0 e in record { closure = w .0; in-order = w .1; first = w .2 }),

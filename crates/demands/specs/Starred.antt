@@ -22,8 +22,8 @@ use Rattle.pes_reader.specs.Reading.{readOf}
 use Rattle.pes_writer.specs.Writing.{headerOf, writeOf, bufferOf}
 use Rattle.joining.specs.declared.answer.Joined.{Joined}
 use Rattle.joining.specs.declared.answer.Joined.the-variants.{Units, Refused}
-use Rattle.joining.specs.Table.{Table, table}
-use Rattle.joining.specs.Assemblies.{edgesOf, membersOf}
+use Rattle.rows.specs.Table.{Table, table}
+use Rattle.assembling.specs.Assemblies.{edgesOf, membersOf}
 use Rattle.importing.specs.Importing.{importOf, importedNumbers, importedLags}
 
 -- a question and its answer

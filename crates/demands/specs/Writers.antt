@@ -6,20 +6,26 @@ use mathlib.Core.List.{List, [], _∷_}
 use mathlib.Core.Option.{Option, none, some}
 use mathlib.Core.Path.{_≡_, refl, sym, _∙_, ap}
 use lib.ListN.{length, take}
-use Rattle.vocabulary.specs.declared.refusal.Refusal.{Refusal}
+use denote.Ref.{now}
+use Rattle.vocabulary.specs.Refusals.{numberOf}
 use Rattle.es_loop.specs.declared.entries.Entry.{Entry}
 use Rattle.loop_writer.specs.declared.Written.{Written}
 use Rattle.loop_writer.specs.declared.Written.the-variants as Written
 use Rattle.loop_layout.specs.Layout.{loopBytes}
 use Rattle.loop_writer.specs.Writing.{answer, contentAfter, content}
+use Rattle.loop_writer.proofs.write_loop.Kinds as write-loop-kinds
+use Rattle.loop_writer.proofs.write_loop.Reads as write-loop
 use Rattle.loop_writer.specs.Meaning as Loop
 use Rattle.loop_writer.specs.Meant as loop
 use Rattle.pes_writer.specs.declared.Written.{Written as TimesWritten}
 use Rattle.pes_writer.specs.declared.Written.the-variants as TimesWritten
 use Rattle.pes_writer.specs.Writing.{headerOf, writeOf, bufferOf}
+use Rattle.pes_writer.proofs.write.Kinds as write-times-kinds
+use Rattle.pes_writer.proofs.write.Reads as write-times
 use Rattle.pes_writer.specs.OwnShape as Times
 use Rattle.pes_writer.specs.OwnShapeLaws as times
-use Rattle.demands.specs.Calls.{Call, isListed, Promised, not-refused}
+use Rattle.demands.specs.Calls.{Run, Call, isListed, Promised}
+use Rattle.demands.specs.Shown.{promised, not-refused}
 
 -- ---- `loop_writer::write_loop`: 'The loop writer .. uses 1, 3, 6 to 10 .., 17, 25'
 
@@ -28,9 +34,9 @@ pub record EntriesGiven : Type 0 where
   pub array : List Entry
   pub out : List ℕ
 
-abbrev pub writtenRefusal : Written → Option Refusal
-writtenRefusal (Written.Bytes n) = none
-writtenRefusal (Written.Refused refusal) = some refusal
+abbrev pub writtenNumber : Written → Option ℕ
+writtenNumber (Written.Bytes n) = none
+writtenNumber (Written.Refused refusal) = some (numberOf refusal)
 
 -- the answer, and with it the bytes at the front of the buffer and beyond them what it held; or all that it held
 pub record WritesLoop (given : EntriesGiven) (written : Written) (after : List ℕ) : Type 0 where
@@ -40,19 +46,23 @@ pub record WritesLoop (given : EntriesGiven) (written : Written) (after : List �
 abbrev pub writeLoop : Call
 writeLoop =
     record {
+      Ran = Run 1 write-loop-kinds.ps write-loop-kinds.r;
+      Asks = λ run. write-loop.Pre (run .lifetimes) (run .handed);
+      Ensures = λ run. write-loop.Post (run .lifetimes) (run .handed) (run .answer) (run .left);
       Given = EntriesGiven;
       Answer = Written;
       Buffers = List ℕ;
-      answer = λ given. answer (length (given .out)) (given .count) (given .array);
+      given = λ run. record { count = run .handed .0; array = run .handed .1 .0; out = now (run .handed .1 .1 .0) };
+      answer = λ run. run .answer;
       before = λ given. given .out;
-      after = λ given. content (given .count) (given .array) (given .out);
-      refusalIn = writtenRefusal;
+      after = λ run. now (run .left .1 .1 .0);
+      numberIn = writtenNumber;
       numbers = 1 ∷ 3 ∷ 6 ∷ 7 ∷ 8 ∷ 9 ∷ 10 ∷ 17 ∷ 25 ∷ [];
       Means = WritesLoop;
     }
 
 written-listed : {room count : ℕ} {array : List Entry} {written : Written} → Loop.Answers room count array written
-    → isListed (writeLoop .numbers) (writtenRefusal written) ≡ true
+    → isListed (writeLoop .numbers) (writtenNumber written) ≡ true
 written-listed (Loop.too-wide s) = refl
 written-listed (Loop.too-many a b) = refl
 written-listed (Loop.too-long a b) = refl
@@ -66,20 +76,24 @@ written-listed (Loop.refuses a b c (Loop.embedded-many d e) lower earlier) = ref
 written-listed (Loop.no-room a b c d e) = refl
 written-listed (Loop.accepts a b c d e) = refl
 
-written-untouched : (written : Written) (bytes out : List ℕ) (refusal : Refusal) → writtenRefusal written ≡ some refusal
+written-untouched : (written : Written) (bytes out : List ℕ) (number : ℕ) → writtenNumber written ≡ some number
     → contentAfter written bytes out ≡ out
-written-untouched (Written.Bytes n) bytes out refusal e = not-refused e
-written-untouched (Written.Refused r) bytes out refusal e = refl
+written-untouched (Written.Bytes n) bytes out number e = not-refused e
+written-untouched (Written.Refused r) bytes out number e = refl
 
 pub loop-written : Promised writeLoop
 loop-written =
-    record {
+    promised (record {
+      answerTo = λ given. answer (length (given .out)) (given .count) (given .array);
+      leftBy = λ given. content (given .count) (given .array) (given .out);
+      asks-nothing = λ run. tt;
+      ensured = λ run e. e;
       right = λ given. record { answers = loop.answer-meant (length (given .out)) (given .count) (given .array); holds = refl };
       nothing-else = λ given means. only given means;
       listed = λ given. written-listed (loop.answer-meant (length (given .out)) (given .count) (given .array));
-      untouched = λ given refusal e. written-untouched (answer (length (given .out)) (given .count) (given .array))
-          (loopBytes (take (given .count) (given .array))) (given .out) refusal e;
-    }
+      untouched = λ given number e. written-untouched (answer (length (given .out)) (given .count) (given .array))
+          (loopBytes (take (given .count) (given .array))) (given .out) number e;
+    })
   where
     only : (given : EntriesGiven) {written : Written} {after : List ℕ} → WritesLoop given written after
         → (written ≡ answer (length (given .out)) (given .count) (given .array)) × (after ≡ content (given .count) (given .array) (given .out))
@@ -95,49 +109,61 @@ pub record TimesGiven : Type 0 where
   pub matching : ℕ
   pub out : List ℕ
 
-abbrev pub timesWrittenRefusal : TimesWritten → Option Refusal
-timesWrittenRefusal (TimesWritten.Bytes n) = none
-timesWrittenRefusal (TimesWritten.Refused refusal) = some refusal
+abbrev pub timesWrittenNumber : TimesWritten → Option ℕ
+timesWrittenNumber (TimesWritten.Bytes n) = none
+timesWrittenNumber (TimesWritten.Refused refusal) = some (numberOf refusal)
 
 abbrev pub writeTimes : Call
 writeTimes =
     record {
+      Ran = Run 1 write-times-kinds.ps write-times-kinds.r;
+      Asks = λ run. write-times.Pre (run .lifetimes) (run .handed);
+      Ensures = λ run. write-times.Post (run .lifetimes) (run .handed) (run .answer) (run .left);
       Given = TimesGiven;
       Answer = TimesWritten;
       Buffers = List ℕ;
-      answer = λ given. writeOf (given .pts) (given .decoding) (given .matching) (length (given .out));
+      given = λ run. record { pts = run .handed .0; decoding = run .handed .1 .0; matching = run .handed .1 .1 .0; out = now (run .handed .1 .1 .1 .0) };
+      answer = λ run. run .answer;
       before = λ given. given .out;
-      after = λ given. bufferOf (writeOf (given .pts) (given .decoding) (given .matching) (length (given .out)))
-          (headerOf (given .pts) (given .decoding) (given .matching)) (given .out);
-      refusalIn = timesWrittenRefusal;
+      after = λ run. now (run .left .1 .1 .1 .0);
+      numberIn = timesWrittenNumber;
       numbers = 17 ∷ 24 ∷ 25 ∷ [];
       Means = λ given answer after. Times.Writes (given .pts) (given .decoding) (given .matching) (given .out) answer after;
     }
 
 times-written-listed : {pts decoding matching : ℕ} {out after : List ℕ} {answer : TimesWritten} → Times.Writes pts decoding matching out answer after
-    → isListed (writeTimes .numbers) (timesWrittenRefusal answer) ≡ true
+    → isListed (writeTimes .numbers) (timesWrittenNumber answer) ≡ true
 times-written-listed (Times.too-wide a) = refl
 times-written-listed (Times.no-room a b c) = refl
 times-written-listed (Times.pts-before-dts a b c d) = refl
 times-written-listed (Times.written a b c d) = refl
 
-times-untouched : (written : TimesWritten) (bytes out : List ℕ) (refusal : Refusal) → timesWrittenRefusal written ≡ some refusal
+abbrev timesAnswer : TimesGiven → TimesWritten
+timesAnswer given = writeOf (given .pts) (given .decoding) (given .matching) (length (given .out))
+
+abbrev timesBuffer : TimesGiven → TimesWritten → List ℕ
+timesBuffer given written = bufferOf written (headerOf (given .pts) (given .decoding) (given .matching)) (given .out)
+
+times-untouched : (written : TimesWritten) (bytes out : List ℕ) (number : ℕ) → timesWrittenNumber written ≡ some number
     → bufferOf written bytes out ≡ out
-times-untouched (TimesWritten.Bytes n) bytes out refusal e = not-refused e
-times-untouched (TimesWritten.Refused r) bytes out refusal e = refl
+times-untouched (TimesWritten.Bytes n) bytes out number e = not-refused e
+times-untouched (TimesWritten.Refused r) bytes out number e = refl
 
 pub times-written : Promised writeTimes
 times-written =
-    record {
+    promised (record {
+      answerTo = timesAnswer;
+      leftBy = λ given. timesBuffer given (timesAnswer given);
+      asks-nothing = λ run. tt;
+      ensured = λ run e. (e .0, e .1 ∙ ap (timesBuffer (writeTimes .given run)) (e .0));
       right = λ given. times.writes-is (given .pts) (given .decoding) (given .matching) (given .out);
       nothing-else = λ given means. only given means;
       listed = λ given. times-written-listed (times.writes-is (given .pts) (given .decoding) (given .matching) (given .out));
-      untouched = λ given refusal e. times-untouched (writeOf (given .pts) (given .decoding) (given .matching) (length (given .out)))
-          (headerOf (given .pts) (given .decoding) (given .matching)) (given .out) refusal e;
-    }
+      untouched = λ given number e. times-untouched (timesAnswer given) (headerOf (given .pts) (given .decoding) (given .matching)) (given .out) number e;
+    })
   where
     only : (given : TimesGiven) {written : TimesWritten} {after : List ℕ} → Times.Writes (given .pts) (given .decoding) (given .matching) (given .out) written after
-        → (written ≡ writeTimes .answer given) × (after ≡ writeTimes .after given)
+        → (written ≡ timesAnswer given) × (after ≡ timesBuffer given (timesAnswer given))
     only given means =
         let both = times.writes-only (given .pts) (given .decoding) (given .matching) (given .out) means in
-        (both .0, both .1 ∙ ap (λ (w : TimesWritten). bufferOf w (headerOf (given .pts) (given .decoding) (given .matching)) (given .out)) (both .0))
+        (both .0, both .1 ∙ ap (timesBuffer given) (both .0))

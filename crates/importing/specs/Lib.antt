@@ -1,4 +1,2 @@
 pub mod Importing
 pub mod Meaning
-pub mod Meant
-pub mod Examples

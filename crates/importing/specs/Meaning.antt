@@ -1,6 +1,6 @@
 -- WHAT IS RIGHT, in the words of document 01: the answer of the whole import, and what the two lists hold after it. 'Loop reading uses 1 to 10,
 -- the target 11 and 12, joining 13 to 17 after these.'
--- specs/Meant.antt has the laws that join this to what is computed: the computed answer has this meaning, and no other answer has it.
+-- proofs/Meant.antt has the laws that join this to what is computed: the computed answer has this meaning, and no other answer has it.
 -- Assumes nothing.
 use Prim.Native.Nat.{ℕ}
 use mathlib.Core.List.{List, map}
@@ -15,7 +15,7 @@ use Rattle.closure.specs.declared.Layers.{Layers}
 use Rattle.loop_layers.specs.Meaning.{LayersOf}
 use Rattle.joining.specs.declared.answer.Joined.{Joined}
 use Rattle.joining.specs.declared.answer.Joined.the-variants.{Refused}
-use Rattle.joining.specs.Table.{Table}
+use Rattle.rows.specs.Table.{Table}
 use Rattle.joining.specs.Meaning as Joining
 
 -- THE ANSWER to the bytes of a loop, a target, a row table and two lists, with what the lists hold after it: 'the answer is the closure with

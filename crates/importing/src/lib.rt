@@ -1,9 +1,9 @@
 // The whole import in one call: the loop is read, its layers are taken, and the rows of a table are joined to units over the target's closure.
 // specs/Importing.antt has the answer as a definition that computes, specs/Meaning.antt what is right in the document's words, and
-// specs/Meant.antt the proof that the two are one.
+// proofs/Meant.antt the proof that the two are one.
 ghost use mathlib.Core.Path.{_≡_};
 ghost use lib.ListN.{length};
-ghost use Rattle.joining.specs.Table.{table};
+ghost use Rattle.rows.specs.Table.{table};
 ghost use Rattle.importing.specs.Importing.{importOf, importedNumbers, importedLags};
 use es_loop::Outcome;
 use joining::Joined;

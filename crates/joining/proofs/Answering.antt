@@ -19,13 +19,14 @@ use Rattle.vocabulary.specs.declared.refusal.Refusal.the-variants.{OutOfRange, 
 use Rattle.joining.specs.declared.answer.Joined.{Joined}
 use Rattle.joining.specs.declared.answer.Joined.the-variants.{Units, Refused}
 use Rattle.joining.specs.declared.units.Judged.{Judged}
-use Rattle.joining.specs.Table.{Table, rowsIn, layerOf, wrongShape, firstOutOfRange, firstBroken}
-use Rattle.joining.specs.Units.{Frame, isTarget, unpaired, firstUnpaired, firstShared, unitsIn, rowsBelow, lagsBelow, leftOut, isLeftOut}
+use Rattle.rows.specs.Table.{Table, rowsIn, layerOf, wrongShape, firstOutOfRange, firstBroken}
+use Rattle.joining.specs.Units.{Frame, isTarget, unpaired, firstUnpaired, firstShared, unitsIn, rowsBelow, lagsBelow, leftOut, isLeftOut, frameOf}
 use Rattle.joining.specs.Judging.{Whole, Judges}
-use Rattle.joining.specs.Writing.{over, sets-over, Writable}
-use Rattle.joining.specs.Cases.{is-unpaired as case-unpaired, is-shared as case-shared, no-number-room as case-no-number-room, no-lag-room as case-no-lag-room, are-units as case-units, IsOver, units-over, refused, is-over}
+use Rattle.buffers.specs.Buffers.{over}
+use Rattle.buffers.proofs.Laws.{sets-over}
+use Rattle.joining.specs.Writing.{Writable}
+use Rattle.joining.proofs.Cases.{is-unpaired as case-unpaired, is-shared as case-shared, no-number-room as case-no-number-room, no-lag-room as case-no-lag-room, are-units as case-units, IsOver, units-over, refused, is-over}
 use Rattle.joining.specs.Joining.{places, unitsJoined, tableJoined, framedNumbers, framedLags, numbersAfter, lagsAfter, isSpare}
-use Rattle.joining.specs.Frames.{frameOf}
 use Rattle.joining.proofs.Filling.{rows-long, beside-long}
 
 module _ (t : Table) (closure : ℕ) (f : Frame) (numberRoom lagRoom : ℕ) (judged : Judged) (found : Judges t f judged) where

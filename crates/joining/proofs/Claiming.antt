@@ -11,13 +11,13 @@ use borrow.Author.Count.{below-more}
 use lib.Dec.{eqb}
 use lib.ListN.{length, getD, set, replicate, length-set, length-replicate, getD-replicate, length-map}
 use lib.Seq.{getD-set-same, getD-set-other, append-snoc}
-use Rattle.joining.specs.Shared.{unit-at}
+use Rattle.joining.proofs.Shared.{unit-at}
 use Rattle.combinators.specs.Below.{count, seek, count-more, count-same, first-seek, seek-here}
 use Rattle.combinators.specs.Lists.{any, any-same, gather, gather-append}
 use Rattle.combinators.specs.Members.{member, member-last}
 use Rattle.combinators.specs.Those.{those, those-more, those-same}
 use Rattle.joining.specs.declared.units.Judged.{Judged}
-use Rattle.joining.specs.Table.{Table, rowsIn}
+use Rattle.rows.specs.Table.{Table, rowsIn}
 use Rattle.joining.specs.Units.{Frame, isTarget, assemblyOf, unitFrom, unitOf, rowsBelow, unpaired, shares, firstUnpaired, firstSharing}
 use Rattle.joining.specs.Judging.{Placed, Whole, marked, MarkedAt, Judges}
 

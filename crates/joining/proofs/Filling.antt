@@ -15,10 +15,11 @@ use Rattle.joining.specs.Judging.{Placed}
 use Rattle.combinators.specs.Below.{count, count-more, count-same, count-less}
 use Rattle.combinators.specs.Lists.{gather, gather-append}
 use Rattle.combinators.specs.Those.{those, length-those, those-more, those-same}
-use Rattle.joining.specs.Table.{Table, rowsIn, decodingOf}
+use Rattle.rows.specs.Table.{Table, rowsIn, decodingOf}
 use Rattle.joining.specs.Units.{Frame, isTarget, assemblyOf, unitOf, lagsOf, rowsBelow, lagsBelow, unitsIn}
-use Rattle.joining.specs.Contents.{length-pieces}
-use Rattle.joining.specs.Writing.{sets-append, Writable}
+use Rattle.joining.proofs.Contents.{length-pieces}
+use Rattle.buffers.proofs.Laws.{sets-append}
+use Rattle.joining.specs.Writing.{Writable}
 
 -- ---- what is gathered from one row more, and how long it is
 

@@ -9,7 +9,7 @@ use lib.IntN.{ℤ}
 use lib.ListN.{length, getD, set, drop, length-set}
 use lib.Seq.{sets}
 use Rattle.clock.specs.Clock.{lagOf}
-use Rattle.joining.specs.Table.{Table, decodingOf}
+use Rattle.rows.specs.Table.{Table, decodingOf}
 use Rattle.joining.specs.Units.{unitFrom, lagsFrom}
 use Rattle.joining.proofs.Marking.{next-member, no-member}
 

@@ -17,10 +17,9 @@ use Rattle.rows.specs.declared.Verdict.the-variants.{InOrder, OutOfRange as Out
 use Rattle.rows.specs.Verdicts.{verdictOf}
 use Rattle.joining.specs.declared.answer.Joined.{Joined}
 use Rattle.joining.specs.declared.answer.Joined.the-variants.{Units, Refused}
-use Rattle.joining.specs.Table.{Table, rowsIn}
-use Rattle.joining.specs.Units.{Frame, rowsBelow, lagsBelow, firstUnpaired, firstShared, unitsIn, leftOut}
-use Rattle.joining.specs.Frames.{frameOf}
-use Rattle.joining.specs.Writing.{over}
+use Rattle.rows.specs.Table.{Table, rowsIn}
+use Rattle.joining.specs.Units.{Frame, rowsBelow, lagsBelow, firstUnpaired, firstShared, unitsIn, leftOut, frameOf}
+use Rattle.buffers.specs.Buffers.{over}
 
 -- 'Both output lists need units times closure size places.'
 abbrev pub places : Table → Frame → ℕ

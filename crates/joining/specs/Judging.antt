@@ -7,7 +7,7 @@ use mathlib.Core.Path.{_≡_}
 use lib.ListN.{length, getD, set}
 use Rattle.combinators.specs.Members.{member}
 use Rattle.joining.specs.declared.units.Judged.{Judged}
-use Rattle.joining.specs.Table.{Table, rowsIn}
+use Rattle.rows.specs.Table.{Table, rowsIn}
 use Rattle.joining.specs.Units.{Frame, assemblyOf, rowsBelow, firstUnpaired, firstShared, unitsIn}
 
 -- a row number for each member, below a bound

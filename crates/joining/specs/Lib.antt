@@ -1,17 +1,6 @@
-pub mod Table
-pub mod Assemblies
 pub mod Units
 pub mod Judging
 pub mod Writing
-pub mod Frames
 pub mod Orderly
 pub mod Joining
-pub mod Examples
 pub mod Meaning
-pub mod FirstRows
-pub mod Ordering
-pub mod Chosen
-pub mod Shared
-pub mod Cases
-pub mod Contents
-pub mod Laws

@@ -1,5 +1,6 @@
 -- What is right, in the words of document 01, with no word of how it is found: THE ANSWER of joining, 11 to 17 or the units, as one relation
--- (`Answers`, at the end), and before it what it is made of. That the computed answer meets it, and nothing else does, is in Laws.
+-- (`Answers`, at the end), and before it what it is made of.
+-- proofs/Meant.antt has the laws that join this to what is computed: the computed answer has this meaning, and no other answer has it.
 -- Assumes nothing.
 use Prim.Native.Nat.{ℕ, _+_, _*_, _≤_, _<_}
 use mathlib.Core.List.{List}
@@ -14,7 +15,7 @@ use Rattle.vocabulary.specs.declared.refusal.Refusal.{Refusal}
 use Rattle.vocabulary.specs.declared.refusal.Refusal.the-variants.{OutOfRange, TimeOrderBroken, Unpaired, UsedTwice, NoRoom}
 use Rattle.joining.specs.declared.answer.Joined.{Joined}
 use Rattle.joining.specs.declared.answer.Joined.the-variants.{Units, Refused}
-use Rattle.joining.specs.Table.{Table, rowsIn, layerOf, decodingOf, matchOf}
+use Rattle.rows.specs.Table.{Table, rowsIn, layerOf, decodingOf, matchOf}
 use Rattle.combinators.specs.Ascending.{Ascending}
 
 -- the earliest row of the table of which something holds; and that it holds of no row

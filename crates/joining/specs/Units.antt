@@ -7,14 +7,14 @@ use lib.Dec.{eqb, ltb}
 use lib.IntN.{ℤ}
 use lib.ListN.{getD}
 use Rattle.clock.specs.Clock.{lagOf}
+use Rattle.closure.specs.declared.Layers.{Layers}
 use Rattle.combinators.specs.Below.{seek, count}
 use Rattle.combinators.specs.Lists.{any, gather}
 use Rattle.combinators.specs.Members.{member}
 use Rattle.combinators.specs.Those.{those}
 use Rattle.sets.specs.Sets.{has}
-use Rattle.assembling.specs.Assemblies.{Assembly}
-use Rattle.joining.specs.Table.{Table, rowsIn, layerOf, decodingOf}
-use Rattle.joining.specs.Assemblies.{assembled}
+use Rattle.rows.specs.Table.{Table, rowsIn, layerOf, decodingOf}
+use Rattle.assembling.specs.Assemblies.{Assembly, edgesOf, membersOf, assembled}
 
 -- what units are made over: the target, the layers of its closure in rising index, and the edges among them
 pub record Frame : Type 0 where
@@ -24,6 +24,9 @@ pub record Frame : Type 0 where
 
 abbrev pub frame : ℕ → List ℕ → List ℕ → Frame
 frame target members edges = record { target = target; members = members; edges = edges }
+
+abbrev pub frameOf : Layers → ℕ → ℕ → Frame
+frameOf layers closure target = frame target (membersOf closure) (edgesOf layers closure)
 
 -- the target rows, and the assembly of each
 abbrev pub isTarget : Table → Frame → ℕ → Bool

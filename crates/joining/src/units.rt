@@ -4,7 +4,7 @@ ghost use mathlib.Core.Path.{_≡_};
 ghost use Prim.Native.Nat.{_≤_, _<_};
 ghost use lib.ListN.{length, getD, replicate};
 ghost use Rattle.combinators.specs.Lists.{any};
-ghost use Rattle.joining.specs.Table.{table};
+ghost use Rattle.rows.specs.Table.{table};
 ghost use Rattle.assembling.specs.Index.{Ready};
 ghost use Rattle.joining.specs.Units.{frame, unitFrom, firstSharing};
 ghost use Rattle.joining.specs.Judging.{Placed, Whole, marked, Judges};

@@ -4,7 +4,7 @@ ghost use mathlib.Core.Path.{_≡_};
 ghost use Prim.Native.Nat.{_+_, _≤_};
 ghost use lib.ListN.{length};
 ghost use lib.Seq.{sets};
-ghost use Rattle.joining.specs.Table.{table};
+ghost use Rattle.rows.specs.Table.{table};
 ghost use Rattle.assembling.specs.Index.{Ready};
 ghost use Rattle.joining.specs.Units.{frame, unitFrom, lagsFrom, rowsBelow, lagsBelow};
 ghost use Rattle.joining.specs.Judging.{Placed};

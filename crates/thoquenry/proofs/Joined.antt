@@ -7,7 +7,7 @@ use lib.IntN.{ℤ}
 use lib.ListN.{length}
 use Rattle.closure.specs.declared.Layers.{Layers}
 use Rattle.joining.specs.declared.answer.Joined.{Joined}
-use Rattle.joining.specs.Table.{Table}
+use Rattle.rows.specs.Table.{Table}
 use Rattle.joining.specs.Joining.{numbersAfter, lagsAfter}
 use Rattle.thoquenry.specs.Joins.{withSummary, joinedAnswer, summaryAfter, JoinReply, joinReply}
 use Rattle.thoquenry.specs.Rooms.{barred, short-summary, whole-summary, barred-numbers, barred-lags, barred-summary}

@@ -14,7 +14,7 @@ use Rattle.combinators.specs.Padding.{padTo, store-padTo}
 use Rattle.vocabulary.specs.declared.refusal.Refusal.the-variants.{NoRoom, TooWide}
 use Rattle.es_loop.specs.declared.entries.Entry.{Entry}
 use Rattle.loop_writer.specs.Writing.{answer, content}
-use Rattle.joining.specs.Writing.{over}
+use Rattle.buffers.specs.Buffers.{over}
 use Rattle.entry_rows.specs.Rows.{rowsOf, someTooWide, rowCount, entriesIn}
 use Rattle.entry_rows.specs.Laws.{rows-length}
 use Rattle.thoquenry.specs.Answers.{accepted, Reply, reply, unchanged}

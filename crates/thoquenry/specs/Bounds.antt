@@ -57,12 +57,11 @@ use Rattle.loop_layers.specs.Layers.{layersOf}
 use Rattle.loop_layers.specs.Closures.{entriesRead, closureFor, loopClosure}
 use Rattle.rows.specs.declared.Verdict.{Verdict}
 use Rattle.rows.specs.declared.Verdict.the-variants.{InOrder, OutOfRange as OutsideAt, OrderBroken as BrokenAt}
-use Rattle.rows.specs.Verdicts.{shape-short}
+use Rattle.rows.proofs.Verdicts.{shape-short}
 use Rattle.joining.specs.declared.answer.Joined.{Joined}
 use Rattle.joining.specs.declared.answer.Joined.the-variants.{Units, Refused}
-use Rattle.joining.specs.Table.{Table, rowsIn, wrongShape, outOfRange, firstOutOfRange, breaksOrder, firstBroken}
-use Rattle.joining.specs.Units.{Frame, isTarget, unpaired, shares, firstUnpaired, firstShared, unitsIn, leftOut}
-use Rattle.joining.specs.Frames.{frameOf}
+use Rattle.rows.specs.Table.{Table, rowsIn, wrongShape, outOfRange, firstOutOfRange, breaksOrder, firstBroken}
+use Rattle.joining.specs.Units.{Frame, isTarget, unpaired, shares, firstUnpaired, firstShared, unitsIn, leftOut, frameOf}
 use Rattle.joining.specs.Joining.{places, unitsJoined, joinedBy, tableJoined, joinedIn, joinedOf}
 use Rattle.importing.specs.Importing.{layersRead, importFor, importOf}
 use Rattle.thoquenry.specs.Answers.{accepted, refused, number-of, value-of}

@@ -13,8 +13,8 @@ use Rattle.closure.specs.declared.Layers.{Layers}
 use Rattle.es_loop.specs.Reading.{loopRead}
 use Rattle.joining.specs.declared.answer.Joined.{Joined}
 use Rattle.joining.specs.declared.answer.Joined.the-variants.{Units, Refused}
-use Rattle.joining.specs.Table.{Table}
-use Rattle.joining.specs.Writing.{over}
+use Rattle.rows.specs.Table.{Table}
+use Rattle.buffers.specs.Buffers.{over}
 use Rattle.joining.specs.Joining.{joinedOf, numbersAfter, lagsAfter}
 use Rattle.importing.specs.Importing.{layersRead, importOf}
 use Rattle.thoquenry.specs.declared.answers.Asked.{Asked}

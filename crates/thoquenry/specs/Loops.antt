@@ -18,7 +18,7 @@ use Rattle.closure.specs.declared.Closure.{Closure}
 use Rattle.closure.specs.declared.Closure.the-variants.{Complete, Refused as NoClosure}
 use Rattle.loop_layers.specs.Closures.{entriesRead, loopClosure}
 use Rattle.sets.specs.Sets.{size}
-use Rattle.joining.specs.Writing.{over}
+use Rattle.buffers.specs.Buffers.{over}
 use Rattle.entry_rows.specs.Rows.{rowsOf, someTooWide, rowCount, entriesIn}
 use Rattle.thoquenry.specs.declared.answers.Asked.{Asked}
 use Rattle.thoquenry.specs.declared.answers.Asked.the-variants.{Known, Neither}

@@ -23,9 +23,8 @@ use Rattle.joining.specs.declared.answer.Joined.the-variants.{Units, Refused}
 use Rattle.rows.specs.declared.Verdict.{Verdict}
 use Rattle.rows.specs.declared.Verdict.the-variants.{InOrder, OutOfRange, OrderBroken}
 use Rattle.rows.specs.Verdicts.{verdictOf}
-use Rattle.joining.specs.Table.{Table, rowsIn}
-use Rattle.joining.specs.Units.{Frame, firstUnpaired, firstShared, unitsIn, leftOut}
-use Rattle.joining.specs.Frames.{frameOf}
+use Rattle.rows.specs.Table.{Table, rowsIn}
+use Rattle.joining.specs.Units.{Frame, firstUnpaired, firstShared, unitsIn, leftOut, frameOf}
 use Rattle.joining.specs.Joining.{places, unitsJoined, joinedBy, joinedIn, joinedOf, numbersAfter, lagsAfter}
 use Rattle.importing.specs.Importing.{layersRead, importFor, importOf}
 use Rattle.thoquenry.specs.Joins.{withSummary, summaryAfter}

@@ -6,7 +6,7 @@ use mathlib.Core.List.{List, [], _∷_}
 use lib.Dec.{ltb}
 use lib.ListN.{length}
 use Rattle.vocabulary.specs.declared.refusal.Refusal.the-variants.{NoRoom}
-use Rattle.joining.specs.Writing.{over}
+use Rattle.buffers.specs.Buffers.{over}
 use Rattle.pes_reader.specs.declared.Answer.{Answer}
 use Rattle.pes_reader.specs.declared.Answer.the-variants.{Times, Refused}
 use Rattle.pes_writer.specs.declared.Written.{Written}

@@ -2,7 +2,7 @@
 ghost use mathlib.Core.Path.{_≡_};
 ghost use Prim.Native.Nat.{_≤_};
 ghost use lib.ListN.{length};
-ghost use Rattle.joining.specs.Table.{table};
+ghost use Rattle.rows.specs.Table.{table};
 ghost use Rattle.thoquenry.specs.Joins.{layersGiven, withSummary, joinedAnswer, summaryAfter, joinOver, joinCall, importAsked, importCall};
 ghost use Rattle.thoquenry.specs.Bounds.{Few};
 use super::answers::Asked;

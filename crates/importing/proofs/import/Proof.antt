@@ -7,7 +7,7 @@ use lib.ListN.{length}
 use Rattle.closure.specs.declared.Layers.{Layers}
 use Rattle.es_loop.specs.declared.reader.Outcome.{Outcome}
 use Rattle.es_loop.specs.declared.reader.LoopRead.{LoopRead}
-use Rattle.joining.specs.Table.{table}
+use Rattle.rows.specs.Table.{table}
 use Rattle.joining.specs.Joining.{joinedOf, numbersAfter, lagsAfter}
 use Rattle.importing.specs.Importing.{layersRead, importFor, importIn}
 use Rattle.importing.proofs.import.Statement.{statement}

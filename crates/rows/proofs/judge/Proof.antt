@@ -4,7 +4,7 @@ use Prim.Native.Nat.{ℕ, _≤_}
 use mathlib.Core.Path.{sym, _∙_, subst}
 use borrow.Author.Needs.{needs}
 use Rattle.rows.specs.Table.{table, rowsIn}
-use Rattle.rows.specs.Verdicts.{shape-decoded, shape-matched, is-misshapen, is-outside, is-broken, is-in-order}
+use Rattle.rows.proofs.Verdicts.{shape-decoded, shape-matched, is-misshapen, is-outside, is-broken, is-in-order}
 use Rattle.rows.proofs.judge.Statement.{statement}
 use Rattle.rows.proofs.judge.Tie as tie
 

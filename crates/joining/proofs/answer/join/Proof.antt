@@ -3,8 +3,8 @@
 use mathlib.Core.Path.{refl, sym, _∙_, ap}
 use borrow.Author.Needs.{needs}
 use lib.ListN.{length}
-use Rattle.joining.specs.Table.{table}
-use Rattle.joining.specs.Orderly.{closed}
+use Rattle.rows.specs.Table.{table}
+use Rattle.joining.proofs.Orderly.{closed}
 use Rattle.joining.specs.Joining.{joinedIn}
 use Rattle.joining.proofs.Answering.{same-numbers, same-lags}
 use Rattle.joining.proofs.answer.join.Statement.{statement}

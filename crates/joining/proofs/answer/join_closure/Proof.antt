@@ -3,11 +3,11 @@
 use mathlib.Core.Path.{refl, sym, _∙_, ap}
 use borrow.Author.Needs.{needs}
 use lib.ListN.{length}
-use Rattle.rows.specs.Verdicts.{sound}
-use Rattle.joining.specs.Table.{table}
-use Rattle.joining.specs.Frames.{frameOf}
+use Rattle.rows.proofs.Verdicts.{sound}
+use Rattle.rows.specs.Table.{table}
+use Rattle.joining.specs.Units.{frameOf}
 use Rattle.joining.specs.Joining.{unitsJoined, joinedBy}
-use Rattle.joining.specs.Cases.{orderly}
+use Rattle.joining.proofs.Cases.{orderly}
 use Rattle.joining.proofs.answer.join_closure.Statement.{statement}
 use Rattle.joining.proofs.answer.join_closure.Tie as tie
 

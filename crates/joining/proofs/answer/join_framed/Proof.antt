@@ -5,7 +5,7 @@ use mathlib.Core.Path.{_≡_, refl, sym, _∙_, ap, subst}
 use native.Mathlib.Omega.{arith}
 use borrow.Author.Needs.{needs}
 use lib.ListN.{length}
-use Rattle.joining.specs.Table.{table}
+use Rattle.rows.specs.Table.{table}
 use Rattle.joining.specs.Units.{frame}
 use Rattle.joining.specs.Joining.{places}
 use Rattle.joining.proofs.Answering.{is-unpaired, is-shared, places-fit, places-is, no-number-room, no-lag-room, are-units, writable, numbers-over, lags-over}

@@ -11,13 +11,13 @@ use Rattle.combinators.specs.Those.{those-short}
 use Rattle.sets.specs.Sets.{has}
 use Rattle.assembling.specs.declared.assembly.Edges.{Edges}
 use Rattle.assembling.specs.declared.assembly.Members.{Members}
-use Rattle.joining.specs.Table.{table}
+use Rattle.rows.specs.Table.{table}
 use Rattle.assembling.specs.Index.{Ready}
-use Rattle.joining.specs.Assemblies.{edgesOf, membersOf}
-use Rattle.joining.specs.Units.{Frame, frame}
+use Rattle.assembling.specs.Assemblies.{edgesOf, membersOf}
+use Rattle.joining.specs.Units.{Frame, frame, frameOf}
 use Rattle.joining.specs.Judging.{Whole}
-use Rattle.joining.specs.Frames.{frameOf, frame-whole}
-use Rattle.joining.specs.Orderly.{ready}
+use Rattle.joining.proofs.Frames.{frame-whole}
+use Rattle.joining.proofs.Orderly.{ready}
 use Rattle.joining.specs.Joining.{unitsJoined, framedNumbers, framedLags}
 use Rattle.joining.proofs.Answering.{part-is, part-fits}
 use Rattle.joining.proofs.answer.join_ordered.Statement.{statement}

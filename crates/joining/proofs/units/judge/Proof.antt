@@ -11,7 +11,7 @@ use borrow.Author.Tests.{eq-eqb, ne-eqb, not-true, not-false}
 use lib.ListN.{length, getD}
 use Rattle.combinators.specs.Below.{count-short}
 use Rattle.combinators.specs.Lists.{any}
-use Rattle.joining.specs.Table.{table}
+use Rattle.rows.specs.Table.{table}
 use Rattle.joining.specs.Units.{frame, isTarget, unitFrom}
 use Rattle.joining.specs.Judging.{Placed, marked}
 use Rattle.joining.proofs.Claiming.{Walked, walked-start, walked-other, no-assembly, chosen, walked-target, stopped, walked-end}

@@ -8,7 +8,7 @@ use borrow.Author.Needs.{needs}
 use lib.ListN.{length, getD}
 use mir.Syntax.{w64}
 use mir.ValLaws.{toZ-ofZ}
-use Rattle.joining.specs.Table.{table}
+use Rattle.rows.specs.Table.{table}
 use Rattle.joining.proofs.Laying.{Laying, laying-start, laying-more, laid-numbers, laid-lags}
 use Rattle.joining.proofs.writing.write_unit.Statement.{statement}
 use Rattle.joining.proofs.writing.write_unit.Tie as tie

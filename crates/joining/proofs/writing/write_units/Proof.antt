@@ -9,7 +9,7 @@ use borrow.Author.Needs.{needs}
 use borrow.Author.Tests.{eq-eqb, ne-eqb}
 use lib.ListN.{length, getD}
 use lib.Seq.{sets}
-use Rattle.joining.specs.Table.{table}
+use Rattle.rows.specs.Table.{table}
 use Rattle.joining.specs.Units.{frame, unitFrom, lagsFrom}
 use Rattle.joining.specs.Judging.{Placed}
 use Rattle.joining.proofs.Filling.{Filled, filled-start, filled-other, filled-target, filled-end, long-numbers, long-lags, room-numbers, room-lags, unit-placed}

@@ -2,7 +2,7 @@
 -- Assumes nothing.
 use mathlib.Core.Path.{sym, _∙_, ap, subst}
 use lib.ListN.{length}
-use Rattle.joining.specs.Table.{table}
+use Rattle.rows.specs.Table.{table}
 use Rattle.es_loop.specs.Reading.{loopRead}
 use Rattle.importing.specs.Importing.{layersRead, importOf}
 use Rattle.thoquenry.specs.Bounds.{Few, few-imported}

@@ -2,7 +2,7 @@
 -- Assumes nothing.
 use mathlib.Core.Path.{sym, _∙_, ap, subst}
 use lib.ListN.{length}
-use Rattle.joining.specs.Table.{table}
+use Rattle.rows.specs.Table.{table}
 use Rattle.joining.specs.Joining.{joinedOf}
 use Rattle.thoquenry.specs.Bounds.{Few, few-joined}
 use Rattle.thoquenry.specs.Rooms.{barred, alike-joined}

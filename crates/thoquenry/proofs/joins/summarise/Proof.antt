@@ -5,7 +5,7 @@ use mathlib.Core.Path.{_≡_, sym, _∙_, ap, subst}
 use mathlib.Core.List.{[], _∷_}
 use lib.ListN.{length-set}
 use Rattle.joining.specs.declared.answer.Joined.{Joined}
-use Rattle.joining.specs.Writing.{sets-over}
+use Rattle.buffers.proofs.Laws.{sets-over}
 use Rattle.thoquenry.specs.Answers.{accepted}
 use Rattle.thoquenry.specs.Joins.{joinedAnswer, summaryAfter}
 use Rattle.thoquenry.specs.Bounds.{Few, size-short, places-fit}

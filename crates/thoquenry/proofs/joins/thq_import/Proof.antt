@@ -1,7 +1,7 @@
 -- `joins::thq_import` meets its contract: which reading was asked for decides.
 -- Assumes nothing.
 use mathlib.Core.Path.{sym, _∙_, refl, ap}
-use Rattle.joining.specs.Table.{table}
+use Rattle.rows.specs.Table.{table}
 use Rattle.thoquenry.specs.declared.answers.Asked.{Asked}
 use Rattle.thoquenry.specs.Joins.{importAsked}
 use Rattle.thoquenry.proofs.Joined.{left-as}

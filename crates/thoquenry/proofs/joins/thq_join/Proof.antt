@@ -2,7 +2,7 @@
 -- Assumes nothing.
 use mathlib.Core.Path.{ap}
 use Rattle.closure.specs.declared.Layers.{Layers}
-use Rattle.joining.specs.Table.{table}
+use Rattle.rows.specs.Table.{table}
 use Rattle.thoquenry.specs.Joins.{joinOver}
 use Rattle.thoquenry.proofs.Joined.{left-as}
 use native.Mathlib.Omega.{arith}

@@ -4,7 +4,8 @@ use mathlib.Core.Path.{sym, _∙_, ap}
 use mathlib.Core.List.{[], _∷_}
 use Rattle.closure.specs.declared.Closure.{Closure}
 use Rattle.sets.specs.Sets.{size}
-use Rattle.joining.specs.Writing.{over, sets-over}
+use Rattle.buffers.specs.Buffers.{over}
+use Rattle.buffers.proofs.Laws.{sets-over}
 use Rattle.thoquenry.specs.Answers.{accepted, reply}
 use Rattle.thoquenry.specs.Loops.{closureLaid}
 use Rattle.thoquenry.proofs.Replies.{answers, buffers, no-room, has-room}

@@ -5,7 +5,7 @@ use mathlib.Core.List.{[], _∷_}
 use lib.ListN.{length-set}
 use Rattle.pes_reader.specs.declared.Answer.{Answer}
 use Rattle.pes_reader.specs.Reading.{readOf}
-use Rattle.joining.specs.Writing.{sets-over}
+use Rattle.buffers.proofs.Laws.{sets-over}
 use Rattle.thoquenry.specs.Times.{timesRead}
 use Rattle.thoquenry.proofs.Replies.{answers, buffers, no-room, has-room}
 use native.Mathlib.Omega.{arith}

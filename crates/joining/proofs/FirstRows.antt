@@ -7,7 +7,7 @@ use mathlib.Core.Path.{_≡_, sym, _∙_}
 use native.Mathlib.Decide.{decLt}
 use native.Mathlib.Omega.{arith}
 use Rattle.combinators.specs.Below.{seek, seek-first}
-use Rattle.joining.specs.Table.{Table, rowsIn}
+use Rattle.rows.specs.Table.{Table, rowsIn}
 use Rattle.joining.specs.Meaning.{FirstRow, NoRow}
 
 -- there is one earliest row at the most

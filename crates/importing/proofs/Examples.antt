@@ -8,8 +8,8 @@ use Rattle.vocabulary.specs.declared.stream_types.Reading.the-variants.{Edition
 use Rattle.vocabulary.specs.declared.refusal.Refusal.the-variants.{DoesNotFit, NoSuchLayer, OutOfRange, TimeOrderBroken, Unpaired, UsedTwice, NoRoom}
 use Rattle.es_loop.specs.Examples.{loopA}
 use Rattle.joining.specs.declared.answer.Joined.the-variants.{Units, Refused}
-use Rattle.joining.specs.Table.{Table, table}
-use Rattle.joining.specs.Assemblies.{edgesOf, membersOf}
+use Rattle.rows.specs.Table.{Table, table}
+use Rattle.assembling.specs.Assemblies.{edgesOf, membersOf}
 use Rattle.importing.specs.Importing.{importOf, importedNumbers, importedLags}
 
 -- 'Rows (layer, decoding, match): (0, 9000, 9000), (1, 9000, 9000), (0, 12600, 12600), (1, 12000, 12600)', with the last match time as given

@@ -21,15 +21,15 @@ use Rattle.combinators.specs.Lists.{gather, getD-nth, getD-map}
 use Rattle.combinators.specs.Members.{member, member-at}
 use Rattle.combinators.specs.Those.{those, length-those}
 use Rattle.sets.specs.Sets.{has}
-use Rattle.joining.specs.Table.{Table, rowsIn, layerOf, decodingOf}
-use Rattle.joining.specs.Assemblies.{membersOf}
-use Rattle.joining.specs.Units.{Frame, isTarget, assemblyOf, unitOf, lagsOf, rowsBelow, lagsBelow, unpaired, unitsIn, isLeftOut, leftOut}
-use Rattle.joining.specs.Writing.{over}
-use Rattle.joining.specs.Frames.{frameOf, rests-below}
+use Rattle.rows.specs.Table.{Table, rowsIn, layerOf, decodingOf}
+use Rattle.assembling.specs.Assemblies.{membersOf}
+use Rattle.joining.specs.Units.{Frame, isTarget, assemblyOf, unitOf, lagsOf, rowsBelow, lagsBelow, unpaired, unitsIn, isLeftOut, leftOut, frameOf}
+use Rattle.buffers.specs.Buffers.{over}
+use Rattle.joining.proofs.Frames.{rests-below}
 use Rattle.joining.specs.Orderly.{Orderly}
 use Rattle.joining.specs.Meaning.{Assembles, TargetRow, InUnit, LeftOut, Extent, TooSmall, for-numbers, for-lags, Untouched, Accepted}
-use Rattle.joining.specs.Chosen.{found, only}
-use Rattle.joining.specs.Shared.{gathered-from, gathered-in, unit-at, unit-long, unit-row, row-place}
+use Rattle.joining.proofs.Chosen.{found, only}
+use Rattle.joining.proofs.Shared.{gathered-from, gathered-in, unit-at, unit-long, unit-row, row-place}
 use Rattle.combinators.specs.Ascending.{Ascending, those-ascending, ascending-one}
 
 -- ---- what is gathered in pieces of one size, place by place

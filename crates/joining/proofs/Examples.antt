@@ -8,11 +8,11 @@ use lib.ListN.{replicate}
 use Rattle.closure.specs.declared.Layers.{Layers}
 use Rattle.vocabulary.specs.declared.refusal.Refusal.the-variants.{OutOfRange, TimeOrderBroken, Unpaired, UsedTwice, NoRoom, NoSuchLayer}
 use Rattle.joining.specs.declared.answer.Joined.the-variants.{Units, Refused}
-use Rattle.joining.specs.Table.{Table, table}
-use Rattle.joining.specs.Assemblies.{edgesOf, membersOf}
+use Rattle.rows.specs.Table.{Table, table}
+use Rattle.assembling.specs.Assemblies.{edgesOf, membersOf}
 use Rattle.joining.specs.Joining.{joinedOf, numbersAfter, lagsAfter}
 use Rattle.joining.specs.Meaning.{Answers}
-use Rattle.joining.specs.Laws.{meets}
+use Rattle.joining.proofs.Meant.{joined-meant}
 
 abbrev two : Layers
 two = record { present = 0b11; embedded = 0 ∷ 0b1 ∷ replicate 62 0 }
@@ -117,4 +117,4 @@ one-edge-not-met = refl
 units-meant : Answers two 1 (rows 12600) (7 ∷ 7 ∷ 7 ∷ 7 ∷ 7 ∷ []) (pos 7 ∷ pos 7 ∷ pos 7 ∷ pos 7 ∷ []) (Units 0b11 2 0)
     (0 ∷ 1 ∷ 2 ∷ 3 ∷ 7 ∷ []) (pos 0 ∷ pos 0 ∷ pos 600 ∷ pos 0 ∷ [])
 unfolding edgesOf membersOf
-units-meant = meets two 1 (rows 12600) (7 ∷ 7 ∷ 7 ∷ 7 ∷ 7 ∷ []) (pos 7 ∷ pos 7 ∷ pos 7 ∷ pos 7 ∷ [])
+units-meant = joined-meant two 1 (rows 12600) (7 ∷ 7 ∷ 7 ∷ 7 ∷ 7 ∷ []) (pos 7 ∷ pos 7 ∷ pos 7 ∷ pos 7 ∷ [])

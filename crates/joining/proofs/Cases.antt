@@ -12,15 +12,15 @@ use Rattle.combinators.specs.Below.{seek-first}
 use Rattle.combinators.specs.Bools.{neither-left, either-way}
 use Rattle.rows.specs.declared.Verdict.{Verdict}
 use Rattle.rows.specs.declared.Verdict.the-variants.{InOrder, OutOfRange as Outside, OrderBroken}
-use Rattle.rows.specs.Verdicts as verdict
-use Rattle.rows.specs.Verdicts.{verdictOf, shape-decoded, shape-matched, shape-short}
+use Rattle.rows.proofs.Verdicts as verdict
+use Rattle.rows.specs.Verdicts.{verdictOf}
+use Rattle.rows.proofs.Verdicts.{shape-decoded, shape-matched, shape-short}
 use Rattle.vocabulary.specs.declared.refusal.Refusal.{Refusal}
 use Rattle.vocabulary.specs.declared.refusal.Refusal.the-variants.{OutOfRange, TimeOrderBroken, Unpaired, UsedTwice, NoRoom}
 use Rattle.joining.specs.declared.answer.Joined.{Joined}
 use Rattle.joining.specs.declared.answer.Joined.the-variants.{Units, Refused}
-use Rattle.joining.specs.Table.{Table, rowsIn, layerOf, decodingOf, matchOf, wrongShape, outOfRange, firstOutOfRange, breaksOrder, firstBroken}
-use Rattle.joining.specs.Units.{Frame, firstUnpaired, firstShared, unitsIn, leftOut}
-use Rattle.joining.specs.Frames.{frameOf}
+use Rattle.rows.specs.Table.{Table, rowsIn, layerOf, decodingOf, matchOf, wrongShape, outOfRange, firstOutOfRange, breaksOrder, firstBroken}
+use Rattle.joining.specs.Units.{Frame, firstUnpaired, firstShared, unitsIn, leftOut, frameOf}
 use Rattle.joining.specs.Orderly.{Closed, Orderly}
 use Rattle.joining.specs.Joining.{places, unitsJoined, joinedBy, tableJoined}
 

@@ -16,9 +16,9 @@ use Rattle.closure.specs.Meaning.{RestsOn, WholeClosure}
 use Rattle.combinators.specs.Below.{some-at, some-which, none-at}
 use Rattle.combinators.specs.Bools.{both-left, both-right, neither-right, either-left, either-right}
 use Rattle.sets.specs.Sets.{has}
-use Rattle.joining.specs.Table.{Table, rowsIn, layerOf, decodingOf, firstRow, ahead, passed, breaksOrder}
+use Rattle.rows.specs.Table.{Table, rowsIn, layerOf, decodingOf, firstRow, ahead, passed, breaksOrder}
 use Rattle.joining.specs.Meaning.{FirstRow, Ahead, BreaksOrder, not-below, not-rising}
-use Rattle.joining.specs.FirstRows.{found, is-first}
+use Rattle.joining.proofs.FirstRows.{found, is-first}
 
 -- the last number below a bound that passes a test, where one does
 pub record Last (test : ℕ → Bool) (bound some last : ℕ) : Type 0 where

@@ -1,4 +1,4 @@
--- What Joining computes is what Meaning says, and nothing else is: `meets` and `nothing-else`; and number by number, `given-13` to `given-17`.
+-- What Joining computes is what Meaning says, and nothing else is: `joined-meant` and `joined-only`; and number by number, `given-13` to `given-17`.
 -- Assumes nothing.
 use Prim.Native.Nat.{ℕ, _*_, _≤_, _<_}
 use mathlib.Core.Bool.{Bool, true, false, not, _||_, true≢false}
@@ -25,19 +25,19 @@ use Rattle.vocabulary.specs.declared.LayerIndex.{LayerIndex}
 use Rattle.vocabulary.specs.declared.refusal.Refusal.the-variants.{LoopTooLong, DoesNotFit, RepeatedPid, WrongLength, SecondRecord, TypeNotAllowed, WrongFlags, RepeatedLayerIndex, WrongEmbeddedIndex, TooManyEmbedded, NotVideoHeader, NoPts, FieldsDoNotFit, WrongMarker, PtsBeforeDts, TooWide, NoSuchLayer, EmbeddedLayerAbsent, OutOfRange, TimeOrderBroken, Unpaired, UsedTwice, NoRoom}
 use Rattle.joining.specs.declared.answer.Joined.{Joined}
 use Rattle.joining.specs.declared.answer.Joined.the-variants.{Units, Refused}
-use Rattle.joining.specs.Table.{Table, rowsIn, layerOf, decodingOf, matchOf, wrongShape, outOfRange, firstOutOfRange, breaksOrder, firstBroken}
-use Rattle.joining.specs.Assemblies.{membersOf}
-use Rattle.joining.specs.Units.{Frame, isTarget, unpaired, shares, firstUnpaired, firstShared}
-use Rattle.joining.specs.Frames.{frameOf}
-use Rattle.joining.specs.Orderly.{Closed, closed, Orderly}
+use Rattle.rows.specs.Table.{Table, rowsIn, layerOf, decodingOf, matchOf, wrongShape, outOfRange, firstOutOfRange, breaksOrder, firstBroken}
+use Rattle.assembling.specs.Assemblies.{membersOf}
+use Rattle.joining.specs.Units.{Frame, isTarget, unpaired, shares, firstUnpaired, firstShared, frameOf}
+use Rattle.joining.specs.Orderly.{Closed, Orderly}
+use Rattle.joining.proofs.Orderly.{closed}
 use Rattle.joining.specs.Joining.{places, unitsJoined, tableJoined, joinedIn, joinedOf, numbersAfter, lagsAfter}
 use Rattle.joining.specs.Meaning.{Assembles, NoAssembly, SharesRow, FirstRow, NoRow, WrongShape, unequal-decodings, unequal-matches, too-many-rows, RowOutOfRange, index-above-63, decoding-time, match-time, BreaksOrder, InOrder, TargetRow, Extent, TooSmall, for-numbers, for-lags, Accepted, Answers, no-closure, wrong-shape, out-of-range, order-broken, no-assembly, in-two-units, no-room, joined}
-use Rattle.joining.specs.Chosen.{unpaired-means, means-unpaired}
-use Rattle.joining.specs.Shared.{shares-means, means-shares}
-use Rattle.joining.specs.FirstRows.{found, none, is-first, is-none}
-use Rattle.joining.specs.Ordering.{means-breaks, breaks-means}
-use Rattle.joining.specs.Contents.{headsOf, extent-is, extent-only, accepted, accepted-one, one-assembly}
-use Rattle.joining.specs.Cases.{is-unpaired, is-shared, no-number-room, no-lag-room, are-units, bad-shape, is-outside, is-broken, after-order, orderly}
+use Rattle.joining.proofs.Chosen.{unpaired-means, means-unpaired}
+use Rattle.joining.proofs.Shared.{shares-means, means-shares}
+use Rattle.joining.proofs.FirstRows.{found, none, is-first, is-none}
+use Rattle.joining.proofs.Ordering.{means-breaks, breaks-means}
+use Rattle.joining.proofs.Contents.{headsOf, extent-is, extent-only, accepted, accepted-one, one-assembly}
+use Rattle.joining.proofs.Cases.{is-unpaired, is-shared, no-number-room, no-lag-room, are-units, bad-shape, is-outside, is-broken, after-order, orderly}
 
 -- ---- 13
 
@@ -241,10 +241,10 @@ module _ (layers : Layers) (target : ℕ) (t : Table) (numbers : List ℕ) (lags
       at-shape false e = at-13 e (decLt (firstOutOfRange t) (rowsIn t))
 
   -- THE ANSWER: what is computed is right,
-  pub meets : Answers layers target t numbers lags (joinedOf layers target t (length numbers) (length lags))
+  pub joined-meant : Answers layers target t numbers lags (joinedOf layers target t (length numbers) (length lags))
       (numbersAfter layers target t (joinedOf layers target t (length numbers) (length lags)) numbers)
       (lagsAfter layers target t (joinedOf layers target t (length numbers) (length lags)) lags)
-  meets = go (closureOf layers target) refl
+  joined-meant = go (closureOf layers target) refl
     where
       go : (c : Closure) → closureOf layers target ≡ c → Right answerOf
       go (Complete closure) e =
@@ -327,21 +327,21 @@ module _ (layers : Layers) (target : ℕ) (t : Table) (numbers : List ℕ) (lags
           go (yes h) = absurd (a .enough-room (for-lags h))
           go (no h) = omega arith
 
-  pub nothing-else : {answer : Joined} {numbers₂ : List ℕ} {lags₂ : List ℤ} → Answers layers target t numbers lags answer numbers₂ lags₂
+  pub joined-only : {answer : Joined} {numbers₂ : List ℕ} {lags₂ : List ℤ} → Answers layers target t numbers lags answer numbers₂ lags₂
       → Computed answer numbers₂ lags₂
-  nothing-else (no-closure c) =
+  joined-only (no-closure c) =
       record {
         is-answer = ap (joinedIn layers target t (length numbers) (length lags)) (closure-nothing-else layers target c);
         is-numbers = refl;
         is-lags = refl;
       }
-  nothing-else (wrong-shape {closure = closure} c w) =
+  joined-only (wrong-shape {closure = closure} c w) =
       record {
         is-answer = bad-shape layers target t closure (length numbers) (length lags) (means-shape t w) ∙ table-is closure c;
         is-numbers = refl;
         is-lags = refl;
       }
-  nothing-else (out-of-range {closure = closure} {row = row} c s f) =
+  joined-only (out-of-range {closure = closure} {row = row} c s f) =
       record {
         is-answer = is-outside layers target t closure (length numbers) (length lags) (right-shape t s) row
             (is-first t (RowOutOfRange t) (outOfRange t) (range-means t) (means-range t) row f .1) (f .inside)
@@ -349,7 +349,7 @@ module _ (layers : Layers) (target : ℕ) (t : Table) (numbers : List ℕ) (lags
         is-numbers = refl;
         is-lags = refl;
       }
-  nothing-else (order-broken {closure = closure} {row = row} c s r f) =
+  joined-only (order-broken {closure = closure} {row = row} c s r f) =
       let whole = closed layers target closure (sym (closure-nothing-else layers target c)) in
       record {
         is-answer = is-broken layers target t closure (length numbers) (length lags) (right-shape t s) (none-outside t r) row
@@ -359,7 +359,7 @@ module _ (layers : Layers) (target : ℕ) (t : Table) (numbers : List ℕ) (lags
         is-numbers = refl;
         is-lags = refl;
       }
-  nothing-else (no-assembly {closure = closure} {row = row} o f) =
+  joined-only (no-assembly {closure = closure} {row = row} o f) =
       let ordered = orderly-of layers target closure t o in
       record {
         is-answer = is-unpaired t closure (frameOf layers closure target) (length numbers) (length lags) row
@@ -369,7 +369,7 @@ module _ (layers : Layers) (target : ℕ) (t : Table) (numbers : List ℕ) (lags
         is-numbers = refl;
         is-lags = refl;
       }
-  nothing-else (in-two-units {closure = closure} {row = row} o n f) =
+  joined-only (in-two-units {closure = closure} {row = row} o n f) =
       let ordered = orderly-of layers target closure t o in
       let paired = none-unpaired layers target closure t ordered n in
       record {
@@ -380,7 +380,7 @@ module _ (layers : Layers) (target : ℕ) (t : Table) (numbers : List ℕ) (lags
         is-numbers = refl;
         is-lags = refl;
       }
-  nothing-else (no-room {closure = closure} {heads = heads} {members = members} o n s e small) =
+  joined-only (no-room {closure = closure} {heads = heads} {members = members} o n s e small) =
       let ordered = orderly-of layers target closure t o in
       let paired = none-unpaired layers target closure t ordered n in
       let apart = none-shared layers target closure t ordered paired s in
@@ -394,15 +394,15 @@ module _ (layers : Layers) (target : ℕ) (t : Table) (numbers : List ℕ) (lags
         is-numbers = refl;
         is-lags = refl;
       }
-  nothing-else (joined {closure = closure} o s a) = joined-is closure o s a
+  joined-only (joined {closure = closure} o s a) = joined-is closure o s a
 
   -- One answer only, and one content of each list.
   pub one-answer : {answer other : Joined} {numbers₂ numbers₃ : List ℕ} {lags₂ lags₃ : List ℤ}
       → Answers layers target t numbers lags answer numbers₂ lags₂ → Answers layers target t numbers lags other numbers₃ lags₃
       → (answer ≡ other) × (numbers₂ ≡ numbers₃) × (lags₂ ≡ lags₃)
   one-answer {answer} {other} p q =
-      let a = nothing-else p in
-      let b = nothing-else q in
+      let a = joined-only p in
+      let b = joined-only q in
       let same : answer ≡ other = a .is-answer ∙ sym (b .is-answer) in (
         same,
         a .is-numbers ∙ ap (λ (r : Joined). numbersAfter layers target t r numbers) same ∙ sym (b .is-numbers),
@@ -410,12 +410,12 @@ module _ (layers : Layers) (target : ℕ) (t : Table) (numbers : List ℕ) (lags
       )
 
   -- What a call promises by its three equalities is right.
-  pub promised : {answer : Joined} {numbers₂ : List ℕ} {lags₂ : List ℤ} → Computed answer numbers₂ lags₂
+  pub computed-meant : {answer : Joined} {numbers₂ : List ℕ} {lags₂ : List ℤ} → Computed answer numbers₂ lags₂
       → Answers layers target t numbers lags answer numbers₂ lags₂
-  promised {answer} {numbers₂} {lags₂} c =
+  computed-meant {answer} {numbers₂} {lags₂} c =
       subst (λ (n : List ℕ). Answers layers target t numbers lags answer n lags₂) (sym (c .is-numbers))
       (subst (λ (l : List ℤ). Answers layers target t numbers lags answer (numbersAfter layers target t answer numbers) l) (sym (c .is-lags))
-      (subst Right (sym (c .is-answer)) meets))
+      (subst Right (sym (c .is-answer)) joined-meant))
 
   -- ---- the same by number: each is given exactly when document 01 says
 
@@ -491,11 +491,11 @@ module _ (layers : Layers) (target : ℕ) (t : Table) (numbers : List ℕ) (lags
   given (joined {numbersAfter = numbers₂} {lagsAfter = lags₂} o s a) = (numbers₂, lags₂, o, s, a)
 
   tells : {answer : Joined} → joinedOf layers target t (length numbers) (length lags) ≡ answer → Given answer
-  tells e = subst Given e (given meets)
+  tells e = subst Given e (given joined-meant)
 
   follows : {answer : Joined} {numbers₂ : List ℕ} {lags₂ : List ℤ} → Answers layers target t numbers lags answer numbers₂ lags₂
       → joinedOf layers target t (length numbers) (length lags) ≡ answer
-  follows a = sym (nothing-else a .is-answer)
+  follows a = sym (joined-only a .is-answer)
 
   pub given-11 : (joinedOf layers target t (length numbers) (length lags) ≡ Refused NoSuchLayer) ↔ Given11
   given-11 = (λ e. tells e, λ h. follows (no-closure (no-such-layer h)))

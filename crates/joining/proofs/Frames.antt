@@ -16,14 +16,11 @@ use Rattle.closure.specs.Laws.{below-64}
 use Rattle.combinators.specs.Bools.{both-left, both-right}
 use Rattle.combinators.specs.Those.{those-at, those-which, those-earlier}
 use Rattle.sets.specs.Sets.{has}
-use Rattle.joining.specs.Table.{Table, rowsIn}
-use Rattle.joining.specs.Assemblies.{upperOf, lowerOf, joins, isEdge, edgesOf, membersOf, assembled}
-use Rattle.assembling.specs.Assembled.{all-met, heads, begin-long}
-use Rattle.joining.specs.Units.{Frame, frame}
+use Rattle.rows.specs.Table.{Table, rowsIn}
+use Rattle.assembling.specs.Assemblies.{upperOf, lowerOf, joins, isEdge, edgesOf, membersOf, assembled}
+use Rattle.assembling.proofs.Assembled.{all-met, heads, begin-long}
+use Rattle.joining.specs.Units.{frameOf}
 use Rattle.joining.specs.Judging.{Whole}
-
-abbrev pub frameOf : Layers → ℕ → ℕ → Frame
-frameOf layers closure target = frame target (membersOf closure) (edgesOf layers closure)
 
 -- the number that holds an edge
 abbrev pub edge : ℕ → ℕ → ℕ

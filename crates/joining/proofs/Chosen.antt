@@ -16,15 +16,15 @@ use Rattle.closure.specs.Meaning.{RestsOn, by}
 use Rattle.clock.specs.Clock.{distanceOf}
 use Rattle.combinators.specs.Below.{seek-here}
 use Rattle.combinators.specs.Bools.{both-left, both-right}
-use Rattle.assembling.specs.Assemblies.{Assembly}
-use Rattle.joining.specs.Table.{Table, rowsIn, layerOf, decodingOf, matchOf, firstRow, ahead}
+use Rattle.assembling.specs.Assemblies.{Assembly, upperOf, lowerOf, rowAt, pairedRow, partner, edgesOf, assembledFrom, assembled}
+use Rattle.rows.specs.Table.{Table, rowsIn, layerOf, decodingOf, matchOf, firstRow, ahead}
 use Rattle.assembling.specs.Index.{Rising}
-use Rattle.joining.specs.Assemblies.{upperOf, lowerOf, rowAt, pairedRow, partner, edgesOf, assembledFrom, assembled}
-use Rattle.assembling.specs.Assembled.{all-met, all-own, heads, begin-long, begin-target, begin-other, begin-own, lower-below}
-use Rattle.joining.specs.Frames.{frameOf, edge-names, edge-listed, led-before, row-for-each, rests-below, target-below}
-use Rattle.joining.specs.Orderly.{Orderly, rises}
+use Rattle.assembling.proofs.Assembled.{all-met, all-own, heads, begin-long, begin-target, begin-other, begin-own, lower-below}
+use Rattle.joining.specs.Units.{frameOf, unpaired}
+use Rattle.joining.proofs.Frames.{edge-names, edge-listed, led-before, row-for-each, rests-below, target-below}
+use Rattle.joining.specs.Orderly.{Orderly}
+use Rattle.joining.proofs.Orderly.{rises}
 use Rattle.joining.specs.Meaning.{Assembles, NoAssembly}
-use Rattle.joining.specs.Units.{unpaired}
 
 -- in a rising layer one row at the most has a decoding time
 pub row-only : (t : Table) (layer time k : ℕ) → Rising t layer → k < rowsIn t → layerOf t k ≡ layer → decodingOf t k ≡ time → rowAt t layer time ≡ k

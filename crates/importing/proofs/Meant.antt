@@ -19,15 +19,15 @@ use Rattle.loop_layers.specs.Layers.{layersOf}
 use Rattle.loop_layers.specs.Meaning.{LayersOf}
 use Rattle.loop_layers.specs.Meant.{layers-meant, layers-only, entries-read}
 use Rattle.joining.specs.declared.answer.Joined.{Joined}
-use Rattle.joining.specs.Table.{Table}
+use Rattle.rows.specs.Table.{Table}
 use Rattle.joining.specs.Joining.{joinedOf, numbersAfter, lagsAfter}
-use Rattle.joining.specs.Laws.{meets, nothing-else}
+use Rattle.joining.proofs.Meant.{joined-meant, joined-only}
 use Rattle.importing.specs.Importing.{layersRead, importIn, importOf, importedNumbers, importedLags}
 use Rattle.importing.specs.Meaning.{Answers, loop-refused, loop-accepted}
 
 module _ (reading : Reading) (bytes : List ℕ) (target : ℕ) (t : Table) (numbers : List ℕ) (lags : List ℤ) where
   -- WHAT THE CALL PROMISES of its answer and of the two lists: the three equalities of its contract.
-  pub record Promised (answer : Joined) (numbers₂ : List ℕ) (lags₂ : List ℤ) : Type 0 where
+  pub record Computed (answer : Joined) (numbers₂ : List ℕ) (lags₂ : List ℤ) : Type 0 where
     pub is-answer : answer ≡ importOf reading bytes target t (length numbers) (length lags)
     pub is-numbers : numbers₂ ≡ importedNumbers reading bytes target t answer numbers
     pub is-lags : lags₂ ≡ importedLags reading bytes target t answer lags
@@ -49,7 +49,7 @@ module _ (reading : Reading) (bytes : List ℕ) (target : ℕ) (t : Table) (numb
   accepted-right streams a =
       let layers : Layers = layersOf (map entryOf streams) in
       subst (λ (l : List Entry). RightIn (layersOf l)) (sym (entries-read streams))
-      (loop-accepted streams a (layers-meant (map entryOf streams)) (meets layers target t numbers lags))
+      (loop-accepted streams a (layers-meant (map entryOf streams)) (joined-meant layers target t numbers lags))
 
   read-right : {read : LoopRead} → Loop.Answers reading bytes read → Right read
   read-right (too-long h) = loop-refused (too-long h)
@@ -60,7 +60,7 @@ module _ (reading : Reading) (bytes : List ℕ) (target : ℕ) (t : Table) (numb
   computed-right = read-right (answer-meant reading bytes)
 
   -- WHAT IS PROMISED IS RIGHT,
-  pub import-meant : {answer : Joined} {numbers₂ : List ℕ} {lags₂ : List ℤ} → Promised answer numbers₂ lags₂
+  pub import-meant : {answer : Joined} {numbers₂ : List ℕ} {lags₂ : List ℤ} → Computed answer numbers₂ lags₂
       → Answers reading bytes target t numbers lags answer numbers₂ lags₂
   import-meant p = rw (p .is-numbers, p .is-lags, p .is-answer) computed-right
 
@@ -70,7 +70,7 @@ module _ (reading : Reading) (bytes : List ℕ) (target : ℕ) (t : Table) (numb
 
   -- and nothing else is.
   pub import-only : {answer : Joined} {numbers₂ : List ℕ} {lags₂ : List ℤ} → Answers reading bytes target t numbers lags answer numbers₂ lags₂
-      → Promised answer numbers₂ lags₂
+      → Computed answer numbers₂ lags₂
   import-only (loop-refused a) =
       record {
         is-answer = ap (λ (r : LoopRead). importIn r target t (length numbers) (length lags)) (answer-only reading bytes a);
@@ -78,7 +78,7 @@ module _ (reading : Reading) (bytes : List ℕ) (target : ℕ) (t : Table) (numb
         is-lags = refl;
       }
   import-only {answer} (loop-accepted streams {layers} a m j) =
-      let only = nothing-else layers target t numbers lags j in
+      let only = joined-only layers target t numbers lags j in
       let same = same-layers streams m in
       let read = answer-only reading bytes a in
       record {

@@ -16,13 +16,13 @@ use Rattle.combinators.specs.Lists.{any, gather, Nth, here, any-true, any-which
 use Rattle.combinators.specs.Members.{member, member-at, member-which}
 use Rattle.combinators.specs.Those.{those, those-at, those-which}
 use Rattle.sets.specs.Sets.{has}
-use Rattle.joining.specs.Table.{Table, rowsIn, layerOf}
-use Rattle.joining.specs.Assemblies.{membersOf}
-use Rattle.joining.specs.Units.{Frame, isTarget, assemblyOf, unitFrom, unitOf, rowsBelow, unpaired, shares}
-use Rattle.joining.specs.Frames.{frameOf, rests-below}
+use Rattle.rows.specs.Table.{Table, rowsIn, layerOf}
+use Rattle.assembling.specs.Assemblies.{membersOf}
+use Rattle.joining.specs.Units.{Frame, isTarget, assemblyOf, unitFrom, unitOf, rowsBelow, unpaired, shares, frameOf}
+use Rattle.joining.proofs.Frames.{rests-below}
 use Rattle.joining.specs.Orderly.{Orderly}
 use Rattle.joining.specs.Meaning.{SharesRow}
-use Rattle.joining.specs.Chosen.{found, only}
+use Rattle.joining.proofs.Chosen.{found, only}
 
 -- ---- members of what is gathered
 
