@@ -47,7 +47,10 @@ use Rattle.es_loop.specs.declared.reader.Outcome.the-variants.{Accepted, Refuse
 use Rattle.es_loop.specs.declared.reader.LoopRead.{LoopRead}
 use Rattle.es_loop.specs.Entries.{esInfoLength, streamOf, streamsOf}
 use Rattle.es_loop.specs.Conditions.{applies, refusalOf}
-use Rattle.es_loop.specs.Reading.{refusedWith, accepted as loopAccepted, judged, loopRead}
+use Rattle.judging.specs.Judging.{mostEmbedded}
+use Rattle.es_loop.specs.declared.verdict.Verdict.{Verdict as LoopVerdict}
+use Rattle.es_loop.specs.declared.verdict.Verdict.the-variants.{Entries, Refused as Refuses}
+use Rattle.es_loop.specs.Reading.{judged, answerBy, loopRead}
 use Rattle.loop_writer.specs.declared.writer.Written.{Written}
 use Rattle.loop_writer.specs.declared.writer.Written.the-variants.{Bytes, Refused as NotWritten}
 use Rattle.loop_writer.specs.Layout.{loopBytes, tooWide}
@@ -186,17 +189,21 @@ SmallOutcome (LoopRefused refusal) = Placed refusal
 abbrev pub SmallLoop : LoopRead → Type 0
 SmallLoop read = SmallOutcome (read .outcome) × (read .count ≤ 32768)
 
-small-entries : (streams : List Stream) → length streams ≤ 1008 → SmallLoop (judged streams)
+-- of a verdict, once its answer is made
+abbrev SmallBy : List Stream → LoopVerdict → Type 0
+SmallBy streams verdict = SmallLoop (answerBy streams verdict)
+
+small-entries : (streams : List Stream) → length streams ≤ 1008 → SmallBy streams (judged mostEmbedded streams)
 small-entries streams h =
-    let lowest : ℕ = lowestNumber (applies streams) 11 (length streams) in
-    let place : ℕ = earliestPlace (applies streams) lowest (length streams) in
-    let within = seek-first (applies streams lowest) (length streams) .within in
+    let lowest : ℕ = lowestNumber (applies mostEmbedded streams) 11 (length streams) in
+    let place : ℕ = earliestPlace (applies mostEmbedded streams) lowest (length streams) in
+    let within = seek-first (applies mostEmbedded streams lowest) (length streams) .within in
     let at = refusal-place lowest place in
-    either-way SmallLoop (ltb lowest 11) (refusedWith (refusalOf lowest place)) (loopAccepted streams) (omega arith, omega arith) (tt, omega arith)
+    either-way (SmallBy streams) (ltb lowest 11) (Refuses (refusalOf lowest place)) (Entries (length streams)) (omega arith, omega arith) (tt, omega arith)
 
 pub small-loop : (reading : Reading) (bytes : List ℕ) → SmallLoop (loopRead reading bytes)
 small-loop reading bytes =
-    or-else SmallLoop (ltb 1008 (length bytes)) (refusedWith LoopTooLong) (judged (streamsOf reading bytes)) (omega arith, omega arith)
+    or-else (SmallBy (streamsOf reading bytes)) (ltb 1008 (length bytes)) (Refuses LoopTooLong) (judged mostEmbedded (streamsOf reading bytes)) (omega arith, omega arith)
     (λ e. small-entries (streamsOf reading bytes) (omega (arith, few-streams reading bytes, ltb-false 1008 (length bytes) e)))
 
 abbrev pub SmallWritten : Written → Type 0
@@ -211,7 +218,7 @@ small-written room count array =
     let within = seek-first (appliesTo entries lowest) (length entries) .within in
     let at = refusal-place lowest place in
     or-else SmallWritten (any tooWide entries) (NotWritten TooWide) _ (omega arith) (λ fine.
-    or-else SmallWritten (ltb 201 count || ltb 1008 (length (loopBytes entries))) (NotWritten LoopTooLong) (judgedIn room entries) (omega arith) (λ short.
+    or-else SmallWritten (ltb 201 count || ltb 1008 (length (loopBytes entries))) (NotWritten LoopTooLong) (judgedIn mostEmbedded room entries) (omega arith) (λ short.
     either-way SmallWritten (ltb lowest 11) (NotWritten (refusalOf lowest place)) (inRoom room (length (loopBytes entries)))
     (omega (arith, length-take count array, ltb-false 201 count (neither-left (ltb 201 count) (ltb 1008 (length (loopBytes entries))) short)))
     (either-way SmallWritten (ltb room (length (loopBytes entries))) (NotWritten NoRoom) (Bytes (length (loopBytes entries))) (omega arith)
