@@ -8,7 +8,7 @@
 use Rattle.demands.specs.Calls.{Promised}
 use Rattle.demands.specs.Readers.{readLoop, loop-read, closureOfTarget, closure-found, closureOfLoop, loop-closure-found, readTimes, times-read}
 use Rattle.demands.specs.Writers.{writeLoop, loop-written, writeTimes, times-written}
-use Rattle.demands.specs.Joiners.{joinRows, rows-joined, importLoop, loop-imported}
+use Rattle.demands.specs.Joiners.{joinTable, table-joined, joinRows, rows-joined, importLoop, loop-imported}
 
 pub record Demand-1 : Type 0 where
   -- 1 to 10
@@ -23,6 +23,8 @@ pub record Demand-1 : Type 0 where
   pub reading-times : Promised readTimes
   -- 17, 24, 25
   pub writing-times : Promised writeTimes
+  -- 13 to 17
+  pub joining-a-table : Promised joinTable
   -- 11 to 17
   pub joining-rows : Promised joinRows
   -- 1 to 17
@@ -37,6 +39,7 @@ demand-1 =
       closure-from-a-loop = loop-closure-found;
       reading-times = times-read;
       writing-times = times-written;
+      joining-a-table = table-joined;
       joining-rows = rows-joined;
       importing = loop-imported;
     }

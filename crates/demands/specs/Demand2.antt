@@ -36,7 +36,8 @@ use Rattle.pes_writer.specs.Writing.{headerOf, writeOf, bufferOf}
 use Rattle.pes_writer.specs.OwnShape.{OwnShape as OwnHeader}
 use Rattle.pes.specs.RoundTrips as times
 use Rattle.closure.specs.declared.Layers.{Layers}
-use Rattle.closure.specs.Meaning.{RestsOn}
+use Rattle.closure.specs.declared.Closure.the-variants.{Complete}
+use Rattle.closure.specs.Meaning.{RestsOn, Answers as ClosureAnswers}
 use Rattle.loop_layers.specs.Meaning.{LayersOf}
 use Rattle.joining.specs.declared.answer.Joined.{Joined}
 use Rattle.joining.specs.declared.answer.Joined.the-variants.{Units, Refused}
@@ -73,7 +74,8 @@ pub record ReadAndWritten : Type 0 where
 
 -- THE UNITS of an accepted table, and what the two lists then hold: over a closure, a table in range and in order, and no row in two units
 pub record OneUnitEach (layers : Layers) (target : ℕ) (rows : Table) (before : Lists) (closure units left : ℕ) (after : Lists) : Type 0 where
-  pub in-order : InOrder layers target closure rows
+  pub closed : ClosureAnswers layers target (Complete closure)
+  pub in-order : InOrder layers target rows
   pub in-one-unit : NoRow rows (SharesRow layers target rows)
   pub accepted : Accepted layers target rows (before .numbers) (before .lags) units left (after .numbers) (after .lags)
 
@@ -88,13 +90,15 @@ pub record OneUnitEachOfLoop (given : ImportGiven) (closure units left : ℕ) (a
 -- 'unpaired exactly when some unit has no such choice': at the first target row that has none
 pub record FirstUnpaired (layers : Layers) (target : ℕ) (rows : Table) (row : ℕ) : Type 0 where
   pub closure : ℕ
-  pub in-order : InOrder layers target closure rows
+  pub closed : ClosureAnswers layers target (Complete closure)
+  pub in-order : InOrder layers target rows
   pub first : FirstRow rows (NoAssembly layers target rows) row
 
 -- 'otherwise as used twice exactly when two units would share a component': at the first target row whose unit shares one with an earlier
 pub record FirstSharing (layers : Layers) (target : ℕ) (rows : Table) (row : ℕ) : Type 0 where
   pub closure : ℕ
-  pub in-order : InOrder layers target closure rows
+  pub closed : ClosureAnswers layers target (Complete closure)
+  pub in-order : InOrder layers target rows
   pub all-paired : NoRow rows (NoAssembly layers target rows)
   pub first : FirstRow rows (SharesRow layers target rows) row
 
@@ -111,8 +115,8 @@ pub record Joins : Type 0 where
   pub used-twice : (layers : Layers) (target : ℕ) (rows : Table) (numbers : List ℕ) (lags : List ℤ) (row : ℕ)
       → (joinedOf layers target rows (length numbers) (length lags) ≡ Refused (UsedTwice row)) ↔ FirstSharing layers target rows row
   -- a target row has no two assemblies
-  pub one-choice : (layers : Layers) (target closure : ℕ) (rows : Table) → InOrder layers target closure rows → (head : ℕ) → TargetRow target rows head
-      → (choice other : ℕ → ℕ) → Assembles layers target rows head choice → Assembles layers target rows head other
+  pub one-choice : (layers : Layers) (target closure : ℕ) (rows : Table) → ClosureAnswers layers target (Complete closure) → InOrder layers target rows
+      → (head : ℕ) → TargetRow target rows head → (choice other : ℕ → ℕ) → Assembles layers target rows head choice → Assembles layers target rows head other
       → (layer : ℕ) → RestsOn layers target layer → choice layer ≡ other layer
 
 pub record Demand-2 : Type 0 where
@@ -123,7 +127,7 @@ pub record Demand-2 : Type 0 where
 one-unit-each : {layers : Layers} {target : ℕ} {rows : Table} {before after : Lists} {closure units left : ℕ}
     → Joining.Answers layers target rows (before .numbers) (before .lags) (Units closure units left) (after .numbers) (after .lags)
     → OneUnitEach layers target rows before closure units left after
-one-unit-each (Joining.joined o s a) = record { in-order = o; in-one-unit = s; accepted = a }
+one-unit-each (Joining.over-closure c (Joining.joined o s a)) = record { closed = c; in-order = o; in-one-unit = s; accepted = a }
 
 units-meant : {given : RowsGiven} {answer : Joined} {lists after : Lists} {closure units left : ℕ} → joinRows .Means given answer lists
     → answer ≡ Units closure units left → lists ≡ after
@@ -157,7 +161,8 @@ demand-2 =
       joins = record {
         units = λ given closure units left after. (
           λ e. units-meant (rows-joined .right given) (e .0) (e .1),
-          λ u. (let only = rows-joined .nothing-else given {after = after} (Joining.joined (u .in-order) (u .in-one-unit) (u .accepted)) in
+          λ u. (let only = rows-joined .nothing-else given {after = after}
+              (Joining.over-closure (u .closed) (Joining.joined (u .in-order) (u .in-one-unit) (u .accepted))) in
               (sym (only .0), sym (only .1))),
         );
         units-of-loop = λ given closure units left after. (
@@ -165,19 +170,20 @@ demand-2 =
           λ u. (let each = u .one-unit-each in
               let only = loop-imported .nothing-else given {after = after}
               (Import.loop-accepted (u .streams) (u .loop-accepted) (u .layers-of-loop)
-              (Joining.joined (each .in-order) (each .in-one-unit) (each .accepted))) in
+              (Joining.over-closure (each .closed) (Joining.joined (each .in-order) (each .in-one-unit) (each .accepted)))) in
               (sym (only .0), sym (only .1))),
         );
         unpaired = λ layers target rows numbers lags row. (
-          λ e. (let w = joining.given-15 layers target rows numbers lags row .0 e in record { closure = w .0; in-order = w .1; first = w .2 }),
-          λ u. joining.given-15 layers target rows numbers lags row .1 (u .closure, u .in-order, u .first),
+          λ e. (let w = joining.given-15 layers target rows numbers lags row .0 e in
+              record { closure = w .0; closed = w .1; in-order = w .2; first = w .3 }),
+          λ u. joining.given-15 layers target rows numbers lags row .1 (u .closure, u .closed, u .in-order, u .first),
         );
         used-twice = λ layers target rows numbers lags row. (
           λ e. (let w = joining.given-16 layers target rows numbers lags row .0 e in
-              record { closure = w .0; in-order = w .1; all-paired = w .2; first = w .3 }),
-          λ u. joining.given-16 layers target rows numbers lags row .1 (u .closure, u .in-order, u .all-paired, u .first),
+              record { closure = w .0; closed = w .1; in-order = w .2; all-paired = w .3; first = w .4 }),
+          λ u. joining.given-16 layers target rows numbers lags row .1 (u .closure, u .closed, u .in-order, u .all-paired, u .first),
         );
-        one-choice = λ layers target closure rows ordered head is-target choice other a b layer rests.
-            joining.at-most-one-assembly layers target rows [] [] closure ordered head is-target choice other a b layer rests;
+        one-choice = λ layers target closure rows closed ordered head is-target choice other a b layer rests.
+            joining.at-most-one-assembly layers target rows [] [] closure closed ordered head is-target choice other a b layer rests;
       };
     }

@@ -1,4 +1,5 @@
--- The calls that join rows to units, and their promises: over layers, and from the bytes of a loop. Each has two lists for its output.
+-- The calls that join rows to units, and their promises: over a closure that was found, over layers, and from the bytes of a loop. Each has two
+-- lists for its output.
 -- Assumes nothing.
 use Prim.Native.Nat.{ℕ}
 use mathlib.Core.Bool.{true}
@@ -13,7 +14,9 @@ use Rattle.closure.specs.declared.Layers.{Layers}
 use Rattle.joining.specs.declared.answer.Joined.{Joined}
 use Rattle.joining.specs.declared.answer.Joined.the-variants as Joined
 use Rattle.rows.specs.Table.{Table}
-use Rattle.joining.specs.Joining.{joinedOf, numbersAfter, lagsAfter}
+use Rattle.joining.specs.Units.{frameOf}
+use Rattle.joining.specs.Orderly.{Closed}
+use Rattle.joining.specs.Joining.{tableJoined, framedNumbers, framedLags, joinedOf, numbersAfter, lagsAfter}
 use Rattle.joining.specs.Meaning as Joining
 use Rattle.joining.proofs.Meant as joining
 use Rattle.importing.specs.Importing.{importOf, importedNumbers, importedLags}
@@ -83,10 +86,60 @@ kept j given k (Joined.Units closure units left) refusal e = not-refused e
 kept j given k (Joined.Refused r) refusal e =
     ap₂ (λ (numbers : List ℕ) (lags : List ℤ). record { numbers = numbers; lags = lags }) (k .numbers-kept r) (k .lags-kept r)
 
--- ---- `joining::join`: 'the target 11 and 12, joining 13 to 17 after these'
+-- ---- `joining::join_table`: 13 to 17, of a table over the whole closure of a target
 
 abbrev pub joiningNumbers : List ℕ
 joiningNumbers = 13 ∷ 14 ∷ 15 ∷ 16 ∷ 17 ∷ []
+
+pub record TableGiven : Type 0 where
+  pub layers : Layers
+  pub target : ℕ
+  pub closure : ℕ
+  pub whole : Closed layers target closure
+  pub rows : Table
+  pub lists : Lists
+
+abbrev tableJoiner : Joiner
+tableJoiner =
+    record {
+      Given = TableGiven;
+      joined = λ given. tableJoined (given .layers) (given .target) (given .rows) (given .closure) (length (given .lists .numbers)) (length (given .lists .lags));
+      lists = λ given. given .lists;
+      numbersBy = λ given. framedNumbers (given .rows) (frameOf (given .layers) (given .closure) (given .target));
+      lagsBy = λ given. framedLags (given .rows) (frameOf (given .layers) (given .closure) (given .target));
+      numbers = joiningNumbers;
+      Means = λ given answer lists. Joining.AnswersOver (given .layers) (given .target) (given .closure) (given .rows) (given .lists .numbers)
+          (given .lists .lags) answer (lists .numbers) (lists .lags);
+    }
+
+abbrev pub joinTable : Call
+joinTable = callOf tableJoiner
+
+table-listed : {layers : Layers} {target closure : ℕ} {rows : Table} {numbers numbers₂ : List ℕ} {lags lags₂ : List ℤ} {answer : Joined}
+    → Joining.AnswersOver layers target closure rows numbers lags answer numbers₂ lags₂ → isListed joiningNumbers (joinedRefusal answer) ≡ true
+table-listed (Joining.wrong-shape a) = refl
+table-listed (Joining.out-of-range a b) = refl
+table-listed (Joining.order-broken a b c) = refl
+table-listed (Joining.no-assembly a b) = refl
+table-listed (Joining.in-two-units a b c) = refl
+table-listed (Joining.no-room a b c d e) = refl
+table-listed (Joining.joined a b c) = refl
+
+pub table-joined : Promised joinTable
+table-joined =
+    record {
+      right = λ given. right given;
+      nothing-else = λ given means. (let c = joining.table-only (given .layers) (given .target) (given .closure) (given .whole) (given .rows) (given .lists .numbers) (given .lists .lags) means in
+          computed tableJoiner given (record { is-answer = c .is-answer; is-numbers = c .is-numbers; is-lags = c .is-lags }));
+      listed = λ given. table-listed (right given);
+      untouched = λ given. kept tableJoiner given (record { numbers-kept = λ r. refl; lags-kept = λ r. refl }) (joinTable .answer given);
+    }
+  where
+    right : (given : TableGiven) → joinTable .Means given (joinTable .answer given) (joinTable .after given)
+    right given =
+        joining.table-meant (given .layers) (given .target) (given .closure) (given .whole) (given .rows) (given .lists .numbers) (given .lists .lags)
+
+-- ---- `joining::join`: 'the target 11 and 12, joining 13 to 17 after these'
 
 pub record RowsGiven : Type 0 where
   pub layers : Layers
@@ -113,13 +166,8 @@ joinRows = callOf rowsJoiner
 joining-listed : {layers : Layers} {target : ℕ} {rows : Table} {numbers numbers₂ : List ℕ} {lags lags₂ : List ℤ} {answer : Joined}
     → Joining.Answers layers target rows numbers lags answer numbers₂ lags₂ → isListed (joinRows .numbers) (joinedRefusal answer) ≡ true
 joining-listed (Joining.no-closure {refusal} c) = listed-first (closureOfTarget .numbers) joiningNumbers (some refusal) (target-listed c)
-joining-listed (Joining.wrong-shape a b) = refl
-joining-listed (Joining.out-of-range a b c) = refl
-joining-listed (Joining.order-broken a b c d) = refl
-joining-listed (Joining.no-assembly a b) = refl
-joining-listed (Joining.in-two-units a b c) = refl
-joining-listed (Joining.no-room a b c d e) = refl
-joining-listed (Joining.joined a b c) = refl
+joining-listed (Joining.over-closure {answer = answer} c a) =
+    listed-second (closureOfTarget .numbers) joiningNumbers (joinedRefusal answer) (table-listed a)
 
 pub rows-joined : Promised joinRows
 rows-joined =

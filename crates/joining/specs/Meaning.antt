@@ -60,9 +60,8 @@ pub data BreaksOrder (layers : Layers) (target : ℕ) (t : Table) (k : ℕ) : Ty
   not-rising : {j earlier distance : ℕ} → RestsOn layers target (layerOf t k) → FromRowToRow t j k → Ahead t j earlier → Ahead t k distance
       → distance ≤ earlier → BreaksOrder layers target t k
 
--- What 11 to 14 leave: the closure, and a table in range and in order.
-pub record InOrder (layers : Layers) (target closure : ℕ) (t : Table) : Type 0 where
-  pub closed : ClosureAnswers layers target (Complete closure)
+-- What 13 and 14 leave: a table in range and in order.
+pub record InOrder (layers : Layers) (target : ℕ) (t : Table) : Type 0 where
   pub shape : WrongShape t → ⊥
   pub range : NoRow t (RowOutOfRange t)
   pub order : NoRow t (BreaksOrder layers target t)
@@ -151,34 +150,37 @@ pub record Accepted (layers : Layers) (target : ℕ) (t : Table) (numbers : List
   pub numbers-beyond : Untouched 0 (length heads * length members) numbers numbersAfter
   pub lags-beyond : Untouched (pos 0) (length heads * length members) lags lagsAfter
 
--- THE ANSWER to lists that hold `numbers` and `lags`, and what they hold after it: 'the lowest number that applies, at the earliest place',
--- where 'every output buffer is untouched', or the units. Each number is answered where no lower one applies.
+-- THE ANSWER OF A TABLE over the closure of a target, to lists that hold `numbers` and `lags`, and what they hold after it: 'the lowest number that
+-- applies, at the earliest place', where 'every output buffer is untouched', or the units. Each number is answered where no lower one applies.
+pub data AnswersOver (layers : Layers) (target closure : ℕ) (t : Table) (numbers : List ℕ) (lags : List ℤ) : Joined → List ℕ → List ℤ → Type 0 where
+  -- 13: 'row columns of unequal length, more than 512 rows (place 0), or a row out of range'
+  wrong-shape : WrongShape t → AnswersOver layers target closure t numbers lags (Refused (OutOfRange 0)) numbers lags
+  out-of-range : {row : ℕ} → (WrongShape t → ⊥) → FirstRow t (RowOutOfRange t) row
+      → AnswersOver layers target closure t numbers lags (Refused (OutOfRange row)) numbers lags
+  -- 14: 'time order broken in a closure layer'
+  order-broken : {row : ℕ} → (WrongShape t → ⊥) → NoRow t (RowOutOfRange t) → FirstRow t (BreaksOrder layers target t) row
+      → AnswersOver layers target closure t numbers lags (Refused (TimeOrderBroken row)) numbers lags
+  -- 15: 'a target row has no assembly'
+  no-assembly : {row : ℕ} → InOrder layers target t → FirstRow t (NoAssembly layers target t) row
+      → AnswersOver layers target closure t numbers lags (Refused (Unpaired row)) numbers lags
+  -- 16: 'a row would stand in two units', at the 'later target row'
+  in-two-units : {row : ℕ} → InOrder layers target t → NoRow t (NoAssembly layers target t) → FirstRow t (SharesRow layers target t) row
+      → AnswersOver layers target closure t numbers lags (Refused (UsedTwice row)) numbers lags
+  -- 17: 'output room too small'
+  no-room : {heads members : List ℕ} → InOrder layers target t → NoRow t (NoAssembly layers target t) → NoRow t (SharesRow layers target t)
+      → Extent layers target t heads members → TooSmall (length heads) (length members) (length numbers) (length lags)
+      → AnswersOver layers target closure t numbers lags (Refused NoRoom) numbers lags
+  -- accepted: the closure, 'the number of units', and 'the count of closure rows in no unit'
+  joined : {units left : ℕ} {numbersAfter : List ℕ} {lagsAfter : List ℤ} → InOrder layers target t → NoRow t (SharesRow layers target t)
+      → Accepted layers target t numbers lags units left numbersAfter lagsAfter
+      → AnswersOver layers target closure t numbers lags (Units closure units left) numbersAfter lagsAfter
+
+-- THE ANSWER OF JOINING, in two steps: 'the target 11 and 12, joining 13 to 17 after these'.
 pub data Answers (layers : Layers) (target : ℕ) (t : Table) (numbers : List ℕ) (lags : List ℤ) : Joined → List ℕ → List ℤ → Type 0 where
   -- 11 and 12: as the closure has them
   no-closure : {refusal : Refusal} → ClosureAnswers layers target (NoClosure refusal)
       → Answers layers target t numbers lags (Refused refusal) numbers lags
-  -- 13: 'row columns of unequal length, more than 512 rows (place 0), or a row out of range'
-  wrong-shape : {closure : ℕ} → ClosureAnswers layers target (Complete closure) → WrongShape t
-      → Answers layers target t numbers lags (Refused (OutOfRange 0)) numbers lags
-  out-of-range : {closure row : ℕ} → ClosureAnswers layers target (Complete closure) → (WrongShape t → ⊥) → FirstRow t (RowOutOfRange t) row
-      → Answers layers target t numbers lags (Refused (OutOfRange row)) numbers lags
-  -- 14: 'time order broken in a closure layer'
-  order-broken : {closure row : ℕ} → ClosureAnswers layers target (Complete closure) → (WrongShape t → ⊥) → NoRow t (RowOutOfRange t)
-      → FirstRow t (BreaksOrder layers target t) row
-      → Answers layers target t numbers lags (Refused (TimeOrderBroken row)) numbers lags
-  -- 15: 'a target row has no assembly'
-  no-assembly : {closure row : ℕ} → InOrder layers target closure t → FirstRow t (NoAssembly layers target t) row
-      → Answers layers target t numbers lags (Refused (Unpaired row)) numbers lags
-  -- 16: 'a row would stand in two units', at the 'later target row'
-  in-two-units : {closure row : ℕ} → InOrder layers target closure t → NoRow t (NoAssembly layers target t)
-      → FirstRow t (SharesRow layers target t) row
-      → Answers layers target t numbers lags (Refused (UsedTwice row)) numbers lags
-  -- 17: 'output room too small'
-  no-room : {closure : ℕ} {heads members : List ℕ} → InOrder layers target closure t → NoRow t (NoAssembly layers target t)
-      → NoRow t (SharesRow layers target t) → Extent layers target t heads members
-      → TooSmall (length heads) (length members) (length numbers) (length lags)
-      → Answers layers target t numbers lags (Refused NoRoom) numbers lags
-  -- accepted: the closure, 'the number of units', and 'the count of closure rows in no unit'
-  joined : {closure units left : ℕ} {numbersAfter : List ℕ} {lagsAfter : List ℤ} → InOrder layers target closure t
-      → NoRow t (SharesRow layers target t) → Accepted layers target t numbers lags units left numbersAfter lagsAfter
-      → Answers layers target t numbers lags (Units closure units left) numbersAfter lagsAfter
+  -- 13 to 17, or the units: the table over the closure
+  over-closure : {closure : ℕ} {answer : Joined} {numbersAfter : List ℕ} {lagsAfter : List ℤ} → ClosureAnswers layers target (Complete closure)
+      → AnswersOver layers target closure t numbers lags answer numbersAfter lagsAfter
+      → Answers layers target t numbers lags answer numbersAfter lagsAfter
