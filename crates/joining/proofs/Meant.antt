@@ -37,7 +37,7 @@ use Rattle.joining.proofs.Chosen.{unpaired-means, means-unpaired}
 use Rattle.joining.proofs.Shared.{shares-means, means-shares}
 use Rattle.joining.proofs.FirstRows.{found, none, is-first, is-none}
 use Rattle.joining.proofs.Ordering.{means-breaks, breaks-means}
-use Rattle.joining.proofs.Contents.{headsOf, extent-is, extent-only, accepted, accepted-one, one-assembly}
+use Rattle.joining.proofs.Contents.{headsOf, extent-is, extent-only, accepted, accepted-one, one-assembly, assembly-of}
 use Rattle.joining.proofs.Answering.{same-numbers, same-lags}
 use Rattle.joining.proofs.Cases.{is-unpaired, is-shared, no-number-room, no-lag-room, are-units, bad-shape, is-outside, is-broken, after-order, orderly}
 
@@ -290,7 +290,10 @@ module _ (layers : Layers) (target closure : ℕ) (whole : Closed layers target 
       }
     where
       has-assembly : NoRow t (NoAssembly layers target t)
-      has-assembly k h n = n .none (a .choice k) (a .assembles k (record { inside = h; of-target = n .target-row }))
+      has-assembly k h n =
+          let at = a .extent .target-rows .all k (record { inside = h; of-target = n .target-row }) in
+          let w = assembly-of (a .units-of-heads) (at .0) (at .1) in
+          n .none (w .0) (subst (λ (head : ℕ). Assembles layers target t head (w .0)) (at .2) (w .1))
 
       number-fits : length (a .heads) * length (a .members) ≤ length numbers
       number-fits = go (decLt (length numbers) (length (a .heads) * length (a .members)))
