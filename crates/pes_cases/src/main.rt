@@ -1,11 +1,13 @@
 // Runs PES headers through the reader and times through the writer. Each line of the input is a case: its name, a colon, and the
-// bytes of a header in hexadecimal, or PTS, decoding time, match time and the room of a buffer. The file `stdin` has the cases, and
+// bytes of a header in hexadecimal, or PTS, decoding time, match time, 1 or 0 for a TREF or none, and the room of a buffer. The file `stdin` has the cases, and
 // `stdout` what every line has to say; both were worked out by hand from Table 2-21 of H.222.0, source 003 and document 01.
 ghost use Prim.Native.Nat.{_≤_};
 ghost use lib.ListN.{length};
 use libc::STDIN_FILENO;
 use libc::STDOUT_FILENO;
 use pes::Answer;
+use pes::Header;
+use pes::Times;
 use pes::Written;
 
 fn say(text: &[u8]) {
@@ -21,13 +23,23 @@ fn say_refused(refusal: vocabulary::Refusal) {
     say_number(vocabulary::number(refusal) as u64);
 }
 
-fn say_times(pts: u64, decoding: u64, matching: u64) {
+fn say_times(times: Times) {
     say(b"times ");
-    say_number(pts);
+    say_number(times.pts);
     say(b" ");
-    say_number(decoding);
+    say_number(times.decoding);
     say(b" ");
-    say_number(matching);
+    say_number(times.matching);
+}
+
+fn say_header(header: Header) {
+    say_times(header.times);
+    if header.tref_sent {
+        say(b", TREF, ends at ");
+    } else {
+        say(b", no TREF, ends at ");
+    }
+    say_number(header.end as u64);
 }
 
 fn say_byte(byte: u8) {
@@ -136,11 +148,7 @@ fn past(text: &[u8], at: usize) -> usize
 fn read(header: &[u8]) {
     let answer = pes::read(header);
     match answer {
-        Answer::Times {
-            pts,
-            decoding,
-            matching,
-        } => say_times(pts, decoding, matching),
+        Answer::Read(header) => say_header(header),
         Answer::Refused(refusal) => say_refused(refusal),
     }
 }
@@ -151,9 +159,9 @@ fn read_case(text: &[u8]) {
     read(&header[..n]);
 }
 
-// Three times and a buffer, what the writer answers, and the whole buffer after it.
-fn write(pts: u64, decoding: u64, matching: u64, out: &mut [u8]) {
-    let written = pes::write(pts, decoding, matching, out);
+// Three times, whether a TREF is asked for and a buffer, what the writer answers, and the whole buffer after it.
+fn write(times: Times, with_tref: bool, out: &mut [u8]) {
+    let written = pes::write(times, with_tref, out);
     match written {
         Written::Bytes(n) => {
             say(b"bytes ");
@@ -172,12 +180,19 @@ fn write_case(text: &[u8]) {
     let after_decoding = decoding.next;
     let matching = number_at(text, past(text, after_decoding));
     let after_matching = matching.next;
-    let room = number_at(text, past(text, after_matching));
+    let choice = number_at(text, past(text, after_matching));
+    let after_choice = choice.next;
+    let room = number_at(text, past(text, after_choice));
     let mut out = [0xAAu8; 32];
     let size = room.value;
     if size <= 32 {
         let end = size as usize;
-        write(pts.value, decoding.value, matching.value, &mut out[..end]);
+        let times = Times {
+            pts: pts.value,
+            decoding: decoding.value,
+            matching: matching.value,
+        };
+        write(times, choice.value == 1, &mut out[..end]);
     }
 }
 

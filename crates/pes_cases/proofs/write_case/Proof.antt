@@ -30,6 +30,12 @@ past-requires-4 c κs = search needs
 number-at-requires-4 : tie.Need-number-at-requires-4
 number-at-requires-4 c κs = search needs
 
+past-requires-5 : tie.Need-past-requires-5
+past-requires-5 c κs = search needs
+
+number-at-requires-5 : tie.Need-number-at-requires-5
+number-at-requires-5 c κs = search needs
+
 array-borrow-prefix-out : tie.Need-array-borrow-prefix-out
 array-borrow-prefix-out c = search needs
 
@@ -58,6 +64,8 @@ write-case-spec =
     number-at-requires-3
     past-requires-4
     number-at-requires-4
+    past-requires-5
+    number-at-requires-5
     array-borrow-prefix-out
     slice-aggregate-write
     write-requires
