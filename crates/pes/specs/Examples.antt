@@ -3,7 +3,7 @@
 use Prim.Native.Nat.{ℕ}
 use mathlib.Core.Path.{_≡_, refl}
 use mathlib.Core.Bool.{true, false}
-use mathlib.Core.List.{List, [], _∷_}
+use mathlib.Core.List.{List, [], _∷_, _++_}
 use Rattle.pes_reader.specs.Reading.{readOf}
 use Rattle.stamps.specs.declared.Times.{Times}
 use Rattle.pes_reader.specs.declared.Answer.the-variants.{Read}
@@ -24,31 +24,11 @@ pub pts9000-written : headerOf (times 9000 9000 9000) false ≡ pts9000
 pts9000-written = refl
 
 -- 'PTS 12000, TREF 12600'
+abbrev headWithTref : List ℕ
+headWithTref = 0x00 ∷ 0x00 ∷ 0x01 ∷ 0xE0 ∷ 0x00 ∷ 0x00 ∷ 0x84 ∷ 0x81 ∷ 0x0D ∷ []
+
 abbrev pub tref12600 : List ℕ
-tref12600 =
-    0x00
-    ∷ 0x00
-    ∷ 0x01
-    ∷ 0xE0
-    ∷ 0x00
-    ∷ 0x00
-    ∷ 0x84
-    ∷ 0x81
-    ∷ 0x0D
-    ∷ 0x21
-    ∷ 0x00
-    ∷ 0x01
-    ∷ 0x5D
-    ∷ 0xC1
-    ∷ 0x0F
-    ∷ 0x86
-    ∷ 0xFE
-    ∷ 0xF1
-    ∷ 0x00
-    ∷ 0x01
-    ∷ 0x62
-    ∷ 0x71
-    ∷ []
+tref12600 = headWithTref ++ (0x21 ∷ 0x00 ∷ 0x01 ∷ 0x5D ∷ 0xC1 ∷ []) ++ (0x0F ∷ 0x86 ∷ 0xFE ∷ 0xF1 ∷ 0x00 ∷ 0x01 ∷ 0x62 ∷ 0x71 ∷ [])
 
 pub tref12600-read : readOf tref12600 ≡ Read (readBack (times 12000 12000 12600) true 22)
 tref12600-read = refl
@@ -58,30 +38,7 @@ tref12600-written = refl
 
 -- 'even where it equals the decoding time' (document 02, W-213)
 abbrev pub tref9000 : List ℕ
-tref9000 =
-    0x00
-    ∷ 0x00
-    ∷ 0x01
-    ∷ 0xE0
-    ∷ 0x00
-    ∷ 0x00
-    ∷ 0x84
-    ∷ 0x81
-    ∷ 0x0D
-    ∷ 0x21
-    ∷ 0x00
-    ∷ 0x01
-    ∷ 0x46
-    ∷ 0x51
-    ∷ 0x0F
-    ∷ 0x86
-    ∷ 0xFE
-    ∷ 0xF1
-    ∷ 0x00
-    ∷ 0x01
-    ∷ 0x46
-    ∷ 0x51
-    ∷ []
+tref9000 = headWithTref ++ (0x21 ∷ 0x00 ∷ 0x01 ∷ 0x46 ∷ 0x51 ∷ []) ++ (0x0F ∷ 0x86 ∷ 0xFE ∷ 0xF1 ∷ 0x00 ∷ 0x01 ∷ 0x46 ∷ 0x51 ∷ [])
 
 pub tref9000-read : readOf tref9000 ≡ Read (readBack (times 9000 9000 9000) true 22)
 tref9000-read = refl
