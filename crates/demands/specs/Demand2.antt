@@ -7,11 +7,13 @@
 -- those of the PES header. A row's match time is its TREF, or its decoding time without one: `matchOf` of PES reading.
 -- Assumes nothing.
 use Prim.Native.Nat.{ℕ, _≤_}
+use mathlib.Core.Bool.{Bool}
 use mathlib.Core.List.{List, [], map}
 use mathlib.Core.Logic.{_↔_}
 use mathlib.Core.Path.{_≡_, sym, _∙_}
 use lib.IntN.{ℤ}
 use lib.ListN.{length, take}
+use Rattle.buffers.specs.Buffers.{over}
 use Rattle.combinators.specs.Padding.{padTo}
 use Rattle.syntax.specs.Table.{AreBytes}
 use Rattle.vocabulary.specs.declared.refusal.Refusal.the-variants.{Unpaired, UsedTwice}
@@ -29,7 +31,9 @@ use Rattle.loop_round_trip.specs.ReadBack.{normal, Typed}
 use Rattle.loop_round_trip.specs.RoundTrip as loops
 use Rattle.loop_round_trip.specs.OwnShape.{OwnShape}
 use Rattle.loop_round_trip.specs.Rewriting as loops-again
-use Rattle.pes_reader.specs.declared.Answer.the-variants as Times
+use Rattle.stamps.specs.declared.Times.{Times}
+use Rattle.pes_reader.specs.declared.Answer.the-variants as Answer
+use Rattle.pes_reader.specs.declared.Header.{Header as HeaderRead}
 use Rattle.pes_writer.specs.declared.Written.the-variants as Header
 use Rattle.pes_reader.specs.Reading.{readOf}
 use Rattle.pes_writer.specs.Writing.{headerOf, writeOf, bufferOf}
@@ -66,10 +70,12 @@ pub record ReadAndWritten : Type 0 where
       → (room : ℕ) → length loop ≤ room
       → (answer room ((loopRead Edition2015 loop) .count) ((loopRead Edition2015 loop) .entries) ≡ Loop.Bytes (length loop))
       × (loopBytes (take ((loopRead Edition2015 loop) .count) ((loopRead Edition2015 loop) .entries)) ≡ loop)
-  pub times-read-back : (pts decoding matching : ℕ) (out : List ℕ) {size : ℕ} → writeOf pts decoding matching (length out) ≡ Header.Bytes size
-      → readOf (bufferOf (Header.Bytes size) (headerOf pts decoding matching) out) ≡ Times.Times pts decoding matching
-  pub times-rewritten : {bytes : List ℕ} {a b c : ℕ} → OwnHeader bytes a b c → (pts decoding matching : ℕ)
-      → readOf bytes ≡ Times.Times pts decoding matching → headerOf pts decoding matching ≡ bytes
+  pub times-read-back : (times : Times) (withTref : Bool) (out : List ℕ) {size : ℕ} → writeOf times withTref (length out) ≡ Header.Bytes size
+      → readOf (bufferOf (Header.Bytes size) (headerOf times withTref) out) ≡ Answer.Read (record { times = times; «tref_sent» = withTref; end = size })
+  pub times-rewritten : {bytes : List ℕ} {times : Times} {withTref : Bool} → OwnHeader bytes times withTref → (header : HeaderRead)
+      → readOf bytes ≡ Answer.Read header → (out : List ℕ) → length bytes ≤ length out
+      → (writeOf (header .times) (header .«tref_sent») (length out) ≡ Header.Bytes (length bytes))
+      × (bufferOf (Header.Bytes (length bytes)) (headerOf (header .times) (header .«tref_sent»)) out ≡ over bytes out)
 
 -- THE UNITS of an accepted table, and what the two lists then hold: over a closure, a table in range and in order, and no row in two units
 pub record OneUnitEach (given : RowsGiven) (closure units left : ℕ) (after : Lists) : Type 0 where
@@ -159,7 +165,7 @@ demand-2 =
         loop-read-back = λ room count array typed e. loops.read-back room count array typed e;
         loop-rewritten = λ loop bytes own accepted room large. loops-again.rewrite loop bytes own accepted room large;
         times-read-back = times.reading-what-was-written;
-        times-rewritten = λ own pts decoding matching read. times.rewriting-what-was-read own pts decoding matching read;
+        times-rewritten = λ own header read out room. times.rewritten own header read out room;
       };
       joins = record {
         units = λ run ensured closure units left after. (
