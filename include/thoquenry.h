@@ -27,10 +27,10 @@ extern "C" {
 /*
  * The version of this header, and the same as one number: 10,000 times the first part, 100 times the second, and the third. While the first
  * part is 0, a change by which a program that was built before would misread an answer raises the second, and after that the first; the
- * shared object's name goes with it (libthoquenry.so.0.1).
+ * shared object's name goes with it (libthoquenry.so.0.2).
  */
-#define THQ_VERSION "0.1.0"
-#define THQ_VERSION_NUMBER 100
+#define THQ_VERSION "0.2.0"
+#define THQ_VERSION_NUMBER 200
 
 /* The version of the library that is linked, as such a number. */
 uint64_t thq_version(void);
@@ -173,16 +173,20 @@ uint64_t thq_write_loop(const uint16_t *entries, size_t entries_length, uint8_t 
 uint64_t thq_closure(uint64_t reading, const uint8_t *bytes, size_t bytes_length, uint64_t target, uint64_t *set, size_t set_length);
 
 /*
- * Reads the times of a PES header. `times` receives three numbers: PTS, decoding time and match time. Counts them, 3.
- * Refusals: 17 where `times_length` is below 3; then 20 to 24.
+ * Reads the times of a PES header, and whether a TREF stands in it. `times` receives five numbers: PTS, decoding time and match time; 1 where a
+ * TREF stood in the header, and else 0; and the offset at which the header ends, 9 plus its PES_header_data_length, stuffing included. Counts
+ * them, 5.
+ * Refusals: 17 where `times_length` is below 5; then 20 to 24.
  */
 uint64_t thq_read_times(const uint8_t *bytes, size_t bytes_length, uint64_t *times, size_t times_length);
 
 /*
- * Writes a PES header with these times. Counts the bytes written to `out`.
- * Refusals: 25 where a time is 2^33 or more; then 17, 24.
+ * Writes a PES header with these times, with a TREF where `with_tref` is 1, also one that equals the decoding time, and without one where it is 0.
+ * Counts the bytes written to `out`.
+ * Refusals: 25 where a time is 2^33 or more, where `with_tref` is above 1, and where it is 0 although the match time is not the decoding time;
+ * then 17, 24.
  */
-uint64_t thq_write_times(uint64_t pts, uint64_t decoding, uint64_t match, uint8_t *out, size_t out_length);
+uint64_t thq_write_times(uint64_t pts, uint64_t decoding, uint64_t match, uint64_t with_tref, uint8_t *out, size_t out_length);
 
 /*
  * Joins rows to units, over layers that the caller gives: bit i of `present` is 1 when there is a layer of index i, and number i of

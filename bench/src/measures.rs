@@ -173,17 +173,17 @@ fn closure(name: &str, bytes: Vec<u8>, target: u64) -> Measure {
 }
 
 /// The times of a header, and its bytes.
-fn header(times: Times) -> Vec<u8> {
+fn header(times: Times, with_tref: bool) -> Vec<u8> {
     let mut bytes = vec![0; 27];
-    let length = plain::write_times(times, &mut bytes).expect("a sound header");
+    let length = plain::write_times(times, with_tref, &mut bytes).expect("a sound header");
     bytes.truncate(length);
     bytes
 }
 
-fn read_times(name: &str, times: Times) -> Measure {
-    let bytes: Rc<[u8]> = header(times).into();
+fn read_times(name: &str, times: Times, with_tref: bool) -> Measure {
+    let bytes: Rc<[u8]> = header(times, with_tref).into();
     let given = bytes.clone();
-    let mut room = [0; 3];
+    let mut room = [0; 5];
     let library = move |calls| {
         repeat(calls, || {
             let given = hide(&given[..]);
@@ -195,9 +195,9 @@ fn read_times(name: &str, times: Times) -> Measure {
     };
     let plain = move |calls| {
         repeat(calls, || {
-            answer(plain::read_times(hide(&bytes[..])).map(|times| {
-                hide(times);
-                3
+            answer(plain::read_times(hide(&bytes[..])).map(|header| {
+                hide(header);
+                5
             }))
         })
     };
@@ -210,7 +210,7 @@ fn read_times(name: &str, times: Times) -> Measure {
     }
 }
 
-fn write_times(name: &str, times: Times) -> Measure {
+fn write_times(name: &str, times: Times, with_tref: bool) -> Measure {
     let mut out = [0; 32];
     let library = move |calls| {
         repeat(calls, || {
@@ -221,6 +221,7 @@ fn write_times(name: &str, times: Times) -> Measure {
                     given.pts,
                     given.decoding,
                     given.matching,
+                    hide(u64::from(with_tref)),
                     out.as_mut_ptr(),
                     out.len(),
                 )
@@ -230,7 +231,11 @@ fn write_times(name: &str, times: Times) -> Measure {
     let mut out = [0; 32];
     let plain = move |calls| {
         repeat(calls, || {
-            answer(plain::write_times(hide(times), hide(&mut out[..])))
+            answer(plain::write_times(
+                hide(times),
+                hide(with_tref),
+                hide(&mut out[..]),
+            ))
         })
     };
     Measure {
@@ -402,10 +407,10 @@ pub fn all() -> Vec<Measure> {
         closure("loop A, target 2", inputs::LOOP_A.to_vec(), 2),
         closure("chain of 64 layers, target 63", hierarchies, 63),
         closure("46 extensions, target 45", extensions, 45),
-        read_times("PTS alone", alone),
-        read_times("PTS, DTS and TREF", all_three),
-        write_times("PTS alone", alone),
-        write_times("PTS, DTS and TREF", all_three),
+        read_times("PTS alone", alone, false),
+        read_times("PTS, DTS and TREF", all_three, true),
+        write_times("PTS alone", alone, false),
+        write_times("PTS, DTS and TREF", all_three, true),
         join(2, 1, SUMMARY),
         join(8, 1, SUMMARY),
         join(32, 1, SUMMARY),

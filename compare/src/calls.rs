@@ -41,6 +41,7 @@ pub enum Call {
         pts: u64,
         decoding: u64,
         matching: u64,
+        with_tref: u64,
         out: Vec<u8>,
     },
     Join {
@@ -189,11 +190,19 @@ impl Call {
                 pts,
                 decoding,
                 matching,
+                with_tref,
                 out,
             } => {
                 let room = memory.place(out);
                 let answer = unsafe {
-                    raw::thq_write_times(*pts, *decoding, *matching, room.start(), room.length())
+                    raw::thq_write_times(
+                        *pts,
+                        *decoding,
+                        *matching,
+                        *with_tref,
+                        room.start(),
+                        room.length(),
+                    )
                 };
                 untouched &= room.take_back(out);
                 answer
@@ -292,6 +301,7 @@ impl Call {
                 pts,
                 decoding,
                 matching,
+                with_tref,
                 out,
             } => {
                 let times = Times {
@@ -299,7 +309,7 @@ impl Call {
                     decoding: *decoding,
                     matching: *matching,
                 };
-                plain::write_times(times, out)
+                write_times(times, *with_tref, out)
             }
             Call::Join {
                 present,
@@ -386,10 +396,24 @@ fn closure(reading: u64, bytes: &[u8], target: u64, set: &mut [u64]) -> Result<u
 
 fn read_times(bytes: &[u8], room: &mut [u64]) -> Result<usize, Refusal> {
     // 17 is the lowest number of this call.
-    let room = room.get_mut(..3).ok_or(Refusal::of(17))?;
-    let times = plain::read_times(bytes)?;
-    room.copy_from_slice(&[times.pts, times.decoding, times.matching]);
-    Ok(3)
+    let room = room.get_mut(..5).ok_or(Refusal::of(17))?;
+    let header = plain::read_times(bytes)?;
+    room.copy_from_slice(&[
+        header.times.pts,
+        header.times.decoding,
+        header.times.matching,
+        u64::from(header.tref_sent),
+        header.end as u64,
+    ]);
+    Ok(5)
+}
+
+fn write_times(times: Times, with_tref: u64, out: &mut [u8]) -> Result<usize, Refusal> {
+    // A flag of one bit, and 25 comes before all else.
+    if with_tref > 1 {
+        return Err(Refusal::of(25));
+    }
+    plain::write_times(times, with_tref == 1, out)
 }
 
 fn join(layers: &Layers, target: u64, rows: &Columns, lists: &mut Lists) -> Result<usize, Refusal> {

@@ -82,16 +82,16 @@ fn closure(random: &mut Random) -> (Call, Quality) {
 fn read_times(random: &mut Random) -> (Call, Quality) {
     let (bytes, quality) = headers::bytes(random);
     let length = if random.once_in(8) {
-        random.below(3)
+        random.below(5)
     } else {
-        random.within(3, 5)
+        random.within(5, 7)
     };
     let times = filled(random, length, |bits| bits);
     (Call::ReadTimes { bytes, times }, quality)
 }
 
 fn write_times(random: &mut Random) -> (Call, Quality) {
-    let ([pts, decoding, matching], quality) = headers::times(random);
+    let ([pts, decoding, matching], with_tref, quality) = headers::times(random);
     let length = match random.below(4) {
         0 => random.pick(&[13, 14, 15, 18, 19, 20, 21, 22, 23, 26, 27, 28]),
         1 => random.below(28),
@@ -101,6 +101,7 @@ fn write_times(random: &mut Random) -> (Call, Quality) {
         pts,
         decoding,
         matching,
+        with_tref,
         out: filled(random, length, |bits| bits as u8),
     };
     (call, quality)

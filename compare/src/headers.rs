@@ -24,8 +24,8 @@ pub fn wide_time(random: &mut Random) -> u64 {
     }
 }
 
-/// Three times to be written.
-pub fn times(random: &mut Random) -> ([u64; 3], Quality) {
+/// Three times to be written, and whether a TREF is asked for.
+pub fn times(random: &mut Random) -> ([u64; 3], u64, Quality) {
     let quality = Quality::pick(random);
     let pts = time(random);
     let decoding = if random.once_in(2) {
@@ -39,8 +39,17 @@ pub fn times(random: &mut Random) -> ([u64; 3], Quality) {
         time(random)
     };
     let mut times = [pts, decoding, matching];
+    // Without a TREF the match time is the decoding time.
+    let mut with_tref = if matching == decoding {
+        random.below(2) as u64
+    } else {
+        1
+    };
     match quality {
         Quality::Sound => {}
+        Quality::NearMiss if random.once_in(3) => {
+            with_tref = random.pick(&[0, 0, 2, 255, 256, u64::MAX]);
+        }
         Quality::NearMiss => {
             let place = random.below(3);
             let step = random.pick(&[1, u64::MAX, 1 << 32, 1 << 33, (1 << 32) - 1]);
@@ -53,9 +62,10 @@ pub fn times(random: &mut Random) -> ([u64; 3], Quality) {
             for time in &mut times {
                 *time = wide_time(random);
             }
+            with_tref = random.below(3) as u64;
         }
     }
-    (times, quality)
+    (times, with_tref, quality)
 }
 
 /// A time so far before another.
@@ -161,12 +171,12 @@ fn header(random: &mut Random, order: bool) -> Header {
     let pts = time(random);
     let has_dts = random.once_in(2);
     put_time(&mut data, if has_dts { 3 } else { 2 }, pts);
+    let decoding = match (has_dts, order) {
+        (false, _) => pts,
+        (true, true) => back(pts, random.next() & 0xFFFF_FFFF),
+        (true, false) => time(random),
+    };
     if has_dts {
-        let decoding = if order {
-            back(pts, random.next() & 0xFFFF_FFFF)
-        } else {
-            time(random)
-        };
         put_time(&mut data, 1, decoding);
     }
     for (bit, length) in [(0x20, 6), (0x10, 3), (0x08, 1), (0x04, 1), (0x02, 2)] {
@@ -211,7 +221,11 @@ fn header(random: &mut Random, order: bool) -> Header {
                 } else {
                     0x0F
                 };
-                let tref = time(random);
+                let tref = if random.once_in(3) {
+                    decoding
+                } else {
+                    time(random)
+                };
                 // One byte stands between the data so far and this one: the length.
                 let mut before = data.clone();
                 before.extend([0, 0]);

@@ -62,11 +62,13 @@ pub fn parts(call: &Call) -> Vec<(&'static str, String)> {
             pts,
             decoding,
             matching,
+            with_tref,
             out,
         } => vec![
             ("pts", pts.to_string()),
             ("decoding", decoding.to_string()),
             ("match", matching.to_string()),
+            ("with_tref", with_tref.to_string()),
             ("out", hex(out)),
         ],
         Call::Join {

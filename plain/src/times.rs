@@ -42,6 +42,17 @@ pub struct Times {
     pub matching: u64,
 }
 
+/// What a PES header says.
+#[derive(Clone, Copy, Debug, PartialEq, Eq)]
+pub struct Header {
+    /// its times
+    pub times: Times,
+    /// whether a TREF stood in it, whatever its value
+    pub tref_sent: bool,
+    /// the offset at which it ends, stuffing included
+    pub end: usize,
+}
+
 const FIXED: usize = 9;
 const START_PREFIX: [u8; 3] = [0, 0, 1];
 const PTS_ALONE: u8 = 0b0010;
@@ -79,11 +90,10 @@ impl<'a> Fields<'a> {
     }
 }
 
-/// Reads the times of a PES header, or the refusal, 20 to 24.
-pub fn read_times(bytes: &[u8]) -> Result<Times, Refusal> {
-    let mut fields = Fields {
-        rest: header_data(bytes).ok_or(Refusal::of(20))?,
-    };
+/// Reads the times of a PES header, whether a TREF stood in it and where it ends, or the refusal, 20 to 24.
+pub fn read_times(bytes: &[u8]) -> Result<Header, Refusal> {
+    let data = header_data(bytes).ok_or(Refusal::of(20))?;
+    let mut fields = Fields { rest: data };
     let flags = bytes[7];
     if flags & 0x80 == 0 {
         return Err(Refusal::of(21));
@@ -132,10 +142,14 @@ pub fn read_times(bytes: &[u8]) -> Result<Times, Refusal> {
     if before(pts, decoding) {
         return Err(Refusal::of(24));
     }
-    Ok(Times {
-        pts,
-        decoding,
-        matching,
+    Ok(Header {
+        times: Times {
+            pts,
+            decoding,
+            matching,
+        },
+        tref_sent: second.tref.is_some(),
+        end: FIXED + data.len(),
     })
 }
 
@@ -214,32 +228,31 @@ fn field(prefix: u8, time: u64) -> [u8; 5] {
     ]
 }
 
-/// Writes a PES header and answers its length, or the refusal: 25, then 17, then 24.
-pub fn write_times(times: Times, out: &mut [u8]) -> Result<usize, Refusal> {
+/// Writes a PES header, with a TREF or without one, and answers its length, or the refusal: 25, then 17, then 24.
+pub fn write_times(times: Times, with_tref: bool, out: &mut [u8]) -> Result<usize, Refusal> {
     let Times {
         pts,
         decoding,
         matching,
     } = times;
-    if !is_time(pts | decoding | matching) {
+    if !is_time(pts | decoding | matching) || !with_tref && matching != decoding {
         return Err(Refusal::of(25));
     }
     let sends_dts = decoding != pts;
-    let sends_tref = matching != decoding;
-    let data_length = 5 + if sends_dts { 5 } else { 0 } + if sends_tref { 8 } else { 0 };
+    let data_length = 5 + if sends_dts { 5 } else { 0 } + if with_tref { 8 } else { 0 };
     let length = FIXED + data_length;
     let out = out.get_mut(..length).ok_or(Refusal::of(17))?;
     if before(pts, decoding) {
         return Err(Refusal::of(24));
     }
-    let flags = 0x80 | u8::from(sends_dts) << 6 | u8::from(sends_tref);
+    let flags = 0x80 | u8::from(sends_dts) << 6 | u8::from(with_tref);
     out[..FIXED].copy_from_slice(&[0, 0, 1, 0xE0, 0, 0, 0x84, flags, data_length as u8]);
     let prefix = if sends_dts { PTS_BEFORE_DTS } else { PTS_ALONE };
     out[9..14].copy_from_slice(&field(prefix, pts));
     if sends_dts {
         out[14..19].copy_from_slice(&field(DTS, decoding));
     }
-    if sends_tref {
+    if with_tref {
         // Extension flags with the second extension alone; marker and length 6; TREF flagged by 0.
         out[length - 8..length - 5].copy_from_slice(&[0x0F, 0x86, 0xFE]);
         out[length - 5..].copy_from_slice(&field(TREF, matching));

@@ -115,10 +115,14 @@ fn headers() {
         answers.push_str(": ");
         if line.starts_with("read") {
             match plain::read_times(&bytes(case).unwrap()) {
-                Ok(times) => writeln!(
+                Ok(header) => writeln!(
                     answers,
-                    "times {} {} {}",
-                    times.pts, times.decoding, times.matching
+                    "times {} {} {}, {}, ends at {}",
+                    header.times.pts,
+                    header.times.decoding,
+                    header.times.matching,
+                    if header.tref_sent { "TREF" } else { "no TREF" },
+                    header.end
                 ),
                 Err(refusal) => writeln!(answers, "refused {}", refusal.number),
             }
@@ -134,8 +138,8 @@ fn headers() {
             decoding: numbers[1],
             matching: numbers[2],
         };
-        let mut out = vec![0xAA; numbers[3] as usize];
-        match plain::write_times(times, &mut out) {
+        let mut out = vec![0xAA; numbers[4] as usize];
+        match plain::write_times(times, numbers[3] == 1, &mut out) {
             Ok(length) => write!(answers, "bytes {length} leaves"),
             Err(refusal) => write!(answers, "refused {} leaves", refusal.number),
         }

@@ -1,7 +1,7 @@
 //! Document 01's worked examples.
 
 use plain::Reading::{Of2009, Of2015};
-use plain::{Layers, Reading, Refusal, Rows, Times, Units};
+use plain::{Header, Layers, Reading, Refusal, Rows, Times, Units};
 
 const LOOP_A: [u8; 37] = [
     0x1B, 0xE1, 0x00, 0xF0, 0x06, 0x04, 0x04, 0xFF, 0xC0, 0xFF, 0xC0, // the base
@@ -145,22 +145,34 @@ fn headers() {
         0x00, 0x00, 0x01, 0xE0, 0x00, 0x00, 0x84, 0x81, 0x0D, 0x21, 0x00, 0x01, 0x5D, 0xC1, 0x0F,
         0x86, 0xFE, 0xF1, 0x00, 0x01, 0x62, 0x71,
     ];
-    for (header, pts, decoding, matching) in [
-        (&alone[..], 9000, 9000, 9000),
-        (&with_tref, 12000, 12000, 12600),
+    let equal_tref = [
+        0x00, 0x00, 0x01, 0xE0, 0x00, 0x00, 0x84, 0x81, 0x0D, 0x21, 0x00, 0x01, 0x46, 0x51, 0x0F,
+        0x86, 0xFE, 0xF1, 0x00, 0x01, 0x46, 0x51,
+    ];
+    for (header, pts, decoding, matching, tref_sent) in [
+        (&alone[..], 9000, 9000, 9000, false),
+        (&equal_tref, 9000, 9000, 9000, true),
+        (&with_tref, 12000, 12000, 12600, true),
     ] {
         let times = Times {
             pts,
             decoding,
             matching,
         };
-        assert_eq!(plain::read_times(header), Ok(times));
+        let end = header.len();
+        let said = Header {
+            times,
+            tref_sent,
+            end,
+        };
+        assert_eq!(plain::read_times(header), Ok(said));
         let mut out = [0xAA; 30];
-        assert_eq!(plain::write_times(times, &mut out), Ok(header.len()));
+        assert_eq!(plain::write_times(times, tref_sent, &mut out), Ok(end));
         assert_eq!(&out[..header.len()], header);
         assert!(out[header.len()..].iter().all(|&byte| byte == 0xAA));
         let mut short = vec![0xAA; header.len() - 1];
-        assert_eq!(plain::write_times(times, &mut short), Err(Refusal::of(17)));
+        let answer = plain::write_times(times, tref_sent, &mut short);
+        assert_eq!(answer, Err(Refusal::of(17)));
         assert!(short.iter().all(|&byte| byte == 0xAA));
     }
 }

@@ -9,7 +9,7 @@ from dataclasses import replace
 from unittest.mock import patch
 
 import thoquenry
-from thoquenry import (Component, Entry, Extension, Hierarchy, Number, Reading, Refused, Row, Times, Units, closure, import_, join,
+from thoquenry import (Component, Entry, Extension, Header, Hierarchy, Number, Reading, Refused, Row, Times, Units, closure, import_, join,
                        read_loop, read_times, write_loop, write_times)
 from thoquenry._library import load
 
@@ -76,7 +76,7 @@ class WorkedExamples(unittest.TestCase):
     def test_values_wider_than_their_c_type_are_too_wide(self):
         self.refused(Number.TOO_WIDE, 0, write_loop, [Entry(0x1B, 65536 + 256)])
         self.refused(Number.TOO_WIDE, 0, write_loop, [Entry(0x1B + 65536, 256)])
-        self.refused(Number.TOO_WIDE, 0, write_times, Times(2**64 + 1, 1, 1))
+        self.refused(Number.TOO_WIDE, 0, write_times, Times(2**64 + 1, 1, 1), False)
         self.refused(Number.NO_SUCH_LAYER, 0, closure, Reading.EDITION_2015, LOOP_A, 2**64)
         self.refused(Number.OUT_OF_RANGE, 0, join, {0: ()}, 0, [Row(256, 0, 0)])
         self.refused(Number.OUT_OF_RANGE, 0, join, {0: ()}, 0, [Row(0, 2**64, 0)])
@@ -130,13 +130,17 @@ class WorkedExamples(unittest.TestCase):
     def test_headers(self):
         pts_alone = bytes.fromhex("000001E0000084 8005 2100014651")
         with_tref = bytes.fromhex("000001E0000084 810D 2100015DC1 0F86FE F100016271")
-        for times, header in ((Times(9000, 9000, 9000), pts_alone), (Times(12000, 12000, 12600), with_tref)):
-            self.assertEqual(read_times(header), times)
-            self.assertEqual(write_times(times), header)
-        self.assertEqual(read_times(write_times(Times(3, 2, 1))), Times(3, 2, 1))
+        equal_tref = bytes.fromhex("000001E0000084 810D 2100014651 0F86FE F100014651")
+        for times, tref_sent, header in ((Times(9000, 9000, 9000), False, pts_alone), (Times(9000, 9000, 9000), True, equal_tref),
+                                         (Times(12000, 12000, 12600), True, with_tref)):
+            self.assertEqual(read_times(header), Header(times, tref_sent, len(header)))
+            self.assertEqual(write_times(times, tref_sent), header)
+        self.assertEqual(read_times(write_times(Times(3, 2, 1), True)), Header(Times(3, 2, 1), True, 27))
         self.refused(Number.NOT_VIDEO_HEADER, 0, read_times, b"")
-        self.refused(Number.PTS_BEFORE_DTS, 0, write_times, Times(1, 2, 2))
-        self.refused(Number.TOO_WIDE, 0, write_times, Times(2**33, 2, 2))
+        self.refused(Number.PTS_BEFORE_DTS, 0, write_times, Times(1, 2, 2), False)
+        self.refused(Number.TOO_WIDE, 0, write_times, Times(2**33, 2, 2), False)
+        self.refused(Number.TOO_WIDE, 0, write_times, Times(12000, 12000, 12600), False)
+        self.refused(Number.TOO_WIDE, 0, write_times, Times(9000, 9000, 9000), 2)
 
     def test_every_number_has_its_name_and_its_words(self):
         self.assertEqual([number.value for number in Number], [*range(1, 18), *range(20, 26)])
@@ -149,11 +153,11 @@ class WorkedExamples(unittest.TestCase):
         for wrong in (1.0, 0.5, "1", None):
             for call in (lambda: closure(Reading.EDITION_2015, LOOP_A, wrong), lambda: join({0: ()}, 0, [Row(0, wrong, 0)]),
                          lambda: join({0: ()}, 0, [Row(0, 0, wrong)]), lambda: join({wrong: ()}, 0, []),
-                         lambda: write_times(Times(wrong, 0, 0)), lambda: write_loop([Entry(0x1B, wrong)]), lambda: read_loop(wrong, LOOP_A)):
+                         lambda: write_times(Times(wrong, 0, 0), False), lambda: write_loop([Entry(0x1B, wrong)]), lambda: read_loop(wrong, LOOP_A)):
                 self.assertRaises(TypeError, call)
         for wrong in (37, [0x1B], "loop"):
             self.assertRaises(TypeError, read_loop, Reading.EDITION_2015, wrong)
-        for call in (lambda: join({0: ()}, 0, [Row(0, -1, 0)]), lambda: write_loop([Entry(0x1B, -1)]), lambda: write_times(Times(-1, 0, 0))):
+        for call in (lambda: join({0: ()}, 0, [Row(0, -1, 0)]), lambda: write_loop([Entry(0x1B, -1)]), lambda: write_times(Times(-1, 0, 0), False)):
             self.assertRaises(ValueError, call)
 
     def test_all_kinds_of_bytes(self):
@@ -164,7 +168,7 @@ class WorkedExamples(unittest.TestCase):
 
     def test_what_is_too_long_is_not_copied(self):
         long = bytes(50_000_000)
-        header = write_times(Times(3, 2, 1))
+        header = write_times(Times(3, 2, 1), True)
         began = time.monotonic()
         for kind in (bytes, memoryview):
             self.refused(Number.LOOP_TOO_LONG, 0, read_loop, Reading.EDITION_2015, kind(long))
@@ -172,7 +176,7 @@ class WorkedExamples(unittest.TestCase):
             self.refused(Number.NOT_VIDEO_HEADER, 0, read_times, kind(long))
         self.refused(Number.OUT_OF_RANGE, 0, join, {0: ()}, 0, (Row(0, k, k) for k in range(10**12)))
         self.assertLess(time.monotonic() - began, 1)
-        self.assertEqual(read_times(header + long), Times(3, 2, 1))
+        self.assertEqual(read_times(header + long), Header(Times(3, 2, 1), True, len(header)))
 
     def test_more_entries_than_a_loop_has(self):
         for last in (201, 202, 403, 1000, 10_000):
@@ -187,7 +191,7 @@ class WorkedExamples(unittest.TestCase):
     def test_the_longest_header(self):
         # PTS, then stuffing up to the most that PES_header_data_length can say
         header = bytes.fromhex("000001E0000084 80FF 2100014651") + b"\xff" * 250
-        self.assertEqual(read_times(header + b"more"), Times(9000, 9000, 9000))
+        self.assertEqual(read_times(header + b"more"), Header(Times(9000, 9000, 9000), False, len(header)))
         self.refused(Number.NOT_VIDEO_HEADER, 0, read_times, header[:-1])
 
     def test_what_is_offered(self):

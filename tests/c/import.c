@@ -144,23 +144,33 @@ static void times(void)
     const uint8_t with_tref[] = {
         0x00, 0x00, 0x01, 0xE0, 0x00, 0x00, 0x84, 0x81, 0x0D, 0x21, 0x00, 0x01, 0x5D, 0xC1, 0x0F, 0x86, 0xFE, 0xF1, 0x00, 0x01, 0x62, 0x71,
     };
-    uint64_t read[3];
+    uint64_t read[5];
     uint8_t written[sizeof with_tref];
 
-    EXPECT(thq_read_times(with_tref, sizeof with_tref, read, 2) == 17);
-    EXPECT(thq_read_times(with_tref, sizeof with_tref, read, 3) == 3 * 256);
-    EXPECT(read[0] == 12000 && read[1] == 12000 && read[2] == 12600);
-    EXPECT(thq_write_times(12000, 12000, 12600, written, sizeof written - 1) == 17);
-    EXPECT(thq_write_times(12000, 12000, 12600, written, sizeof written) == 256 * sizeof written);
+    EXPECT(thq_read_times(with_tref, sizeof with_tref, read, 4) == 17);
+    EXPECT(thq_read_times(with_tref, sizeof with_tref, read, 5) == 5 * 256);
+    EXPECT(read[0] == 12000 && read[1] == 12000 && read[2] == 12600 && read[3] == 1 && read[4] == sizeof with_tref);
+    EXPECT(thq_write_times(12000, 12000, 12600, 1, written, sizeof written - 1) == 17);
+    EXPECT(thq_write_times(12000, 12000, 12600, 1, written, sizeof written) == 256 * sizeof written);
     EXPECT(memcmp(written, with_tref, sizeof written) == 0);
-    EXPECT(thq_write_times(12000, 12000, UINT64_MAX, written, 0) == THQ_REFUSED_TOO_WIDE);
+    EXPECT(thq_write_times(12000, 12000, UINT64_MAX, 1, written, 0) == THQ_REFUSED_TOO_WIDE);
+    EXPECT(thq_write_times(12000, 12000, 12600, 0, written, 0) == THQ_REFUSED_TOO_WIDE);
+    EXPECT(thq_write_times(12000, 12000, 12600, 2, written, 0) == THQ_REFUSED_TOO_WIDE);
+
+    /* a TREF that equals the decoding time is written where it is asked for, and read as sent */
+    EXPECT(thq_write_times(12000, 12000, 12000, 1, written, sizeof written) == 256 * sizeof written);
+    EXPECT(thq_read_times(written, sizeof written, read, 5) == 5 * 256);
+    EXPECT(read[2] == 12000 && read[3] == 1 && read[4] == sizeof written);
+    EXPECT(thq_write_times(12000, 12000, 12000, 0, written, sizeof written) == 256 * 14);
+    EXPECT(thq_read_times(written, sizeof written, read, 5) == 5 * 256);
+    EXPECT(read[2] == 12000 && read[3] == 0 && read[4] == 14);
 }
 
 /* A buffer of no elements may be null, in every place of every call. */
 static void null_buffers(void)
 {
     uint64_t summary[] = {77, 77, 77};
-    uint64_t read[3];
+    uint64_t read[5];
 
     EXPECT(thq_read_loop(THQ_2015, NULL, 0, NULL, 0) == 0);
     EXPECT(thq_read_loop(THQ_2015, loop_a, sizeof loop_a, NULL, 0) == THQ_REFUSED_NO_ROOM);
@@ -168,8 +178,8 @@ static void null_buffers(void)
     EXPECT(thq_closure(THQ_2009, NULL, 0, 0, NULL, 0) == THQ_REFUSED_NO_SUCH_LAYER);
     EXPECT(thq_closure(THQ_2015, loop_a, sizeof loop_a, 1, NULL, 0) == THQ_REFUSED_NO_ROOM);
     EXPECT(thq_read_times(NULL, 0, NULL, 0) == THQ_REFUSED_NO_ROOM);
-    EXPECT(thq_read_times(NULL, 0, read, 3) == THQ_REFUSED_NOT_VIDEO_HEADER);
-    EXPECT(thq_write_times(9000, 9000, 9000, NULL, 0) == THQ_REFUSED_NO_ROOM);
+    EXPECT(thq_read_times(NULL, 0, read, 5) == THQ_REFUSED_NOT_VIDEO_HEADER);
+    EXPECT(thq_write_times(9000, 9000, 9000, 0, NULL, 0) == THQ_REFUSED_NO_ROOM);
     EXPECT(thq_join(1, NULL, 0, 0, NULL, 0, NULL, 0, NULL, 0, NULL, 0, NULL, 0, NULL, 0) == THQ_REFUSED_NO_ROOM);
     EXPECT(thq_join(1, NULL, 0, 0, NULL, 0, NULL, 0, NULL, 0, NULL, 0, NULL, 0, summary, 3) == 0);
     EXPECT(summary[0] == 1 && summary[1] == 0 && summary[2] == 0);

@@ -7,7 +7,7 @@
 static void write_header(uint64_t pts, uint64_t dts)
 {
     uint8_t out[HEADER_ROOM];
-    uint64_t answer = thq_write_times(pts, dts, dts, out, sizeof out);
+    uint64_t answer = thq_write_times(pts, dts, dts, 0, out, sizeof out);
     if (THQ_NUMBER(answer) == 0)
         print_bytes(out, THQ_VALUE(answer));
     else
@@ -16,8 +16,8 @@ static void write_header(uint64_t pts, uint64_t dts)
 
 static void read_header(const uint8_t *bytes, size_t length)
 {
-    uint64_t times[3];
-    uint64_t answer = thq_read_times(bytes, length, times, 3);
+    uint64_t times[5];
+    uint64_t answer = thq_read_times(bytes, length, times, 5);
     if (THQ_NUMBER(answer) == 0)
         printf("pts %" PRIu64 " decoding %" PRIu64 "\n", times[0], times[1]);
     else

@@ -8,7 +8,7 @@
 use Rattle.promised.specs.Calls.{Promised}
 use Rattle.promised.specs.Readers.{readLoop, loop-read, closureOfTarget, closure-found, closureOfLoop, loop-closure-found, readTimes, times-read}
 use Rattle.promised.specs.Writers.{writeLoop, loop-written, writeTimes, times-written}
-use Rattle.promised.specs.Joiners.{joinRows, rows-joined, importLoop, loop-imported}
+use Rattle.promised.specs.Joiners.{joinTable, table-joined, joinRows, rows-joined, importLoop, loop-imported}
 use Rattle.demands.specs.Told.{forC}
 use Rattle.demands.specs.ForC.{thqReadLoop, thqWriteLoop, thqClosure, thqReadTimes, thqWriteTimes, thqJoin, thqImport}
 use Rattle.demands.specs.ForCShown.{thq-loop-read, thq-loop-written, thq-closure-found, thq-times-read, thq-times-written, thq-rows-joined, thq-loop-imported}
@@ -26,6 +26,8 @@ pub record Demand-1 : Type 0 where
   pub reading-times : Promised readTimes
   -- 17, 24, 25
   pub writing-times : Promised writeTimes
+  -- 13 to 17, over the closure that was found
+  pub joining-a-table : Promised joinTable
   -- 11 to 17
   pub joining-rows : Promised joinRows
   -- 1 to 17
@@ -54,6 +56,7 @@ demand-1 =
       closure-from-a-loop = loop-closure-found;
       reading-times = times-read;
       writing-times = times-written;
+      joining-a-table = table-joined;
       joining-rows = rows-joined;
       importing = loop-imported;
       thq-read-loop = thq-loop-read;

@@ -7,11 +7,13 @@
 -- those of the PES header. A row's match time is its TREF, or its decoding time without one: `matchOf` of PES reading.
 -- Assumes nothing.
 use Prim.Native.Nat.{ℕ, _≤_}
+use mathlib.Core.Bool.{Bool}
 use mathlib.Core.List.{List, [], map}
 use mathlib.Core.Logic.{_↔_}
 use mathlib.Core.Path.{_≡_, sym, _∙_}
 use lib.IntN.{ℤ}
 use lib.ListN.{length, take}
+use Rattle.buffers.specs.Buffers.{over}
 use Rattle.combinators.specs.Padding.{padTo}
 use Rattle.syntax.specs.Table.{AreBytes}
 use Rattle.vocabulary.specs.declared.refusal.Refusal.the-variants.{Unpaired, UsedTwice}
@@ -29,14 +31,17 @@ use Rattle.loop_round_trip.specs.ReadBack.{normal, Typed}
 use Rattle.loop_round_trip.specs.RoundTrip as loops
 use Rattle.loop_round_trip.specs.OwnShape.{OwnShape}
 use Rattle.loop_round_trip.specs.Rewriting as loops-again
-use Rattle.pes_reader.specs.declared.Answer.the-variants as Times
+use Rattle.stamps.specs.declared.Times.{Times}
+use Rattle.pes_reader.specs.declared.Answer.the-variants as Answer
+use Rattle.pes_reader.specs.declared.Header.{Header as HeaderRead}
 use Rattle.pes_writer.specs.declared.Written.the-variants as Header
 use Rattle.pes_reader.specs.Reading.{readOf}
 use Rattle.pes_writer.specs.Writing.{headerOf, writeOf, bufferOf}
 use Rattle.pes_writer.specs.OwnShape.{OwnShape as OwnHeader}
 use Rattle.pes.specs.RoundTrips as times
 use Rattle.closure.specs.declared.Layers.{Layers}
-use Rattle.closure.specs.Meaning.{RestsOn}
+use Rattle.closure.specs.declared.Closure.the-variants.{Complete}
+use Rattle.closure.specs.Meaning.{RestsOn, Answers as ClosureAnswers}
 use Rattle.loop_layers.specs.Meaning.{LayersOf}
 use Rattle.joining.specs.declared.answer.Joined.{Joined}
 use Rattle.joining.specs.declared.answer.Joined.the-variants.{Units, Refused}
@@ -65,14 +70,17 @@ pub record ReadAndWritten : Type 0 where
       → (room : ℕ) → length loop ≤ room
       → (answer room ((loopRead Edition2015 loop) .count) ((loopRead Edition2015 loop) .entries) ≡ Loop.Bytes (length loop))
       × (loopBytes (take ((loopRead Edition2015 loop) .count) ((loopRead Edition2015 loop) .entries)) ≡ loop)
-  pub times-read-back : (pts decoding matching : ℕ) (out : List ℕ) {size : ℕ} → writeOf pts decoding matching (length out) ≡ Header.Bytes size
-      → readOf (bufferOf (Header.Bytes size) (headerOf pts decoding matching) out) ≡ Times.Times pts decoding matching
-  pub times-rewritten : {bytes : List ℕ} {a b c : ℕ} → OwnHeader bytes a b c → (pts decoding matching : ℕ)
-      → readOf bytes ≡ Times.Times pts decoding matching → headerOf pts decoding matching ≡ bytes
+  pub times-read-back : (times : Times) (withTref : Bool) (out : List ℕ) {size : ℕ} → writeOf times withTref (length out) ≡ Header.Bytes size
+      → readOf (bufferOf (Header.Bytes size) (headerOf times withTref) out) ≡ Answer.Read (record { times = times; «tref_sent» = withTref; end = size })
+  pub times-rewritten : {bytes : List ℕ} {times : Times} {withTref : Bool} → OwnHeader bytes times withTref → (header : HeaderRead)
+      → readOf bytes ≡ Answer.Read header → (out : List ℕ) → length bytes ≤ length out
+      → (writeOf (header .times) (header .«tref_sent») (length out) ≡ Header.Bytes (length bytes))
+      × (bufferOf (Header.Bytes (length bytes)) (headerOf (header .times) (header .«tref_sent»)) out ≡ over bytes out)
 
 -- THE UNITS of an accepted table, and what the two lists then hold: over a closure, a table in range and in order, and no row in two units
 pub record OneUnitEach (given : RowsGiven) (closure units left : ℕ) (after : Lists) : Type 0 where
-  pub in-order : InOrder (given .layers) (given .target) closure (given .rows)
+  pub closed : ClosureAnswers (given .layers) (given .target) (Complete closure)
+  pub in-order : InOrder (given .layers) (given .target) (given .rows)
   pub in-one-unit : NoRow (given .rows) (SharesRow (given .layers) (given .target) (given .rows))
   pub accepted : Accepted (given .layers) (given .target) (given .rows) (given .lists .numbers) (given .lists .lags) units left (after .numbers) (after .lags)
 
@@ -87,13 +95,15 @@ pub record OneUnitEachOfLoop (given : ImportGiven) (closure units left : ℕ) (a
 -- 'unpaired exactly when some unit has no such choice': at the first target row that has none
 pub record FirstUnpaired (given : RowsGiven) (row : ℕ) : Type 0 where
   pub closure : ℕ
-  pub in-order : InOrder (given .layers) (given .target) closure (given .rows)
+  pub closed : ClosureAnswers (given .layers) (given .target) (Complete closure)
+  pub in-order : InOrder (given .layers) (given .target) (given .rows)
   pub first : FirstRow (given .rows) (NoAssembly (given .layers) (given .target) (given .rows)) row
 
 -- 'otherwise as used twice exactly when two units would share a component': at the first target row whose unit shares one with an earlier
 pub record FirstSharing (given : RowsGiven) (row : ℕ) : Type 0 where
   pub closure : ℕ
-  pub in-order : InOrder (given .layers) (given .target) closure (given .rows)
+  pub closed : ClosureAnswers (given .layers) (given .target) (Complete closure)
+  pub in-order : InOrder (given .layers) (given .target) (given .rows)
   pub all-paired : NoRow (given .rows) (NoAssembly (given .layers) (given .target) (given .rows))
   pub first : FirstRow (given .rows) (SharesRow (given .layers) (given .target) (given .rows)) row
 
@@ -110,8 +120,8 @@ pub record Joins : Type 0 where
   pub used-twice : (run : joinRows .Ran) → joinRows .Ensures run → (row : ℕ)
       → (joinRows .answer run ≡ Refused (UsedTwice row)) ↔ FirstSharing (joinRows .given run) row
   -- a target row has no two assemblies
-  pub one-choice : (layers : Layers) (target closure : ℕ) (rows : Table) → InOrder layers target closure rows → (head : ℕ) → TargetRow target rows head
-      → (choice other : ℕ → ℕ) → Assembles layers target rows head choice → Assembles layers target rows head other
+  pub one-choice : (layers : Layers) (target closure : ℕ) (rows : Table) → ClosureAnswers layers target (Complete closure) → InOrder layers target rows
+      → (head : ℕ) → TargetRow target rows head → (choice other : ℕ → ℕ) → Assembles layers target rows head choice → Assembles layers target rows head other
       → (layer : ℕ) → RestsOn layers target layer → choice layer ≡ other layer
 
 pub record Demand-2 : Type 0 where
@@ -121,7 +131,7 @@ pub record Demand-2 : Type 0 where
 -- what the meaning says of units
 one-unit-each : {given : RowsGiven} {after : Lists} {closure units left : ℕ} → joinRows .Means given (Units closure units left) after
     → OneUnitEach given closure units left after
-one-unit-each (Joining.joined o s a) = record { in-order = o; in-one-unit = s; accepted = a }
+one-unit-each (Joining.over-closure c (Joining.joined o s a)) = record { closed = c; in-order = o; in-one-unit = s; accepted = a }
 
 units-meant : {given : RowsGiven} {answer : Joined} {lists after : Lists} {closure units left : ℕ} → joinRows .Means given answer lists
     → answer ≡ Units closure units left → lists ≡ after → OneUnitEach given closure units left after
@@ -155,31 +165,31 @@ demand-2 =
         loop-read-back = λ room count array typed e. loops.read-back room count array typed e;
         loop-rewritten = λ loop bytes own accepted room large. loops-again.rewrite loop bytes own accepted room large;
         times-read-back = times.reading-what-was-written;
-        times-rewritten = λ own pts decoding matching read. times.rewriting-what-was-read own pts decoding matching read;
+        times-rewritten = λ own header read out room. times.rewritten own header read out room;
       };
       joins = record {
         units = λ run ensured closure units left after. (
           λ e. units-meant {given = joinRows .given run} (rows-joined .right run ensured) (e .0) (e .1),
           λ u. rows-joined .no-other (joinRows .given run) {beside = after} (rows-joined .right run ensured)
-              (Joining.joined (u .in-order) (u .in-one-unit) (u .accepted)),
+              (Joining.over-closure (u .closed) (Joining.joined (u .in-order) (u .in-one-unit) (u .accepted))),
         );
         units-of-loop = λ run ensured closure units left after. (
           λ e. imported-meant {given = importLoop .given run} (loop-imported .right run ensured) (e .0) (e .1),
           λ u. (let each = u .one-unit-each in
               loop-imported .no-other (importLoop .given run) {beside = after} (loop-imported .right run ensured)
               (Import.loop-accepted (u .streams) (u .loop-accepted) (u .layers-of-loop)
-              (Joining.joined (each .in-order) (each .in-one-unit) (each .accepted)))),
+              (Joining.over-closure (each .closed) (Joining.joined (each .in-order) (each .in-one-unit) (each .accepted))))),
         );
         unpaired = λ run ensured row. (let same = rowsJoinedComputed .ensured run ensured .0 in (
-          λ e. (let w = joining.given-15 (joinRows .given run .layers) (joinRows .given run .target) (joinRows .given run .rows) (joinRows .given run .lists .numbers) (joinRows .given run .lists .lags) row .0 (sym same ∙ e) in record { closure = w .0; in-order = w .1; first = w .2 }),
-          λ u. same ∙ joining.given-15 (joinRows .given run .layers) (joinRows .given run .target) (joinRows .given run .rows) (joinRows .given run .lists .numbers) (joinRows .given run .lists .lags) row .1 (u .closure, u .in-order, u .first),
+          λ e. (let w = joining.given-15 (joinRows .given run .layers) (joinRows .given run .target) (joinRows .given run .rows) (joinRows .given run .lists .numbers) (joinRows .given run .lists .lags) row .0 (sym same ∙ e) in record { closure = w .0; closed = w .1; in-order = w .2; first = w .3 }),
+          λ u. same ∙ joining.given-15 (joinRows .given run .layers) (joinRows .given run .target) (joinRows .given run .rows) (joinRows .given run .lists .numbers) (joinRows .given run .lists .lags) row .1 (u .closure, u .closed, u .in-order, u .first),
         ));
         used-twice = λ run ensured row. (let same = rowsJoinedComputed .ensured run ensured .0 in (
           λ e. (let w = joining.given-16 (joinRows .given run .layers) (joinRows .given run .target) (joinRows .given run .rows) (joinRows .given run .lists .numbers) (joinRows .given run .lists .lags) row .0 (sym same ∙ e) in
-              record { closure = w .0; in-order = w .1; all-paired = w .2; first = w .3 }),
-          λ u. same ∙ joining.given-16 (joinRows .given run .layers) (joinRows .given run .target) (joinRows .given run .rows) (joinRows .given run .lists .numbers) (joinRows .given run .lists .lags) row .1 (u .closure, u .in-order, u .all-paired, u .first),
+              record { closure = w .0; closed = w .1; in-order = w .2; all-paired = w .3; first = w .4 }),
+          λ u. same ∙ joining.given-16 (joinRows .given run .layers) (joinRows .given run .target) (joinRows .given run .rows) (joinRows .given run .lists .numbers) (joinRows .given run .lists .lags) row .1 (u .closure, u .closed, u .in-order, u .all-paired, u .first),
         ));
-        one-choice = λ layers target closure rows ordered head is-target choice other a b layer rests.
-            joining.at-most-one-assembly layers target rows [] [] closure ordered head is-target choice other a b layer rests;
+        one-choice = λ layers target closure rows closed ordered head is-target choice other a b layer rests.
+            joining.at-most-one-assembly layers target rows [] [] closure closed ordered head is-target choice other a b layer rests;
       };
     }

@@ -3,7 +3,7 @@
 use Prim.Native.Nat.{ℕ, _*_}
 use mathlib.Core.Bool.{cond}
 use mathlib.Core.List.{List, [], _∷_, _++_}
-use lib.Dec.{ltb}
+use lib.Dec.{eqb, ltb}
 use lib.IntN.{ℤ}
 use lib.ListN.{length, take}
 use denote.Ref.{now}
@@ -44,7 +44,7 @@ use Rattle.thoquenry.proofs.thq_import.Reads as imports
 use Rattle.promised.specs.Calls.{Run}
 use Rattle.demands.specs.Told.{ForC, Told, counts, refuses, not-a-call, Says, Retells, If, ByYear}
 use Rattle.promised.specs.Readers.{readLoop, closureOfLoop, readTimes}
-use Rattle.promised.specs.Writers.{writeLoop, writeTimes}
+use Rattle.promised.specs.Writers.{writeLoop, TimesGiven, writeTimes}
 use Rattle.promised.specs.Joiners.{Lists, joinRows, importLoop}
 
 -- ---- thq_read_loop
@@ -151,12 +151,15 @@ pub record ReadTimesGiven : Type 0 where
   pub bytes : List ℕ
   pub times : List ℕ
 
--- '`times` receives three numbers: PTS, decoding time and match time. Counts them, 3.'
+-- '`times` receives five numbers: PTS, decoding time and match time; 1 where a TREF stood in the header, and else 0; and the offset at which the
+-- header ends. Counts them, 5.'
 abbrev pub timesTold : Answer → List ℕ → Told (List ℕ)
-timesTold (Answer.Times pts decoding matching) room = counts 3 (over (pts ∷ decoding ∷ matching ∷ []) room)
+timesTold (Answer.Read header) room =
+    counts 5
+    (over (header .times .pts ∷ header .times .decoding ∷ header .times .matching ∷ cond (header .«tref_sent») 1 0 ∷ header .end ∷ []) room)
 timesTold (Answer.Refused refusal) room = refuses refusal
 
--- 'Refusals: 17 where `times_length` is below 3; then 20 to 24.'
+-- 'Refusals: 17 where `times_length` is below 5; then 20 to 24.'
 abbrev pub thqReadTimes : ForC
 thqReadTimes =
     record {
@@ -170,7 +173,7 @@ thqReadTimes =
       before = λ given. given .times;
       after = λ run. now (run .left .1 .0);
       numbers = 17 ∷ readTimes .numbers;
-      Means = λ given answer after. If (ltb (length (given .times)) 3) (Says (refuses NoRoom) (given .times) answer after)
+      Means = λ given answer after. If (ltb (length (given .times)) 5) (Says (refuses NoRoom) (given .times) answer after)
           (Retells readTimes (given .bytes) (λ read nothing. timesTold read (given .times)) (given .times) answer after);
     }
 
@@ -180,14 +183,24 @@ pub record WriteTimesGiven : Type 0 where
   pub pts : ℕ
   pub decoding : ℕ
   pub matching : ℕ
+  pub withTref : ℕ
   pub out : List ℕ
+
+abbrev pub timesGiven : WriteTimesGiven → TimesGiven
+timesGiven given =
+    record {
+      times = record { pts = given .pts; decoding = given .decoding; matching = given .matching };
+      withTref = eqb (given .withTref) 1;
+      out = given .out;
+    }
 
 -- 'Counts the bytes written to `out`.'
 abbrev pub timesWrittenTold : TimesWritten → List ℕ → Told (List ℕ)
 timesWrittenTold (TimesWritten.Bytes count) left = counts count left
 timesWrittenTold (TimesWritten.Refused refusal) left = refuses refusal
 
--- 'Refusals: 25 where a time is 2^33 or more; then 17, 24.'
+-- 'Refusals: 25 where a time is 2^33 or more, where `with_tref` is above 1, and where it is 0 although the match time is not the decoding time; then
+-- 17, 24.'
 abbrev pub thqWriteTimes : ForC
 thqWriteTimes =
     record {
@@ -196,13 +209,19 @@ thqWriteTimes =
       Ensures = λ run. write-times.Post (run .lifetimes) (run .handed) (run .answer) (run .left);
       Given = WriteTimesGiven;
       Buffers = List ℕ;
-      given = λ run. record { pts = run .handed .0; decoding = run .handed .1 .0; matching = run .handed .1 .1 .0; out = now (run .handed .1 .1 .1 .0) };
+      given = λ run. record {
+        pts = run .handed .0;
+        decoding = run .handed .1 .0;
+        matching = run .handed .1 .1 .0;
+        withTref = run .handed .1 .1 .1 .0;
+        out = now (run .handed .1 .1 .1 .1 .0);
+      };
       answer = λ run. run .answer;
       before = λ given. given .out;
-      after = λ run. now (run .left .1 .1 .1 .0);
+      after = λ run. now (run .left .1 .1 .1 .1 .0);
       numbers = writeTimes .numbers;
-      Means = λ given. Retells writeTimes (record { pts = given .pts; decoding = given .decoding; matching = given .matching; out = given .out })
-          timesWrittenTold (given .out);
+      Means = λ given answer after. If (ltb 1 (given .withTref)) (Says (refuses TooWide) (given .out) answer after)
+          (Retells writeTimes (timesGiven given) timesWrittenTold (given .out) answer after);
     }
 
 -- ---- thq_join and thq_import

@@ -41,7 +41,7 @@ use Rattle.entry_rows.specs.Rows.{rowsOf, someTooWide, rowCount, entriesIn}
 use Rattle.thoquenry.specs.declared.answers.Asked.{Asked}
 use Rattle.thoquenry.specs.Answers.{accepted, askedFor, Reply, reply, unchanged}
 use Rattle.thoquenry.specs.Loops.{loopLaid, rowsAsked, readLoop as cReadLoop, loopWritten, writeLoop as cWriteLoop, closureLaid, closureAsked, closureCall}
-use Rattle.thoquenry.specs.Times.{timesRead, readTimes as cReadTimes, bytesWritten}
+use Rattle.thoquenry.specs.Times.{timesRead, readTimes as cReadTimes, bytesWritten, timesWritten, writeTimes as cWriteTimes}
 use Rattle.thoquenry.specs.Joins.{JoinReply, layersGiven, withSummary, joinReply, joinCall, importAsked}
 use Rattle.thoquenry.specs.Bounds.{SmallTimes, small-read, SmallHeader, small-header, SmallOutcome, small-loop, SmallWritten, small-written, SmallClosure, small-closure, size-short, Few, few-joined, few-imported, few-places}
 use Rattle.promised.specs.Calls.{isListed, Promised}
@@ -51,7 +51,7 @@ use Rattle.demands.specs.ToldShown.{code, leaves, numberTold, Fits, told
 use Rattle.promised.specs.Readers.{outcomeNumber, readLoop, loopReadComputed, LoopTargetGiven, closureNumber, closureOfLoop, loopClosureComputed, timesNumber, readTimes, timesReadComputed}
 use Rattle.promised.specs.Writers.{EntriesGiven, TimesGiven, writtenNumber, writeLoop, loopWrittenComputed, timesWrittenNumber, writeTimes, timesWrittenComputed}
 use Rattle.promised.specs.Joiners.{Lists, RowsGiven, joinedNumber, joinRows, rowsJoinedComputed, ImportGiven as BaseImportGiven, importLoop, importComputed}
-use Rattle.demands.specs.ForC.{ReadLoopGiven, loopTold, loopReadTold, thqReadLoop, WriteLoopGiven, writtenTold, thqWriteLoop, ClosureGiven, closureTold, thqClosure, ReadTimesGiven, timesTold, thqReadTimes, WriteTimesGiven, timesWrittenTold, thqWriteTimes, Three, two, joinedTold, JoinGiven, thqJoin, ImportGiven, thqImport}
+use Rattle.demands.specs.ForC.{ReadLoopGiven, loopTold, loopReadTold, thqReadLoop, WriteLoopGiven, writtenTold, thqWriteLoop, ClosureGiven, closureTold, thqClosure, ReadTimesGiven, timesTold, thqReadTimes, WriteTimesGiven, timesGiven, timesWrittenTold, thqWriteTimes, Three, two, joinedTold, JoinGiven, thqJoin, ImportGiven, thqImport}
 
 -- ---- one buffer
 
@@ -222,27 +222,27 @@ thq-closure-found =
 -- ---- thq_read_times
 
 times-tells : (read : Answer) (room : List ℕ) → Tells (timesTold read room) room (timesRead read room)
-times-tells (Answer.Times pts decoding matching) room = (refl, refl)
+times-tells (Answer.Read header) room = (refl, refl)
 times-tells (Answer.Refused refusal) room = (refl, refl)
 
 times-fits : (read : Answer) (room : List ℕ) → SmallTimes read → Fits (timesTold read room)
-times-fits (Answer.Times pts decoding matching) room h = omega arith
+times-fits (Answer.Read header) room h = omega arith
 times-fits (Answer.Refused refusal) room h = h
 
 times-listed : (read : Answer) (room : List ℕ) → isListed (readTimes .numbers) (timesNumber read) ≡ true
     → isListed (thqReadTimes .numbers) (numberTold (timesTold read room)) ≡ true
-times-listed (Answer.Times pts decoding matching) room e = refl
+times-listed (Answer.Read header) room e = refl
 times-listed (Answer.Refused refusal) room e = listed-second (17 ∷ []) (readTimes .numbers) (some (numberOf refusal)) e
 
 abbrev timesSaid : ReadTimesGiven → Told (List ℕ)
 timesSaid given = timesTold (readOf (given .bytes)) (given .times)
 
 abbrev toldReadTimes : ReadTimesGiven → Told (List ℕ)
-toldReadTimes given = cond (ltb (length (given .times)) 3) (refuses NoRoom) (timesSaid given)
+toldReadTimes given = cond (ltb (length (given .times)) 5) (refuses NoRoom) (timesSaid given)
 
 read-times-replied : (given : ReadTimesGiven) → Tells (toldReadTimes given) (given .times) (cReadTimes (given .bytes) (given .times))
 read-times-replied given =
-    tells-either (ltb (length (given .times)) 3) (refuses NoRoom) (timesSaid given) (given .times)
+    tells-either (ltb (length (given .times)) 5) (refuses NoRoom) (timesSaid given) (given .times)
     (unchanged NoRoom (given .times)) (timesRead (readOf (given .bytes)) (given .times)) (refl, refl) (times-tells (readOf (given .bytes)) (given .times))
 
 pub thq-times-read : Promised (forC thqReadTimes)
@@ -250,33 +250,40 @@ thq-times-read =
     told-promised thqReadTimes toldReadTimes (record {
       asks-nothing = λ run. tt;
       ensured = λ run e. (let replied = read-times-replied (thqReadTimes .given run) in (e .0 ∙ replied .0, e .1 ∙ replied .1));
-      exactly = λ given answer after. if-told (ltb (length (given .times)) 3) (refuses NoRoom) (timesSaid given) (given .times) answer after
+      exactly = λ given answer after. if-told (ltb (length (given .times)) 5) (refuses NoRoom) (timesSaid given) (given .times) answer after
           (λ s. s, λ s. s) (retold timesReadComputed (given .bytes) (λ read nothing. timesTold read (given .times)) (given .times) answer after);
-      fits = λ given. either-way Fits (ltb (length (given .times)) 3) (refuses NoRoom) (timesSaid given) (omega arith)
+      fits = λ given. either-way Fits (ltb (length (given .times)) 5) (refuses NoRoom) (timesSaid given) (omega arith)
           (times-fits (readOf (given .bytes)) (given .times) (small-read (given .bytes)));
-      listed = λ given. either-way (λ (t : Told (List ℕ)). isListed (thqReadTimes .numbers) (numberTold t) ≡ true) (ltb (length (given .times)) 3) (refuses NoRoom)
+      listed = λ given. either-way (λ (t : Told (List ℕ)). isListed (thqReadTimes .numbers) (numberTold t) ≡ true) (ltb (length (given .times)) 5) (refuses NoRoom)
           (timesSaid given) refl (times-listed (readOf (given .bytes)) (given .times) (timesReadComputed .listed (given .bytes)));
       without-0 = refl;
     })
 
 -- ---- thq_write_times
 
-abbrev timesGiven : WriteTimesGiven → TimesGiven
-timesGiven given = record { pts = given .pts; decoding = given .decoding; matching = given .matching; out = given .out }
+abbrev headerWritten : TimesGiven → TimesWritten
+headerWritten given = writeOf (given .times) (given .withTref) (length (given .out))
 
-abbrev headerWritten : WriteTimesGiven → TimesWritten
-headerWritten given = writeOf (given .pts) (given .decoding) (given .matching) (length (given .out))
+abbrev headerBy : TimesGiven → TimesWritten → List ℕ
+headerBy given written = bufferOf written (headerOf (given .times) (given .withTref)) (given .out)
 
-abbrev headerBy : WriteTimesGiven → TimesWritten → List ℕ
-headerBy given written = bufferOf written (headerOf (given .pts) (given .decoding) (given .matching)) (given .out)
+abbrev headerSaid : TimesGiven → Told (List ℕ)
+headerSaid given = timesWrittenTold (headerWritten given) (headerBy given (headerWritten given))
 
 abbrev toldWriteTimes : WriteTimesGiven → Told (List ℕ)
-toldWriteTimes given = timesWrittenTold (headerWritten given) (headerBy given (headerWritten given))
+toldWriteTimes given = cond (ltb 1 (given .withTref)) (refuses TooWide) (headerSaid (timesGiven given))
 
-header-tells : (given : WriteTimesGiven) (written : TimesWritten)
+header-tells : (given : TimesGiven) (written : TimesWritten)
     → Tells (timesWrittenTold written (headerBy given written)) (given .out) (reply (bytesWritten written) (headerBy given written))
 header-tells given (TimesWritten.Bytes count) = (refl, refl)
 header-tells given (TimesWritten.Refused refusal) = (refl, refl)
+
+write-times-replied : (given : WriteTimesGiven)
+    → Tells (toldWriteTimes given) (given .out) (cWriteTimes (given .pts) (given .decoding) (given .matching) (given .withTref) (given .out))
+write-times-replied given =
+    let header : TimesGiven = timesGiven given in
+    tells-either (ltb 1 (given .withTref)) (refuses TooWide) (headerSaid header) (given .out)
+    (unchanged TooWide (given .out)) (timesWritten (header .times) (header .withTref) (given .out)) (refl, refl) (header-tells header (headerWritten header))
 
 header-fits : (written : TimesWritten) (left : List ℕ) → SmallHeader written → Fits (timesWrittenTold written left)
 header-fits (TimesWritten.Bytes count) left h = h
@@ -291,10 +298,16 @@ pub thq-times-written : Promised (forC thqWriteTimes)
 thq-times-written =
     told-promised thqWriteTimes toldWriteTimes (record {
       asks-nothing = λ run. tt;
-      ensured = λ run e. (let given = thqWriteTimes .given run in let replied = header-tells given (headerWritten given) in (e .0 ∙ replied .0, e .1 ∙ replied .1));
-      exactly = λ given answer after. retold timesWrittenComputed (timesGiven given) timesWrittenTold (given .out) answer after;
-      fits = λ given. header-fits (headerWritten given) (headerBy given (headerWritten given)) (small-header (given .pts) (given .decoding) (given .matching) (length (given .out)));
-      listed = λ given. header-listed (headerWritten given) (headerBy given (headerWritten given)) (timesWrittenComputed .listed (timesGiven given));
+      ensured = λ run e. (let replied = write-times-replied (thqWriteTimes .given run) in (e .0 ∙ replied .0, e .1 ∙ replied .1));
+      exactly = λ given answer after. if-told (ltb 1 (given .withTref)) (refuses TooWide) (headerSaid (timesGiven given)) (given .out) answer after
+          (λ s. s, λ s. s) (retold timesWrittenComputed (timesGiven given) timesWrittenTold (given .out) answer after);
+      fits = λ given. either-way Fits (ltb 1 (given .withTref)) (refuses TooWide) (headerSaid (timesGiven given)) (omega arith)
+          (let header : TimesGiven = timesGiven given in
+          header-fits (headerWritten header) (headerBy header (headerWritten header)) (small-header (header .times) (header .withTref) (length (given .out))));
+      listed = λ given. either-way (λ (t : Told (List ℕ)). isListed (thqWriteTimes .numbers) (numberTold t) ≡ true) (ltb 1 (given .withTref)) (refuses TooWide)
+          (headerSaid (timesGiven given)) refl
+          (let header : TimesGiven = timesGiven given in
+          header-listed (headerWritten header) (headerBy header (headerWritten header)) (timesWrittenComputed .listed header));
       without-0 = refl;
     })
 

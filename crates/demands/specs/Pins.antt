@@ -43,10 +43,10 @@ pub record ForCPinned : Type 0 where
       ≡ 31 ∷ 300 ∷ 1 ∷ 1 ∷ 1 ∷ 0 ∷ 1 ∷ 1 ∷ 9 ∷ 0 ∷ 7 ∷ 42 ∷ 0 ∷ 0 ∷ 0 ∷ 0 ∷ 0 ∷ []
   pub extension-row : take 19 (drop 160 (readLoop 2015 distinct (replicate 240 5) .buffer))
       ≡ 41 ∷ 301 ∷ 2 ∷ 0 ∷ 0 ∷ 0 ∷ 0 ∷ 0 ∷ 12 ∷ 1 ∷ 0 ∷ 47 ∷ 0xABCD ∷ 6 ∷ 33 ∷ 2 ∷ 9 ∷ 7 ∷ 0 ∷ []
-  -- PTS, decoding time and match time
+  -- PTS, decoding time and match time, a TREF that stood there, and the end of the header
   pub times : readTimes
       (0x00 ∷ 0x00 ∷ 0x01 ∷ 0xE0 ∷ 0x00 ∷ 0x00 ∷ 0x84 ∷ 0xC1 ∷ 0x12 ∷ 0x31 ∷ 0x00 ∷ 0x01 ∷ 0x07 ∷ 0x09 ∷ 0x11 ∷ 0x00 ∷ 0x01 ∷ 0x04 ∷ 0xB1 ∷ 0x0F ∷ 0x86 ∷ 0xFE ∷ 0xF1 ∷ 0x00 ∷ 0x01 ∷ 0x02 ∷ 0x59 ∷ [])
-      (5 ∷ 5 ∷ 5 ∷ 5 ∷ []) ≡ reply (0 + 256 * 3) (900 ∷ 600 ∷ 300 ∷ 5 ∷ [])
+      (5 ∷ 5 ∷ 5 ∷ 5 ∷ 5 ∷ 5 ∷ []) ≡ reply (0 + 256 * 5) (900 ∷ 600 ∷ 300 ∷ 1 ∷ 27 ∷ 5 ∷ [])
   -- the closure's set, one unit, and two closure rows in none; two places written to each list
   pub imported : importCall 2015 distinct 9 spare (5 ∷ 5 ∷ 5 ∷ []) (pos 5 ∷ pos 5 ∷ []) (5 ∷ 5 ∷ 5 ∷ 5 ∷ [])
       ≡ leaves (0 + 256 * 2) (0 ∷ 1 ∷ 5 ∷ []) (negsuc 9 ∷ pos 0 ∷ []) (0b1010000000 ∷ 1 ∷ 2 ∷ 5 ∷ [])

@@ -2,6 +2,7 @@
 -- to one of the calls, with the answer that document 01 gives.
 -- Assumes nothing.
 use Prim.Native.Nat.{ℕ}
+use mathlib.Core.Bool.{Bool, false}
 use mathlib.Core.List.{List, [], _∷_}
 use mathlib.Core.Path.{_≡_, refl}
 use lib.IntN.{ℤ, pos, negsuc}
@@ -18,6 +19,7 @@ use Rattle.loop_layers.specs.Closures.{loopClosure}
 use Rattle.clock.specs.Clock.{distanceOf, lagOf}
 use Rattle.pes_reader.specs.declared.Answer.the-variants as Answer
 use Rattle.pes_writer.specs.declared.Written.the-variants as Written
+use Rattle.stamps.specs.declared.Times.{Times}
 use Rattle.pes_reader.specs.Reading.{readOf}
 use Rattle.pes_writer.specs.Writing.{headerOf, writeOf, bufferOf}
 use Rattle.joining.specs.declared.answer.Joined.{Joined}
@@ -34,7 +36,7 @@ pub data Case : Type 0 where
   lists-hold : Reading → List ℕ → ℕ → Table → List ℕ → List ℤ → Case
   distance-is : ℕ → ℕ → ℕ → Case
   lag-is : ℕ → ℕ → ℤ → Case
-  times-stand-in : ℕ → ℕ → ℕ → List ℕ → Case
+  times-stand-in : Times → Bool → List ℕ → Case
 
 -- what it says of the call: the two lists of an import have room for four numbers each, and the header of times is written and read
 abbrev pub Holds : Case → Type 0
@@ -46,10 +48,10 @@ Holds (lists-hold reading bytes target t numbers lags) =
     × (importedLags reading bytes target t (importOf reading bytes target t 4 4) (pos 7 ∷ pos 7 ∷ pos 7 ∷ pos 7 ∷ []) ≡ lags)
 Holds (distance-is a b distance) = distanceOf a b ≡ distance
 Holds (lag-is time target lag) = lagOf time target ≡ lag
-Holds (times-stand-in pts decoding matching bytes) =
-    (writeOf pts decoding matching (length bytes) ≡ Written.Bytes (length bytes))
-    × (bufferOf (Written.Bytes (length bytes)) (headerOf pts decoding matching) (replicate (length bytes) 7) ≡ bytes)
-    × (readOf bytes ≡ Answer.Times pts decoding matching)
+Holds (times-stand-in times withTref bytes) =
+    (writeOf times withTref (length bytes) ≡ Written.Bytes (length bytes))
+    × (bufferOf (Written.Bytes (length bytes)) (headerOf times withTref) (replicate (length bytes) 7) ≡ bytes)
+    × (readOf bytes ≡ Answer.Read (record { times = times; «tref_sent» = withTref; end = length bytes }))
 
 -- of a whole table: each of its cases
 abbrev pub AllHold : List Case → Type 0
@@ -96,7 +98,7 @@ starred =
     -- 'Lag of 4294967296 against 0: -4294967296.'
     ∷ lag-is 4294967296 0 (negsuc 4294967295)
     -- 'PTS 9000 alone: 00 00 01 E0 00 00 84 80 05 21 00 01 46 51.'
-    ∷ times-stand-in 9000 9000 9000
+    ∷ times-stand-in (record { pts = 9000; decoding = 9000; matching = 9000 }) false
     (0x00 ∷ 0x00 ∷ 0x01 ∷ 0xE0 ∷ 0x00 ∷ 0x00 ∷ 0x84 ∷ 0x80 ∷ 0x05 ∷ 0x21 ∷ 0x00 ∷ 0x01 ∷ 0x46 ∷ 0x51 ∷ [])
     ∷ []
 

@@ -91,8 +91,8 @@ module _ (t : Table) (closure : ℕ) (f : Frame) (numberRoom lagRoom : ℕ) (jud
             whole = whole;
             paired = λ k i. seek-first (unpaired t f) (rowsIn t) .before k
                 (subst (λ (n : ℕ). k < n) (sym none-unpaired ∙ found .no-assembly) i);
-            room-numbers = subst (λ (n : ℕ). n ≤ length numbers) places-is h;
-            room-lags = subst (λ (n : ℕ). n ≤ length lags) places-is l;
+            room-numbers = subst (λ (n : ℕ). n ≤ length numbers) (places-is ∙ sym (rows-long t f (rowsIn t))) h;
+            room-lags = subst (λ (n : ℕ). n ≤ length lags) (places-is ∙ sym (beside-long t f (rowsIn t))) l;
           }
 
 -- what was written lies over what stood there

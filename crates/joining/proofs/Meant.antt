@@ -1,4 +1,5 @@
--- What Joining computes is what Meaning says, and nothing else is: `joined-meant` and `joined-only`; and number by number, `given-13` to `given-17`.
+-- What Joining computes is what Meaning says, and nothing else is: `table-meant` and `table-only` of the table over a closure, `joined-meant` and
+-- `joined-only` of joining; and number by number, `given-11` to `given-17`.
 -- Assumes nothing.
 use Prim.Native.Nat.{ℕ, _*_, _≤_, _<_}
 use mathlib.Core.Bool.{Bool, true, false, not, _||_, true≢false}
@@ -30,13 +31,14 @@ use Rattle.assembling.specs.Assemblies.{membersOf}
 use Rattle.joining.specs.Units.{Frame, isTarget, unpaired, shares, firstUnpaired, firstShared, frameOf}
 use Rattle.joining.specs.Orderly.{Closed, Orderly}
 use Rattle.joining.proofs.Orderly.{closed}
-use Rattle.joining.specs.Joining.{places, unitsJoined, tableJoined, joinedIn, joinedOf, numbersAfter, lagsAfter}
-use Rattle.joining.specs.Meaning.{Assembles, NoAssembly, SharesRow, FirstRow, NoRow, WrongShape, unequal-decodings, unequal-matches, too-many-rows, RowOutOfRange, index-above-63, decoding-time, match-time, BreaksOrder, InOrder, TargetRow, Extent, TooSmall, for-numbers, for-lags, Accepted, Answers, no-closure, wrong-shape, out-of-range, order-broken, no-assembly, in-two-units, no-room, joined}
+use Rattle.joining.specs.Joining.{places, unitsJoined, tableJoined, joinedIn, joinedOf, framedNumbers, framedLags, numbersAfter, lagsAfter}
+use Rattle.joining.specs.Meaning.{Assembles, NoAssembly, SharesRow, FirstRow, NoRow, WrongShape, unequal-decodings, unequal-matches, too-many-rows, RowOutOfRange, index-above-63, decoding-time, match-time, BreaksOrder, InOrder, TargetRow, Extent, TooSmall, for-numbers, for-lags, Accepted, AnswersOver, wrong-shape, out-of-range, order-broken, no-assembly, in-two-units, no-room, joined, Answers, no-closure, over-closure}
 use Rattle.joining.proofs.Chosen.{unpaired-means, means-unpaired}
 use Rattle.joining.proofs.Shared.{shares-means, means-shares}
 use Rattle.joining.proofs.FirstRows.{found, none, is-first, is-none}
 use Rattle.joining.proofs.Ordering.{means-breaks, breaks-means}
-use Rattle.joining.proofs.Contents.{headsOf, extent-is, extent-only, accepted, accepted-one, one-assembly}
+use Rattle.joining.proofs.Contents.{headsOf, extent-is, extent-only, accepted, accepted-one, one-assembly, assembly-of}
+use Rattle.joining.proofs.Answering.{same-numbers, same-lags}
 use Rattle.joining.proofs.Cases.{is-unpaired, is-shared, no-number-room, no-lag-room, are-units, bad-shape, is-outside, is-broken, after-order, orderly}
 
 -- ---- 13
@@ -129,40 +131,35 @@ module _ (layers : Layers) (target closure : ℕ) (t : Table) (ordered : Orderly
   places-are = ap (λ (n : ℕ). n * length (membersOf closure)) (length-those (isTarget t frame) (rowsIn t))
 
 -- what a table in range and in order is to the definitions
-orderly-of : (layers : Layers) (target closure : ℕ) (t : Table) → InOrder layers target closure t → Orderly layers target closure t
-orderly-of layers target closure t o =
-    let whole = closed layers target closure (sym (closure-nothing-else layers target (o .closed))) in
+orderly-of : (layers : Layers) (target closure : ℕ) (t : Table) → Closed layers target closure → InOrder layers target t → Orderly layers target closure t
+orderly-of layers target closure t whole o =
     orderly layers target t closure 0 0 (right-shape t (o .shape)) (none-outside t (o .range)) whole
     (none-broken layers target closure t whole (o .order))
 
-module _ (layers : Layers) (target : ℕ) (t : Table) (numbers : List ℕ) (lags : List ℤ) where
-  abbrev Right : Joined → Type 0
-  Right answer = Answers layers target t numbers lags answer (numbersAfter layers target t answer numbers) (lagsAfter layers target t answer lags)
+-- ---- THE TABLE OVER A CLOSURE
 
-  abbrev answerOf : Joined
-  answerOf = joinedOf layers target t (length numbers) (length lags)
+module _ (layers : Layers) (target closure : ℕ) (whole : Closed layers target closure) (t : Table) (numbers : List ℕ) (lags : List ℤ) where
+  abbrev RightOver : Joined → Type 0
+  RightOver answer =
+      AnswersOver layers target closure t numbers lags answer (framedNumbers t (frameOf layers closure target) answer numbers)
+      (framedLags t (frameOf layers closure target) answer lags)
 
-  abbrev tableAnswer : ℕ → Joined
-  tableAnswer closure = tableJoined layers target t closure (length numbers) (length lags)
+  abbrev tableAnswer : Joined
+  tableAnswer = tableJoined layers target t closure (length numbers) (length lags)
 
-  abbrev unitsAnswer : ℕ → Joined
-  unitsAnswer closure = unitsJoined t closure (frameOf layers closure target) (length numbers) (length lags)
-
-  -- ---- what is computed is right
+  abbrev unitsAnswer : Joined
+  unitsAnswer = unitsJoined t closure (frameOf layers closure target) (length numbers) (length lags)
 
   -- 15 to 17, and the units
-  units-meet : (closure : ℕ) → InOrder layers target closure t → Orderly layers target closure t → Right (unitsAnswer closure)
-  units-meet closure o ordered =
+  units-meet : InOrder layers target t → Orderly layers target closure t → RightOver unitsAnswer
+  units-meet o ordered =
       at-15 (decLt (firstUnpaired t (frameOf layers closure target)) (rowsIn t))
     where
-      f : Frame
-      f = frameOf layers closure target
-
       at-17 : rowsIn t ≤ firstUnpaired t (frameOf layers closure target) → rowsIn t ≤ firstShared t (frameOf layers closure target)
           → Dec (length numbers < places t (frameOf layers closure target)) → Dec (length lags < places t (frameOf layers closure target))
-          → Right (unitsAnswer closure)
+          → RightOver unitsAnswer
       at-17 paired apart (yes h) d =
-          subst Right (no-number-room t closure (frameOf layers closure target) (length numbers) (length lags) paired apart h)
+          subst RightOver (no-number-room t closure (frameOf layers closure target) (length numbers) (length lags) paired apart h)
           (no-room o (none t (NoAssembly layers target t) (unpaired t (frameOf layers closure target)) (unpaired-sound layers target closure t ordered)
           (unpaired-complete layers target closure t ordered) paired)
           (none t (SharesRow layers target t) (shares t (frameOf layers closure target)) (shares-sound layers target closure t ordered paired)
@@ -170,7 +167,7 @@ module _ (layers : Layers) (target : ℕ) (t : Table) (numbers : List ℕ) (lags
           (extent-is layers target closure t ordered)
           (for-numbers (subst (λ (n : ℕ). length numbers < n) (sym (places-are layers target closure t ordered)) h)))
       at-17 paired apart (no n) (yes h) =
-          subst Right (no-lag-room t closure (frameOf layers closure target) (length numbers) (length lags) paired apart (omega arith) h)
+          subst RightOver (no-lag-room t closure (frameOf layers closure target) (length numbers) (length lags) paired apart (omega arith) h)
           (no-room o (none t (NoAssembly layers target t) (unpaired t (frameOf layers closure target)) (unpaired-sound layers target closure t ordered)
           (unpaired-complete layers target closure t ordered) paired)
           (none t (SharesRow layers target t) (shares t (frameOf layers closure target)) (shares-sound layers target closure t ordered paired)
@@ -178,7 +175,7 @@ module _ (layers : Layers) (target : ℕ) (t : Table) (numbers : List ℕ) (lags
           (extent-is layers target closure t ordered)
           (for-lags (subst (λ (n : ℕ). length lags < n) (sym (places-are layers target closure t ordered)) h)))
       at-17 paired apart (no n) (no m) =
-          subst Right (are-units t closure (frameOf layers closure target) (length numbers) (length lags) paired apart (omega arith) (omega arith))
+          subst RightOver (are-units t closure (frameOf layers closure target) (length numbers) (length lags) paired apart (omega arith) (omega arith))
           (joined o
           (none t (SharesRow layers target t) (shares t (frameOf layers closure target)) (shares-sound layers target closure t ordered paired)
           (shares-complete layers target closure t ordered paired) apart)
@@ -187,9 +184,9 @@ module _ (layers : Layers) (target : ℕ) (t : Table) (numbers : List ℕ) (lags
           (subst (λ (p : ℕ). p ≤ length lags) (sym (places-are layers target closure t ordered)) (omega arith))))
 
       at-16 : rowsIn t ≤ firstUnpaired t (frameOf layers closure target) → Dec (firstShared t (frameOf layers closure target) < rowsIn t)
-          → Right (unitsAnswer closure)
+          → RightOver unitsAnswer
       at-16 paired (yes h) =
-          subst Right (is-shared t closure (frameOf layers closure target) (length numbers) (length lags) paired (firstShared t (frameOf layers closure target)) refl h)
+          subst RightOver (is-shared t closure (frameOf layers closure target) (length numbers) (length lags) paired (firstShared t (frameOf layers closure target)) refl h)
           (in-two-units o (none t (NoAssembly layers target t) (unpaired t (frameOf layers closure target)) (unpaired-sound layers target closure t ordered)
           (unpaired-complete layers target closure t ordered) paired)
           (found t (SharesRow layers target t) (shares t (frameOf layers closure target)) (shares-sound layers target closure t ordered paired)
@@ -198,30 +195,31 @@ module _ (layers : Layers) (target : ℕ) (t : Table) (numbers : List ℕ) (lags
           at-17 paired (omega arith) (decLt (length numbers) (places t (frameOf layers closure target)))
           (decLt (length lags) (places t (frameOf layers closure target)))
 
-      at-15 : Dec (firstUnpaired t (frameOf layers closure target) < rowsIn t) → Right (unitsAnswer closure)
+      at-15 : Dec (firstUnpaired t (frameOf layers closure target) < rowsIn t) → RightOver unitsAnswer
       at-15 (yes h) =
-          subst Right (is-unpaired t closure (frameOf layers closure target) (length numbers) (length lags) (firstUnpaired t (frameOf layers closure target)) refl h)
+          subst RightOver (is-unpaired t closure (frameOf layers closure target) (length numbers) (length lags) (firstUnpaired t (frameOf layers closure target)) refl h)
           (no-assembly o
           (found t (NoAssembly layers target t) (unpaired t (frameOf layers closure target)) (unpaired-sound layers target closure t ordered)
           (unpaired-complete layers target closure t ordered) h))
       at-15 (no n) = at-16 (omega arith) (decLt (firstShared t (frameOf layers closure target)) (rowsIn t))
 
-  -- 13 and 14
-  table-meets : (closure : ℕ) → ClosureAnswers layers target (Complete closure) → Closed layers target closure → Right (tableAnswer closure)
-  table-meets closure c whole = at-shape (wrongShape t) refl
+  -- 13 and 14: what is computed is right,
+  pub table-meant : AnswersOver layers target closure t numbers lags (tableJoined layers target t closure (length numbers) (length lags))
+      (framedNumbers t (frameOf layers closure target) (tableJoined layers target t closure (length numbers) (length lags)) numbers)
+      (framedLags t (frameOf layers closure target) (tableJoined layers target t closure (length numbers) (length lags)) lags)
+  table-meant = at-shape (wrongShape t) refl
     where
-      at-14 : wrongShape t ≡ false → rowsIn t ≤ firstOutOfRange t → Dec (firstBroken t closure < rowsIn t) → Right (tableAnswer closure)
+      at-14 : wrongShape t ≡ false → rowsIn t ≤ firstOutOfRange t → Dec (firstBroken t closure < rowsIn t) → RightOver tableAnswer
       at-14 shape in-range (yes h) =
-          subst Right (is-broken layers target t closure (length numbers) (length lags) shape in-range (firstBroken t closure) refl h)
-          (order-broken c (λ w. true≢false (sym (means-shape t w) ∙ shape))
+          subst RightOver (is-broken layers target t closure (length numbers) (length lags) shape in-range (firstBroken t closure) refl h)
+          (order-broken (λ w. true≢false (sym (means-shape t w) ∙ shape))
           (none t (RowOutOfRange t) (outOfRange t) (range-means t) (means-range t) in-range)
           (found t (BreaksOrder layers target t) (breaksOrder t closure) (breaks-means t layers target closure (whole .whole))
           (means-breaks t layers target closure (whole .whole)) h))
       at-14 shape in-range (no n) =
-          subst Right (after-order layers target t closure (length numbers) (length lags) shape in-range (omega arith))
-          (units-meet closure
+          subst RightOver (after-order layers target t closure (length numbers) (length lags) shape in-range (omega arith))
+          (units-meet
           (record {
-            closed = c;
             shape = λ w. true≢false (sym (means-shape t w) ∙ shape);
             range = none t (RowOutOfRange t) (outOfRange t) (range-means t) (means-range t) in-range;
             order = none t (BreaksOrder layers target t) (breaksOrder t closure) (breaks-means t layers target closure (whole .whole))
@@ -229,66 +227,47 @@ module _ (layers : Layers) (target : ℕ) (t : Table) (numbers : List ℕ) (lags
           })
           (orderly layers target t closure (length numbers) (length lags) shape in-range whole (omega arith)))
 
-      at-13 : wrongShape t ≡ false → Dec (firstOutOfRange t < rowsIn t) → Right (tableAnswer closure)
+      at-13 : wrongShape t ≡ false → Dec (firstOutOfRange t < rowsIn t) → RightOver tableAnswer
       at-13 shape (yes h) =
-          subst Right (is-outside layers target t closure (length numbers) (length lags) shape (firstOutOfRange t) refl h)
-          (out-of-range c (λ w. true≢false (sym (means-shape t w) ∙ shape))
+          subst RightOver (is-outside layers target t closure (length numbers) (length lags) shape (firstOutOfRange t) refl h)
+          (out-of-range (λ w. true≢false (sym (means-shape t w) ∙ shape))
           (found t (RowOutOfRange t) (outOfRange t) (range-means t) (means-range t) h))
       at-13 shape (no n) = at-14 shape (omega arith) (decLt (firstBroken t closure) (rowsIn t))
 
-      at-shape : (b : Bool) → wrongShape t ≡ b → Right (tableAnswer closure)
-      at-shape true e = subst Right (bad-shape layers target t closure (length numbers) (length lags) e) (wrong-shape c (shape-means t e))
+      at-shape : (b : Bool) → wrongShape t ≡ b → RightOver tableAnswer
+      at-shape true e = subst RightOver (bad-shape layers target t closure (length numbers) (length lags) e) (wrong-shape (shape-means t e))
       at-shape false e = at-13 e (decLt (firstOutOfRange t) (rowsIn t))
 
-  -- THE ANSWER: what is computed is right,
-  pub joined-meant : Answers layers target t numbers lags (joinedOf layers target t (length numbers) (length lags))
-      (numbersAfter layers target t (joinedOf layers target t (length numbers) (length lags)) numbers)
-      (lagsAfter layers target t (joinedOf layers target t (length numbers) (length lags)) lags)
-  joined-meant = go (closureOf layers target) refl
-    where
-      go : (c : Closure) → closureOf layers target ≡ c → Right answerOf
-      go (Complete closure) e =
-          subst Right (sym (ap (joinedIn layers target t (length numbers) (length lags)) e))
-          (table-meets closure (subst (ClosureAnswers layers target) e (closure-meets layers target)) (closed layers target closure e))
-      go (NoClosure refusal) e =
-          subst Right (sym (ap (joinedIn layers target t (length numbers) (length lags)) e))
-          (no-closure (subst (ClosureAnswers layers target) e (closure-meets layers target)))
+  -- what the call over a closure promises: the three equalities of its contract
+  pub record TableComputed (answer : Joined) (numbers₂ : List ℕ) (lags₂ : List ℤ) : Type 0 where
+    pub is-answer : answer ≡ tableJoined layers target t closure (length numbers) (length lags)
+    pub is-numbers : numbers₂ ≡ framedNumbers t (frameOf layers closure target) answer numbers
+    pub is-lags : lags₂ ≡ framedLags t (frameOf layers closure target) answer lags
 
-  -- and nothing else is.
-  pub record Computed (answer : Joined) (numbers₂ : List ℕ) (lags₂ : List ℤ) : Type 0 where
-    pub is-answer : answer ≡ joinedOf layers target t (length numbers) (length lags)
-    pub is-numbers : numbers₂ ≡ numbersAfter layers target t answer numbers
-    pub is-lags : lags₂ ≡ lagsAfter layers target t answer lags
-
-  table-is : (closure : ℕ) → ClosureAnswers layers target (Complete closure) → tableAnswer closure ≡ answerOf
-  table-is closure c = ap (joinedIn layers target t (length numbers) (length lags)) (closure-nothing-else layers target c)
-
-  units-are : (closure : ℕ) → InOrder layers target closure t → unitsAnswer closure ≡ answerOf
-  units-are closure o =
+  units-are : InOrder layers target t → unitsAnswer ≡ tableAnswer
+  units-are o =
       after-order layers target t closure (length numbers) (length lags) (right-shape t (o .shape)) (none-outside t (o .range))
-      (none-broken layers target closure t (closed layers target closure (sym (closure-nothing-else layers target (o .closed)))) (o .order))
-      ∙ table-is closure (o .closed)
+      (none-broken layers target closure t whole (o .order))
 
   -- 17
-  too-small : (closure units size : ℕ) → rowsIn t ≤ firstUnpaired t (frameOf layers closure target)
+  too-small : (units size : ℕ) → rowsIn t ≤ firstUnpaired t (frameOf layers closure target)
       → rowsIn t ≤ firstShared t (frameOf layers closure target) → units * size ≡ places t (frameOf layers closure target)
       → TooSmall units size (length numbers) (length lags) → Dec (length numbers < places t (frameOf layers closure target))
-      → Refused NoRoom ≡ unitsAnswer closure
-  too-small closure units size paired apart needed (for-numbers h) d =
+      → Refused NoRoom ≡ unitsAnswer
+  too-small units size paired apart needed (for-numbers h) d =
       no-number-room t closure (frameOf layers closure target) (length numbers) (length lags) paired apart
       (subst (λ (n : ℕ). length numbers < n) needed h)
-  too-small closure units size paired apart needed (for-lags h) (yes l) =
+  too-small units size paired apart needed (for-lags h) (yes l) =
       no-number-room t closure (frameOf layers closure target) (length numbers) (length lags) paired apart l
-  too-small closure units size paired apart needed (for-lags h) (no n) =
+  too-small units size paired apart needed (for-lags h) (no n) =
       no-lag-room t closure (frameOf layers closure target) (length numbers) (length lags) paired apart (omega arith)
       (subst (λ (n : ℕ). length lags < n) needed h)
 
   -- the units
-  joined-is : (closure : ℕ) {units left : ℕ} {numbers₂ : List ℕ} {lags₂ : List ℤ} → InOrder layers target closure t
-      → NoRow t (SharesRow layers target t) → Accepted layers target t numbers lags units left numbers₂ lags₂
-      → Computed (Units closure units left) numbers₂ lags₂
-  joined-is closure {units} {left} {numbers₂} {lags₂} o s a =
-      let ordered = orderly-of layers target closure t o in
+  joined-is : {units left : ℕ} {numbers₂ : List ℕ} {lags₂ : List ℤ} → InOrder layers target t → NoRow t (SharesRow layers target t)
+      → Accepted layers target t numbers lags units left numbers₂ lags₂ → TableComputed (Units closure units left) numbers₂ lags₂
+  joined-is {units} {left} {numbers₂} {lags₂} o s a =
+      let ordered = orderly-of layers target closure t whole o in
       let paired = none-unpaired layers target closure t ordered has-assembly in
       let apart = none-shared layers target closure t ordered paired s in
       let same = extent-only layers target closure t ordered (a .heads) (a .members) (a .extent) in
@@ -305,13 +284,16 @@ module _ (layers : Layers) (target : ℕ) (t : Table) (numbers : List ℕ) (lags
             ∙ are-units t closure (frameOf layers closure target) (length numbers) (length lags) paired apart
             (subst (λ (n : ℕ). n ≤ length numbers) (places-are layers target closure t ordered) number-room)
             (subst (λ (n : ℕ). n ≤ length lags) (places-are layers target closure t ordered) lag-room)
-            ∙ units-are closure o;
+            ∙ units-are o;
         is-numbers = one .2;
         is-lags = one .3;
       }
     where
       has-assembly : NoRow t (NoAssembly layers target t)
-      has-assembly k h n = n .none (a .choice k) (a .assembles k (record { inside = h; of-target = n .target-row }))
+      has-assembly k h n =
+          let at = a .extent .target-rows .all k (record { inside = h; of-target = n .target-row }) in
+          let w = assembly-of (a .units-of-heads) (at .0) (at .1) in
+          n .none (w .0) (subst (λ (head : ℕ). Assembles layers target t head (w .0)) (at .2) (w .1))
 
       number-fits : length (a .heads) * length (a .members) ≤ length numbers
       number-fits = go (decLt (length numbers) (length (a .heads) * length (a .members)))
@@ -327,6 +309,110 @@ module _ (layers : Layers) (target : ℕ) (t : Table) (numbers : List ℕ) (lags
           go (yes h) = absurd (a .enough-room (for-lags h))
           go (no h) = omega arith
 
+  -- and nothing else is.
+  pub table-only : {answer : Joined} {numbers₂ : List ℕ} {lags₂ : List ℤ} → AnswersOver layers target closure t numbers lags answer numbers₂ lags₂
+      → TableComputed answer numbers₂ lags₂
+  table-only (wrong-shape w) =
+      record {
+        is-answer = bad-shape layers target t closure (length numbers) (length lags) (means-shape t w);
+        is-numbers = refl;
+        is-lags = refl;
+      }
+  table-only (out-of-range {row = row} s f) =
+      record {
+        is-answer = is-outside layers target t closure (length numbers) (length lags) (right-shape t s) row
+            (is-first t (RowOutOfRange t) (outOfRange t) (range-means t) (means-range t) row f .1) (f .inside);
+        is-numbers = refl;
+        is-lags = refl;
+      }
+  table-only (order-broken {row = row} s r f) =
+      record {
+        is-answer = is-broken layers target t closure (length numbers) (length lags) (right-shape t s) (none-outside t r) row
+            (is-first t (BreaksOrder layers target t) (breaksOrder t closure) (breaks-means t layers target closure (whole .whole))
+            (means-breaks t layers target closure (whole .whole)) row f .1) (f .inside);
+        is-numbers = refl;
+        is-lags = refl;
+      }
+  table-only (no-assembly {row = row} o f) =
+      let ordered = orderly-of layers target closure t whole o in
+      record {
+        is-answer = is-unpaired t closure (frameOf layers closure target) (length numbers) (length lags) row
+            (is-first t (NoAssembly layers target t) (unpaired t (frameOf layers closure target)) (unpaired-sound layers target closure t ordered)
+            (unpaired-complete layers target closure t ordered) row f .1) (f .inside)
+            ∙ units-are o;
+        is-numbers = refl;
+        is-lags = refl;
+      }
+  table-only (in-two-units {row = row} o n f) =
+      let ordered = orderly-of layers target closure t whole o in
+      let paired = none-unpaired layers target closure t ordered n in
+      record {
+        is-answer = is-shared t closure (frameOf layers closure target) (length numbers) (length lags) paired row
+            (is-first t (SharesRow layers target t) (shares t (frameOf layers closure target)) (shares-sound layers target closure t ordered paired)
+            (shares-complete layers target closure t ordered paired) row f .1) (f .inside)
+            ∙ units-are o;
+        is-numbers = refl;
+        is-lags = refl;
+      }
+  table-only (no-room {heads = heads} {members = members} o n s e small) =
+      let ordered = orderly-of layers target closure t whole o in
+      let paired = none-unpaired layers target closure t ordered n in
+      let apart = none-shared layers target closure t ordered paired s in
+      let same = extent-only layers target closure t ordered heads members e in
+      let needed : length heads * length members ≡ places t (frameOf layers closure target) =
+      ap₂ (λ (x y : List ℕ). length x * length y) (same .0) (same .1) ∙ places-are layers target closure t ordered in
+      record {
+        is-answer = too-small (length heads) (length members) paired apart needed small
+            (decLt (length numbers) (places t (frameOf layers closure target)))
+            ∙ units-are o;
+        is-numbers = refl;
+        is-lags = refl;
+      }
+  table-only (joined o s a) = joined-is o s a
+
+-- ---- JOINING: the closure, then the table over it
+
+module _ (layers : Layers) (target : ℕ) (t : Table) (numbers : List ℕ) (lags : List ℤ) where
+  abbrev Right : Joined → Type 0
+  Right answer = Answers layers target t numbers lags answer (numbersAfter layers target t answer numbers) (lagsAfter layers target t answer lags)
+
+  abbrev answerOf : Joined
+  answerOf = joinedOf layers target t (length numbers) (length lags)
+
+  -- the answer of the table is that of joining, and so are its lists
+  over-right : (closure : ℕ) → ClosureAnswers layers target (Complete closure) → Closed layers target closure
+      → Right (tableJoined layers target t closure (length numbers) (length lags))
+  over-right closure c whole =
+      over-closure c
+      (subst (λ (n : List ℕ). AnswersOver layers target closure t numbers lags answer n (lagsAfter layers target t answer lags))
+      (same-numbers layers target t closure (length numbers) (length lags) answer refl numbers)
+      (subst (λ (l : List ℤ). AnswersOver layers target closure t numbers lags answer (framedNumbers t (frameOf layers closure target) answer numbers) l)
+      (same-lags layers target t closure (length numbers) (length lags) answer refl lags)
+      (table-meant layers target closure whole t numbers lags)))
+    where
+      answer : Joined
+      answer = tableJoined layers target t closure (length numbers) (length lags)
+
+  -- THE ANSWER: what is computed is right,
+  pub joined-meant : Answers layers target t numbers lags (joinedOf layers target t (length numbers) (length lags))
+      (numbersAfter layers target t (joinedOf layers target t (length numbers) (length lags)) numbers)
+      (lagsAfter layers target t (joinedOf layers target t (length numbers) (length lags)) lags)
+  joined-meant = go (closureOf layers target) refl
+    where
+      go : (c : Closure) → closureOf layers target ≡ c → Right answerOf
+      go (Complete closure) e =
+          subst Right (sym (ap (joinedIn layers target t (length numbers) (length lags)) e))
+          (over-right closure (subst (ClosureAnswers layers target) e (closure-meets layers target)) (closed layers target closure e))
+      go (NoClosure refusal) e =
+          subst Right (sym (ap (joinedIn layers target t (length numbers) (length lags)) e))
+          (no-closure (subst (ClosureAnswers layers target) e (closure-meets layers target)))
+
+  -- and nothing else is.
+  pub record Computed (answer : Joined) (numbers₂ : List ℕ) (lags₂ : List ℤ) : Type 0 where
+    pub is-answer : answer ≡ joinedOf layers target t (length numbers) (length lags)
+    pub is-numbers : numbers₂ ≡ numbersAfter layers target t answer numbers
+    pub is-lags : lags₂ ≡ lagsAfter layers target t answer lags
+
   pub joined-only : {answer : Joined} {numbers₂ : List ℕ} {lags₂ : List ℤ} → Answers layers target t numbers lags answer numbers₂ lags₂
       → Computed answer numbers₂ lags₂
   joined-only (no-closure c) =
@@ -335,66 +421,14 @@ module _ (layers : Layers) (target : ℕ) (t : Table) (numbers : List ℕ) (lags
         is-numbers = refl;
         is-lags = refl;
       }
-  joined-only (wrong-shape {closure = closure} c w) =
+  joined-only (over-closure {closure = closure} {answer = answer} c a) =
+      let found = closure-nothing-else layers target c in
+      let only = table-only layers target closure (closed layers target closure (sym found)) t numbers lags a in
       record {
-        is-answer = bad-shape layers target t closure (length numbers) (length lags) (means-shape t w) ∙ table-is closure c;
-        is-numbers = refl;
-        is-lags = refl;
+        is-answer = only .is-answer ∙ ap (joinedIn layers target t (length numbers) (length lags)) found;
+        is-numbers = only .is-numbers ∙ same-numbers layers target t closure (length numbers) (length lags) answer (only .is-answer) numbers;
+        is-lags = only .is-lags ∙ same-lags layers target t closure (length numbers) (length lags) answer (only .is-answer) lags;
       }
-  joined-only (out-of-range {closure = closure} {row = row} c s f) =
-      record {
-        is-answer = is-outside layers target t closure (length numbers) (length lags) (right-shape t s) row
-            (is-first t (RowOutOfRange t) (outOfRange t) (range-means t) (means-range t) row f .1) (f .inside)
-            ∙ table-is closure c;
-        is-numbers = refl;
-        is-lags = refl;
-      }
-  joined-only (order-broken {closure = closure} {row = row} c s r f) =
-      let whole = closed layers target closure (sym (closure-nothing-else layers target c)) in
-      record {
-        is-answer = is-broken layers target t closure (length numbers) (length lags) (right-shape t s) (none-outside t r) row
-            (is-first t (BreaksOrder layers target t) (breaksOrder t closure) (breaks-means t layers target closure (whole .whole))
-            (means-breaks t layers target closure (whole .whole)) row f .1) (f .inside)
-            ∙ table-is closure c;
-        is-numbers = refl;
-        is-lags = refl;
-      }
-  joined-only (no-assembly {closure = closure} {row = row} o f) =
-      let ordered = orderly-of layers target closure t o in
-      record {
-        is-answer = is-unpaired t closure (frameOf layers closure target) (length numbers) (length lags) row
-            (is-first t (NoAssembly layers target t) (unpaired t (frameOf layers closure target)) (unpaired-sound layers target closure t ordered)
-            (unpaired-complete layers target closure t ordered) row f .1) (f .inside)
-            ∙ units-are closure o;
-        is-numbers = refl;
-        is-lags = refl;
-      }
-  joined-only (in-two-units {closure = closure} {row = row} o n f) =
-      let ordered = orderly-of layers target closure t o in
-      let paired = none-unpaired layers target closure t ordered n in
-      record {
-        is-answer = is-shared t closure (frameOf layers closure target) (length numbers) (length lags) paired row
-            (is-first t (SharesRow layers target t) (shares t (frameOf layers closure target)) (shares-sound layers target closure t ordered paired)
-            (shares-complete layers target closure t ordered paired) row f .1) (f .inside)
-            ∙ units-are closure o;
-        is-numbers = refl;
-        is-lags = refl;
-      }
-  joined-only (no-room {closure = closure} {heads = heads} {members = members} o n s e small) =
-      let ordered = orderly-of layers target closure t o in
-      let paired = none-unpaired layers target closure t ordered n in
-      let apart = none-shared layers target closure t ordered paired s in
-      let same = extent-only layers target closure t ordered heads members e in
-      let needed : length heads * length members ≡ places t (frameOf layers closure target) =
-      ap₂ (λ (x y : List ℕ). length x * length y) (same .0) (same .1) ∙ places-are layers target closure t ordered in
-      record {
-        is-answer = too-small closure (length heads) (length members) paired apart needed small
-            (decLt (length numbers) (places t (frameOf layers closure target)))
-            ∙ units-are closure o;
-        is-numbers = refl;
-        is-lags = refl;
-      }
-  joined-only (joined {closure = closure} o s a) = joined-is closure o s a
 
   -- One answer only, and one content of each list.
   pub one-answer : {answer other : Joined} {numbers₂ numbers₃ : List ℕ} {lags₂ lags₃ : List ℤ}
@@ -436,21 +470,24 @@ module _ (layers : Layers) (target : ℕ) (t : Table) (numbers : List ℕ) (lags
       × FirstRow t (BreaksOrder layers target t) row
 
   abbrev pub Given15 : ℕ → Type 0
-  Given15 row = (closure : ℕ) × InOrder layers target closure t × FirstRow t (NoAssembly layers target t) row
+  Given15 row =
+      (closure : ℕ) × ClosureAnswers layers target (Complete closure) × InOrder layers target t × FirstRow t (NoAssembly layers target t) row
 
   abbrev pub Given16 : ℕ → Type 0
-  Given16 row = (closure : ℕ) × InOrder layers target closure t × NoRow t (NoAssembly layers target t) × FirstRow t (SharesRow layers target t) row
+  Given16 row =
+      (closure : ℕ) × ClosureAnswers layers target (Complete closure) × InOrder layers target t × NoRow t (NoAssembly layers target t)
+      × FirstRow t (SharesRow layers target t) row
 
   abbrev pub Given17 : Type 0
   Given17 =
-      (closure : ℕ) × (heads : List ℕ) × (members : List ℕ) × InOrder layers target closure t × NoRow t (NoAssembly layers target t)
-      × NoRow t (SharesRow layers target t) × Extent layers target t heads members
+      (closure : ℕ) × (heads : List ℕ) × (members : List ℕ) × ClosureAnswers layers target (Complete closure) × InOrder layers target t
+      × NoRow t (NoAssembly layers target t) × NoRow t (SharesRow layers target t) × Extent layers target t heads members
       × TooSmall (length heads) (length members) (length numbers) (length lags)
 
   abbrev pub GivenUnits : ℕ → ℕ → ℕ → Type 0
   GivenUnits closure units left =
-      (numbers₂ : List ℕ) × (lags₂ : List ℤ) × InOrder layers target closure t × NoRow t (SharesRow layers target t)
-      × Accepted layers target t numbers lags units left numbers₂ lags₂
+      (numbers₂ : List ℕ) × (lags₂ : List ℤ) × ClosureAnswers layers target (Complete closure) × InOrder layers target t
+      × NoRow t (SharesRow layers target t) × Accepted layers target t numbers lags units left numbers₂ lags₂
 
   -- what each answer tells: and that no other number is given
   abbrev Given : Joined → Type 0
@@ -482,13 +519,13 @@ module _ (layers : Layers) (target : ℕ) (t : Table) (numbers : List ℕ) (lags
   given : {answer : Joined} {numbers₂ : List ℕ} {lags₂ : List ℤ} → Answers layers target t numbers lags answer numbers₂ lags₂ → Given answer
   given (no-closure (no-such-layer h)) = h
   given (no-closure (absent here m)) = (here, m)
-  given (wrong-shape {closure = closure} c w) = (closure, c, inl (w, refl))
-  given (out-of-range {closure = closure} c s f) = (closure, c, inr (s, f))
-  given (order-broken {closure = closure} c s r f) = (closure, c, s, r, f)
-  given (no-assembly {closure = closure} o f) = (closure, o, f)
-  given (in-two-units {closure = closure} o n f) = (closure, o, n, f)
-  given (no-room {closure = closure} {heads = heads} {members = members} o n s e w) = (closure, heads, members, o, n, s, e, w)
-  given (joined {numbersAfter = numbers₂} {lagsAfter = lags₂} o s a) = (numbers₂, lags₂, o, s, a)
+  given (over-closure {closure = closure} c (wrong-shape w)) = (closure, c, inl (w, refl))
+  given (over-closure {closure = closure} c (out-of-range s f)) = (closure, c, inr (s, f))
+  given (over-closure {closure = closure} c (order-broken s r f)) = (closure, c, s, r, f)
+  given (over-closure {closure = closure} c (no-assembly o f)) = (closure, c, o, f)
+  given (over-closure {closure = closure} c (in-two-units o n f)) = (closure, c, o, n, f)
+  given (over-closure {closure = closure} c (no-room {heads = heads} {members = members} o n s e w)) = (closure, heads, members, c, o, n, s, e, w)
+  given (over-closure c (joined {numbersAfter = numbers₂} {lagsAfter = lags₂} o s a)) = (numbers₂, lags₂, c, o, s, a)
 
   tells : {answer : Joined} → joinedOf layers target t (length numbers) (length lags) ≡ answer → Given answer
   tells e = subst Given e (given joined-meant)
@@ -510,27 +547,29 @@ module _ (layers : Layers) (target : ℕ) (t : Table) (numbers : List ℕ) (lags
       back : (closure : ℕ) → ClosureAnswers layers target (Complete closure)
           → (WrongShape t × (row ≡ 0)) ⊎ ((WrongShape t → ⊥) × FirstRow t (RowOutOfRange t) row)
           → joinedOf layers target t (length numbers) (length lags) ≡ Refused (OutOfRange row)
-      back closure c (inl w) = follows (wrong-shape c (w .0)) ∙ ap (λ (k : ℕ). Refused (OutOfRange k)) (sym (w .1))
-      back closure c (inr w) = follows (out-of-range c (w .0) (w .1))
+      back closure c (inl w) = follows (over-closure c (wrong-shape (w .0))) ∙ ap (λ (k : ℕ). Refused (OutOfRange k)) (sym (w .1))
+      back closure c (inr w) = follows (over-closure c (out-of-range (w .0) (w .1)))
 
   pub given-14 : (row : ℕ) → (joinedOf layers target t (length numbers) (length lags) ≡ Refused (TimeOrderBroken row)) ↔ Given14 row
-  given-14 row = (λ e. tells e, λ w. follows (order-broken (w .1) (w .2) (w .3) (w .4)))
+  given-14 row = (λ e. tells e, λ w. follows (over-closure (w .1) (order-broken (w .2) (w .3) (w .4))))
 
   pub given-15 : (row : ℕ) → (joinedOf layers target t (length numbers) (length lags) ≡ Refused (Unpaired row)) ↔ Given15 row
-  given-15 row = (λ e. tells e, λ w. follows (no-assembly (w .1) (w .2)))
+  given-15 row = (λ e. tells e, λ w. follows (over-closure (w .1) (no-assembly (w .2) (w .3))))
 
   pub given-16 : (row : ℕ) → (joinedOf layers target t (length numbers) (length lags) ≡ Refused (UsedTwice row)) ↔ Given16 row
-  given-16 row = (λ e. tells e, λ w. follows (in-two-units (w .1) (w .2) (w .3)))
+  given-16 row = (λ e. tells e, λ w. follows (over-closure (w .1) (in-two-units (w .2) (w .3) (w .4))))
 
   pub given-17 : (joinedOf layers target t (length numbers) (length lags) ≡ Refused NoRoom) ↔ Given17
-  given-17 = (λ e. tells e, λ w. follows (no-room (w .3) (w .4) (w .5) (w .6) (w .7)))
+  given-17 = (λ e. tells e, λ w. follows (over-closure (w .3) (no-room (w .4) (w .5) (w .6) (w .7) (w .8))))
 
   pub given-units : (closure units left : ℕ)
       → (joinedOf layers target t (length numbers) (length lags) ≡ Units closure units left) ↔ GivenUnits closure units left
-  given-units closure units left = (λ e. tells e, λ w. follows (joined (w .2) (w .3) (w .4)))
+  given-units closure units left = (λ e. tells e, λ w. follows (over-closure (w .2) (joined (w .3) (w .4) (w .5))))
 
   -- At most one assembly of a target row, where 11 to 14 are not given.
-  pub at-most-one-assembly : (closure : ℕ) → InOrder layers target closure t → (head : ℕ) → TargetRow target t head → (choice other : ℕ → ℕ)
-      → Assembles layers target t head choice → Assembles layers target t head other
+  pub at-most-one-assembly : (closure : ℕ) → ClosureAnswers layers target (Complete closure) → InOrder layers target t
+      → (head : ℕ) → TargetRow target t head → (choice other : ℕ → ℕ) → Assembles layers target t head choice → Assembles layers target t head other
       → (layer : ℕ) → RestsOn layers target layer → choice layer ≡ other layer
-  at-most-one-assembly closure o = one-assembly layers target closure t (orderly-of layers target closure t o)
+  at-most-one-assembly closure c o =
+      one-assembly layers target closure t
+      (orderly-of layers target closure t (closed layers target closure (sym (closure-nothing-else layers target c))) o)

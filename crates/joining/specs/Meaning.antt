@@ -2,11 +2,12 @@
 -- (`Answers`, at the end), and before it what it is made of.
 -- proofs/Meant.antt has the laws that join this to what is computed: the computed answer has this meaning, and no other answer has it.
 -- Assumes nothing.
-use Prim.Native.Nat.{ℕ, _+_, _*_, _≤_, _<_}
-use mathlib.Core.List.{List}
+use Prim.Native.Nat.{ℕ, _*_, _≤_, _<_}
+use mathlib.Core.List.{List, [], _∷_, _++_, map}
 use mathlib.Core.Path.{_≡_}
-use lib.IntN.{ℤ, pos}
-use lib.ListN.{length, getD}
+use lib.IntN.{ℤ}
+use lib.ListN.{length}
+use Rattle.buffers.specs.Buffers.{over}
 use Rattle.clock.specs.Clock.{ticks, half, ForwardDistance, Lag}
 use Rattle.closure.specs.declared.Layers.{Layers}
 use Rattle.closure.specs.declared.Closure.the-variants.{Complete, Refused as NoClosure}
@@ -60,9 +61,8 @@ pub data BreaksOrder (layers : Layers) (target : ℕ) (t : Table) (k : ℕ) : Ty
   not-rising : {j earlier distance : ℕ} → RestsOn layers target (layerOf t k) → FromRowToRow t j k → Ahead t j earlier → Ahead t k distance
       → distance ≤ earlier → BreaksOrder layers target t k
 
--- What 11 to 14 leave: the closure, and a table in range and in order.
-pub record InOrder (layers : Layers) (target closure : ℕ) (t : Table) : Type 0 where
-  pub closed : ClosureAnswers layers target (Complete closure)
+-- What 13 and 14 leave: a table in range and in order.
+pub record InOrder (layers : Layers) (target : ℕ) (t : Table) : Type 0 where
   pub shape : WrongShape t → ⊥
   pub range : NoRow t (RowOutOfRange t)
   pub order : NoRow t (BreaksOrder layers target t)
@@ -123,62 +123,76 @@ pub data TooSmall (units size numberRoom lagRoom : ℕ) : Type 0 where
   for-numbers : numberRoom < units * size → TooSmall units size numberRoom lagRoom
   for-lags : lagRoom < units * size → TooSmall units size numberRoom lagRoom
 
--- 'On acceptance the room beyond what was written is untouched too.'
-pub record Untouched {A : Type 0} (blank : A) (written : ℕ) (before after : List A) : Type 0 where
-  pub same-length : length after ≡ length before
-  pub beyond : (place : ℕ) → written ≤ place → getD after place blank ≡ getD before place blank
+-- 'a lag beside each (its decoding time minus the target row's, taken modulo 2^33 into -2^32 to 2^32-1)', row by row
+pub data LagsBeside (t : Table) (head : ℕ) : List ℕ → List ℤ → Type 0 where
+  no-row : LagsBeside t head [] []
+  beside : {row : ℕ} {lag : ℤ} {rows : List ℕ} {lags : List ℤ} → Lag (decodingOf t row) (decodingOf t head) lag → LagsBeside t head rows lags
+      → LagsBeside t head (row ∷ rows) (lag ∷ lags)
 
--- 'Units come in target row order, each in rising layer index. The answer holds the number of units, the row numbers, a lag beside each (its
--- decoding time minus the target row's, taken modulo 2^33 into -2^32 to 2^32-1), and the count of closure rows in no unit.' Unit i has the
--- places from i times the closure size on, one for each layer.
+-- A UNIT is a list: the rows that the assembly of a target row chooses, 'each in rising layer index', with a lag beside each.
+pub record UnitOf (layers : Layers) (target : ℕ) (t : Table) (head : ℕ) (rows : List ℕ) (lags : List ℤ) : Type 0 where
+  pub choice : ℕ → ℕ
+  pub assembles : Assembles layers target t head choice
+  pub members : List ℕ
+  pub closure-layers : Ascending (RestsOn layers target) members
+  pub row-numbers : rows ≡ map choice members
+  pub lags-beside : LagsBeside t head rows lags
+
+-- The units of some target rows, one after another: their row numbers as one list, and their lags as another.
+pub data UnitsOf (layers : Layers) (target : ℕ) (t : Table) : List ℕ → List ℕ → List ℤ → Type 0 where
+  no-unit : UnitsOf layers target t [] [] []
+  next-unit : {head : ℕ} {unit : List ℕ} {beside : List ℤ} {heads rows : List ℕ} {lags : List ℤ} → UnitOf layers target t head unit beside
+      → UnitsOf layers target t heads rows lags → UnitsOf layers target t (head ∷ heads) (unit ++ rows) (beside ++ lags)
+
+-- 'Units come in target row order, each in rising layer index. The answer holds the number of units, the row numbers, a lag beside each ..,
+-- and the count of closure rows in no unit.' 'On acceptance the room beyond what was written is untouched too.'
 pub record Accepted (layers : Layers) (target : ℕ) (t : Table) (numbers : List ℕ) (lags : List ℤ) (units left : ℕ) (numbersAfter : List ℕ)
     (lagsAfter : List ℤ) : Type 0 where
   pub heads : List ℕ
   pub members : List ℕ
   pub extent : Extent layers target t heads members
   pub number-of-units : units ≡ length heads
-  pub choice : ℕ → ℕ → ℕ
-  pub assembles : (head : ℕ) → TargetRow target t head → Assembles layers target t head (choice head)
-  pub row-numbers : (i p : ℕ) → i < length heads → p < length members
-      → getD numbersAfter (i * length members + p) 0 ≡ choice (getD heads i 0) (getD members p 0)
-  pub lag-beside : (i p : ℕ) → i < length heads → p < length members
-      → Lag (decodingOf t (choice (getD heads i 0) (getD members p 0))) (decodingOf t (getD heads i 0))
-      (getD lagsAfter (i * length members + p) (pos 0))
+  pub rows : List ℕ
+  pub beside : List ℤ
+  pub units-of-heads : UnitsOf layers target t heads rows beside
   pub spare : List ℕ
   pub left-out : Ascending (LeftOut layers target t) spare
   pub count-left-out : left ≡ length spare
   pub enough-room : TooSmall (length heads) (length members) (length numbers) (length lags) → ⊥
-  pub numbers-beyond : Untouched 0 (length heads * length members) numbers numbersAfter
-  pub lags-beyond : Untouched (pos 0) (length heads * length members) lags lagsAfter
+  pub numbers-hold : numbersAfter ≡ over rows numbers
+  pub lags-hold : lagsAfter ≡ over beside lags
 
--- THE ANSWER to lists that hold `numbers` and `lags`, and what they hold after it: 'the lowest number that applies, at the earliest place',
--- where 'every output buffer is untouched', or the units. Each number is answered where no lower one applies.
+-- THE ANSWER OF A TABLE over the closure of a target, to lists that hold `numbers` and `lags`, and what they hold after it: 'the lowest number that
+-- applies, at the earliest place', where 'every output buffer is untouched', or the units. Each number is answered where no lower one applies.
+pub data AnswersOver (layers : Layers) (target closure : ℕ) (t : Table) (numbers : List ℕ) (lags : List ℤ) : Joined → List ℕ → List ℤ → Type 0 where
+  -- 13: 'row columns of unequal length, more than 512 rows (place 0), or a row out of range'
+  wrong-shape : WrongShape t → AnswersOver layers target closure t numbers lags (Refused (OutOfRange 0)) numbers lags
+  out-of-range : {row : ℕ} → (WrongShape t → ⊥) → FirstRow t (RowOutOfRange t) row
+      → AnswersOver layers target closure t numbers lags (Refused (OutOfRange row)) numbers lags
+  -- 14: 'time order broken in a closure layer'
+  order-broken : {row : ℕ} → (WrongShape t → ⊥) → NoRow t (RowOutOfRange t) → FirstRow t (BreaksOrder layers target t) row
+      → AnswersOver layers target closure t numbers lags (Refused (TimeOrderBroken row)) numbers lags
+  -- 15: 'a target row has no assembly'
+  no-assembly : {row : ℕ} → InOrder layers target t → FirstRow t (NoAssembly layers target t) row
+      → AnswersOver layers target closure t numbers lags (Refused (Unpaired row)) numbers lags
+  -- 16: 'a row would stand in two units', at the 'later target row'
+  in-two-units : {row : ℕ} → InOrder layers target t → NoRow t (NoAssembly layers target t) → FirstRow t (SharesRow layers target t) row
+      → AnswersOver layers target closure t numbers lags (Refused (UsedTwice row)) numbers lags
+  -- 17: 'output room too small'
+  no-room : {heads members : List ℕ} → InOrder layers target t → NoRow t (NoAssembly layers target t) → NoRow t (SharesRow layers target t)
+      → Extent layers target t heads members → TooSmall (length heads) (length members) (length numbers) (length lags)
+      → AnswersOver layers target closure t numbers lags (Refused NoRoom) numbers lags
+  -- accepted: the closure, 'the number of units', and 'the count of closure rows in no unit'
+  joined : {units left : ℕ} {numbersAfter : List ℕ} {lagsAfter : List ℤ} → InOrder layers target t → NoRow t (SharesRow layers target t)
+      → Accepted layers target t numbers lags units left numbersAfter lagsAfter
+      → AnswersOver layers target closure t numbers lags (Units closure units left) numbersAfter lagsAfter
+
+-- THE ANSWER OF JOINING, in two steps: 'the target 11 and 12, joining 13 to 17 after these'.
 pub data Answers (layers : Layers) (target : ℕ) (t : Table) (numbers : List ℕ) (lags : List ℤ) : Joined → List ℕ → List ℤ → Type 0 where
   -- 11 and 12: as the closure has them
   no-closure : {refusal : Refusal} → ClosureAnswers layers target (NoClosure refusal)
       → Answers layers target t numbers lags (Refused refusal) numbers lags
-  -- 13: 'row columns of unequal length, more than 512 rows (place 0), or a row out of range'
-  wrong-shape : {closure : ℕ} → ClosureAnswers layers target (Complete closure) → WrongShape t
-      → Answers layers target t numbers lags (Refused (OutOfRange 0)) numbers lags
-  out-of-range : {closure row : ℕ} → ClosureAnswers layers target (Complete closure) → (WrongShape t → ⊥) → FirstRow t (RowOutOfRange t) row
-      → Answers layers target t numbers lags (Refused (OutOfRange row)) numbers lags
-  -- 14: 'time order broken in a closure layer'
-  order-broken : {closure row : ℕ} → ClosureAnswers layers target (Complete closure) → (WrongShape t → ⊥) → NoRow t (RowOutOfRange t)
-      → FirstRow t (BreaksOrder layers target t) row
-      → Answers layers target t numbers lags (Refused (TimeOrderBroken row)) numbers lags
-  -- 15: 'a target row has no assembly'
-  no-assembly : {closure row : ℕ} → InOrder layers target closure t → FirstRow t (NoAssembly layers target t) row
-      → Answers layers target t numbers lags (Refused (Unpaired row)) numbers lags
-  -- 16: 'a row would stand in two units', at the 'later target row'
-  in-two-units : {closure row : ℕ} → InOrder layers target closure t → NoRow t (NoAssembly layers target t)
-      → FirstRow t (SharesRow layers target t) row
-      → Answers layers target t numbers lags (Refused (UsedTwice row)) numbers lags
-  -- 17: 'output room too small'
-  no-room : {closure : ℕ} {heads members : List ℕ} → InOrder layers target closure t → NoRow t (NoAssembly layers target t)
-      → NoRow t (SharesRow layers target t) → Extent layers target t heads members
-      → TooSmall (length heads) (length members) (length numbers) (length lags)
-      → Answers layers target t numbers lags (Refused NoRoom) numbers lags
-  -- accepted: the closure, 'the number of units', and 'the count of closure rows in no unit'
-  joined : {closure units left : ℕ} {numbersAfter : List ℕ} {lagsAfter : List ℤ} → InOrder layers target closure t
-      → NoRow t (SharesRow layers target t) → Accepted layers target t numbers lags units left numbersAfter lagsAfter
-      → Answers layers target t numbers lags (Units closure units left) numbersAfter lagsAfter
+  -- 13 to 17, or the units: the table over the closure
+  over-closure : {closure : ℕ} {answer : Joined} {numbersAfter : List ℕ} {lagsAfter : List ℤ} → ClosureAnswers layers target (Complete closure)
+      → AnswersOver layers target closure t numbers lags answer numbersAfter lagsAfter
+      → Answers layers target t numbers lags answer numbersAfter lagsAfter

@@ -1,4 +1,4 @@
-// The whole of joining: the target's closure, the table, the units, the room, and the lists.
+// Joining in two steps, the closure of the target and then the table over it: the units, the room, and the lists.
 ghost use mathlib.Core.Path.{_≡_};
 ghost use Prim.Native.Nat.{_≤_};
 ghost use lib.ListN.{length};
@@ -149,11 +149,12 @@ fn join_ordered(
     )
 }
 
-// The units over a whole closure: 13 and 14 first.
-fn join_closure(
+// THE TABLE OVER A CLOSURE, the second step of joining: the layers of a loop, a target with its whole closure as `closure::closure_of` answers it, the
+// three columns and the two lists, as `join` has them. It answers the units, or the refusal, 13 to 17.
+pub fn join_table(
     layers: Layers,
     closure: u64,
-    target: usize,
+    target: u64,
     indices: &[u8],
     decodings: &[u64],
     matches: &[u64],
@@ -170,7 +171,7 @@ fn join_closure(
         Verdict::InOrder => join_ordered(
             layers,
             closure,
-            target,
+            target as usize,
             indices,
             decodings,
             matches,
@@ -182,7 +183,7 @@ fn join_closure(
     }
 }
 
-// THE CALL. The layers of a loop, a target, the three columns of the row table, and the two lists for the answer, of any lengths: the row
+// THE CALL: the closure, then the table over it. The layers of a loop, a target, the three columns of the row table, and the two lists for the answer, of any lengths: the row
 // numbers of the units and the lag beside each. After a refusal both lists are as they were.
 pub fn join(
     layers: Layers,
@@ -199,10 +200,10 @@ pub fn join(
 {
     let found = closure::closure_of(layers, target);
     match found {
-        Closure::Complete(set) => join_closure(
+        Closure::Complete(set) => join_table(
             layers,
             set,
-            target as usize,
+            target,
             indices,
             decodings,
             matches,

@@ -6,3 +6,4 @@ mod writing;
 
 pub use answer::Joined;
 pub use answer::join;
+pub use answer::join_table;

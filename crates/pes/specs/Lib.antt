@@ -1,2 +1,3 @@
 pub mod RoundTrips
+pub mod ThreeTimes
 pub mod Examples

@@ -1,10 +1,10 @@
--- The round trips of document 01, for all times and all headers: reading what the writer wrote gives back what was given, and
--- rewriting what was read from a header in the writer's own shape gives the same bytes.
+-- The round trips of document 01, for all times and all headers, with a TREF or without: reading what the writer wrote gives back what was given and
+-- the number of bytes written, and rewriting what was read from a header in the writer's own shape gives the same bytes.
 -- Assumes nothing.
 use Prim.Native.Nat.{ℕ, _+_, _*_, _/_, _%_, _^_, _≤_, _<_}
 use Prim.Native.String.{String}
 use mathlib.Core.Path.{_≡_, refl, sym, ap, ap₂, subst, _∙_}
-use mathlib.Core.Bool.{Bool, true, false, cond}
+use mathlib.Core.Bool.{Bool, true, false, cond, true≢false}
 use mathlib.Core.List.{List, [], _∷_, _++_, append-assoc, append-nil}
 use native.Mathlib.Omega.{arith}
 use lib.Dec.{leb}
@@ -18,22 +18,24 @@ use Rattle.syntax.specs.Named.{named, givenTo, hasLine, haveLines, WrittenBy}
 use Rattle.syntax.proofs.NamedLaws.{written-by-only, read-by-name}
 use Rattle.clock.specs.Clock.{ticks, isBefore}
 use Rattle.vocabulary.specs.declared.refusal.Refusal.the-variants.{NoRoom, PtsBeforeDts, TooWide}
-use Rattle.stamps.specs.Tables as Times
+use Rattle.stamps.specs.Tables as TimeTables
 use Rattle.stamps.specs.Tables.{ptsAlone, ptsBeforeDts, tref}
 use Rattle.stamps.specs.Stamps.{dtsFlag, timeOf, stampOf, withDts, withoutDts, stampsOf, partsOf}
 use Rattle.stamps.specs.StampLaws.{stamp, stamp-before}
 use Rattle.stamps.specs.declared.Stamp.{Stamp}
 use Rattle.stamps.specs.declared.Stamps.{Stamps}
+use Rattle.stamps.specs.declared.Times.{Times}
 use Rattle.pes_fields.specs.Tables as Tables
 use Rattle.pes_fields.specs.Tables.{extensionFlags, secondExtension, trefExtension}
 use Rattle.pes_fields.specs.HeaderData.{withMarker}
 use Rattle.pes_fields.specs.Meaning.{inOrder, Optional, with-tref, SecondExtension, PackHeader, PesExtension}
 use Rattle.pes_fields.specs.declared.Extension.{Extension}
 use Rattle.pes_fields.specs.declared.Extension.the-variants.{WithoutTref, WithTref}
-use Rattle.pes_reader.specs.Reading.{dataOf, judged, marksOf, matchOf, readOf}
+use Rattle.pes_reader.specs.Reading.{dataOf, endOf, judged, marksOf, matchOf, sentOf, readOf}
 use Rattle.pes_reader.specs.Meaning.{VideoHeader, LaidOut}
 use Rattle.pes_reader.specs.MeaningLaws.{laid-answer}
 use Rattle.pes_reader.specs.declared.Answer.the-variants as Answer
+use Rattle.pes_reader.specs.declared.Header.{Header}
 use Rattle.pes_writer.specs.Writing.{secondAlone, sixBytes, trefFollows, headGiven, headerOf, tooWide, writeOf, bufferOf}
 use Rattle.pes_writer.specs.WritingLaws.{narrow}
 use Rattle.pes_writer.specs.OwnShape as own
@@ -100,16 +102,17 @@ times-read (both {ptsField} {dtsField} {pts} {decoding} v w differ) =
       reads =
           ap₂ withDts
           (stamp-before ptsBeforeDts ptsField dtsField (omega (arith, v .written .as-long)) ∙ field-stamp ptsBeforeDts refl v)
-          (ap (stampOf Times.dts) (drop-at ptsField dtsField 5 (v .written .as-long)) ∙ field-stamp Times.dts refl w);
+          (ap (stampOf TimeTables.dts) (drop-at ptsField dtsField 5 (v .written .as-long)) ∙ field-stamp TimeTables.dts refl w);
     }
 
 -- ---- the extension
 
-record ExtensionRead (flag : ℕ) (extension : List ℕ) (pts decoding matching : ℕ) : Type 0 where
+record ExtensionRead (flag : ℕ) (extension : List ℕ) (pts decoding matching : ℕ) (withTref : Bool) : Type 0 where
   given : Extension
   is : PesExtension flag extension given
   marks : marksOf (stamps pts decoding) given ≡ true
   match : matchOf (stamps pts decoding) given ≡ matching
+  sent : sentOf given ≡ withTref
 
 tref-only : {flags second mark : List ℕ} (field : List ℕ) → WrittenBy extensionFlags secondAlone flags → WrittenBy secondExtension sixBytes second
     → WrittenBy trefExtension trefFollows mark → length field ≡ 5
@@ -132,21 +135,32 @@ tref-only {flags} {second} {mark} field a b c five =
         (ap₂ _++_ (written-by-only (record { whole = refl; fixed-fit = refl }) b)
         (ap (λ (l : List ℕ). l ++ field) (written-by-only (record { whole = refl; fixed-fit = refl }) c))))
 
-extension-read : {flag : ℕ} {extension : List ℕ} (pts : ℕ) {decoding matching : ℕ} → OwnExtension flag extension decoding matching
-    → ExtensionRead flag extension pts decoding matching
-extension-read pts (OwnExtension.none {time}) = record { given = WithoutTref true; is = PesExtension.absent; marks = refl; match = refl }
-extension-read pts (own.with-tref {field = field} {decoding = decoding} a b c d differ) =
+extension-read : {flag : ℕ} {extension : List ℕ} (pts : ℕ) {decoding matching : ℕ} {withTref : Bool} → OwnExtension flag extension decoding matching withTref
+    → ExtensionRead flag extension pts decoding matching withTref
+extension-read pts (OwnExtension.none {time}) = record { given = WithoutTref true; is = PesExtension.absent; marks = refl; match = refl; sent = refl }
+extension-read pts (own.with-tref {field = field} {decoding = decoding} a b c d) =
     let read : stampOf tref field ≡ stamp true _ = field-stamp tref refl d in
     record {
       given = WithTref (withMarker true (stampOf tref field));
       is = tref-only field a b c (d .written .as-long);
       marks = ap (λ (s : Stamp). s .marked) read;
       match = ap (λ (s : Stamp). s .time) read;
+      sent = refl;
     }
 
 -- ---- the header whole, with anything after it
 
-module _ {bytes : List ℕ} {pts decoding matching : ℕ} (o : OwnShape bytes pts decoding matching) (rest : List ℕ) where
+-- what a header says that was written with these times, in so many bytes
+abbrev pub readBack : Times → Bool → ℕ → Header
+readBack times withTref size = record { times = times; «tref_sent» = withTref; end = size }
+
+module _ {bytes : List ℕ} {times : Times} {withTref : Bool} (o : OwnShape bytes times withTref) (rest : List ℕ) where
+  abbrev pts : ℕ
+  pts = times .pts
+
+  abbrev decoding : ℕ
+  decoding = times .decoding
+
   abbrev l : List ℕ
   l = o .head ++ (o .times ++ (o .extension ++ rest))
 
@@ -159,7 +173,7 @@ module _ {bytes : List ℕ} {pts decoding matching : ℕ} (o : OwnShape bytes pt
   times-of : TimesRead (o .ptsDtsFlags) (o .times) pts decoding
   times-of = times-read (o .times-are)
 
-  extension-of : ExtensionRead (o .extensionFlag) (o .extension) pts decoding matching
+  extension-of : ExtensionRead (o .extensionFlag) (o .extension) pts decoding (times .matching) withTref
   extension-of = extension-read pts (o .extension-is)
 
   nine : length (o .head) ≡ 9
@@ -234,11 +248,21 @@ module _ {bytes : List ℕ} {pts decoding matching : ℕ} (o : OwnShape bytes pt
         stamps-are = sym (times-of .reads) ∙ ap (λ (f : ℕ). stampsOf f (times-of .ptsField ++ times-of .dtsField)) (sym (says "PTS_DTS_flags" refl));
       }
 
-  own-reads : readOf (bytes ++ rest) ≡ judged true pts decoding matching
+  -- where the header ends
+  end-is : endOf l ≡ length bytes
+  end-is =
+      let size : named "PES_header_data_length" Tables.head n ≡ length fields = says "PES_header_data_length" refl in
+      omega (arith, size, nine, ap length (o .order), length-append (o .head) fields)
+
+  own-reads : readOf (bytes ++ rest) ≡ judged true (readBack times withTref (length bytes))
   own-reads =
       ap readOf whole
       ∙ laid-answer l laid
-      ∙ ap₂ (λ (m : Bool) (t : ℕ). judged m pts decoding t) (extension-of .marks) (extension-of .match)
+      ∙ ap₂
+      (λ (m : Bool) (t : ℕ). judged m (readBack (record { pts = pts; decoding = decoding; matching = t }) (sentOf (extension-of .given)) (endOf l)))
+      (extension-of .marks)
+      (extension-of .match)
+      ∙ ap₂ (λ (sent : Bool) (end : ℕ). judged true (readBack times sent end)) (extension-of .sent) end-is
     where
       whole : bytes ++ rest ≡ l
       whole = ap (λ (l : List ℕ). l ++ rest) (o .order) ∙ simp append-assoc
@@ -253,76 +277,105 @@ times-narrow (both {ptsField} {dtsField} {pts} {decoding} v w differ) = (
   omega (arith, read-by-name w "[32..30]" refl),
 )
 
-match-narrow : {flag : ℕ} {extension : List ℕ} {decoding matching : ℕ} → decoding < ticks → OwnExtension flag extension decoding matching → matching < ticks
+match-narrow : {flag : ℕ} {extension : List ℕ} {decoding matching : ℕ} {withTref : Bool} → decoding < ticks
+    → OwnExtension flag extension decoding matching withTref → matching < ticks
 match-narrow below OwnExtension.none = below
-match-narrow below (own.with-tref a b c d differ) = omega (arith, read-by-name d "[32..30]" refl)
+match-narrow below (own.with-tref a b c d) = omega (arith, read-by-name d "[32..30]" refl)
 
-own-narrow : {bytes : List ℕ} {pts decoding matching : ℕ} → OwnShape bytes pts decoding matching → Narrow pts decoding matching
-own-narrow {bytes} {pts} {decoding} o =
-    let both-narrow : (pts < ticks) × (decoding < ticks) = times-narrow (o .times-are) in
-    record { pts-below = both-narrow .0; decoding-below = both-narrow .1; matching-below = match-narrow (both-narrow .1) (o .extension-is) }
+without-tref : {flag : ℕ} {extension : List ℕ} {decoding matching : ℕ} {withTref : Bool} → OwnExtension flag extension decoding matching withTref
+    → withTref ≡ false → matching ≡ decoding
+without-tref OwnExtension.none e = refl
+without-tref (own.with-tref a b c d) e = absurd (true≢false e)
+
+own-narrow : {bytes : List ℕ} {times : Times} {withTref : Bool} → OwnShape bytes times withTref → Narrow times withTref
+own-narrow {bytes} {times} o =
+    let both-narrow : (times .pts < ticks) × (times .decoding < ticks) = times-narrow (o .times-are) in
+    record {
+      pts-below = both-narrow .0;
+      decoding-below = both-narrow .1;
+      matching-below = match-narrow (both-narrow .1) (o .extension-is);
+      without-tref = without-tref (o .extension-is);
+    }
 
 -- ---- THE ROUND TRIPS
 
--- what an accepted answer says of the times
-accepted : (pts decoding matching : ℕ) (out : List ℕ) {size : ℕ} → writeOf pts decoding matching (length out) ≡ Bytes size
-    → Narrow pts decoding matching × (isBefore pts decoding ≡ false)
-accepted pts decoding matching out {size} e =
-    by (tooWide pts decoding matching) (leb (length (headerOf pts decoding matching)) (length out)) (isBefore pts decoding) refl refl refl
+-- what an accepted answer says of the times, and of the number of bytes
+record Accepted (times : Times) (withTref : Bool) (size : ℕ) : Type 0 where
+  fit : Narrow times withTref
+  not-before : isBefore (times .pts) (times .decoding) ≡ false
+  as-long : length (headerOf times withTref) ≡ size
+
+accepted : (times : Times) (withTref : Bool) (out : List ℕ) {size : ℕ} → writeOf times withTref (length out) ≡ Bytes size → Accepted times withTref size
+accepted times withTref out {size} e =
+    by (tooWide times withTref) (leb (length (headerOf times withTref)) (length out)) (isBefore (times .pts) (times .decoding)) refl refl refl
   where
-    by : (w r b : Bool) → tooWide pts decoding matching ≡ w → leb (length (headerOf pts decoding matching)) (length out) ≡ r → isBefore pts decoding ≡ b
-        → Narrow pts decoding matching × (isBefore pts decoding ≡ false)
+    by : (w r b : Bool) → tooWide times withTref ≡ w → leb (length (headerOf times withTref)) (length out) ≡ r → isBefore (times .pts) (times .decoding) ≡ b
+        → Accepted times withTref size
     by true r b f g h =
-        let z : Refused TooWide ≡ Bytes size = sym (by-tests pts decoding matching out true r b f g h) ∙ e in
+        let z : Refused TooWide ≡ Bytes size = sym (by-tests times withTref out true r b f g h) ∙ e in
         let one : _≡_ {A = ℕ} 0 1 = cc in absurd (omega arith)
     by false false b f g h =
-        let z : Refused NoRoom ≡ Bytes size = sym (by-tests pts decoding matching out false false b f g h) ∙ e in
+        let z : Refused NoRoom ≡ Bytes size = sym (by-tests times withTref out false false b f g h) ∙ e in
         let one : _≡_ {A = ℕ} 0 1 = cc in absurd (omega arith)
     by false true true f g h =
-        let z : Refused PtsBeforeDts ≡ Bytes size = sym (by-tests pts decoding matching out false true true f g h) ∙ e in
+        let z : Refused PtsBeforeDts ≡ Bytes size = sym (by-tests times withTref out false true true f g h) ∙ e in
         let one : _≡_ {A = ℕ} 0 1 = cc in absurd (omega arith)
-    by false true false f g h = (narrow pts decoding matching f, h)
+    by false true false f g h =
+        let z : Bytes (length (headerOf times withTref)) ≡ Bytes size = sym (by-tests times withTref out false true false f g h) ∙ e in
+        record { fit = narrow times withTref f; not-before = h; as-long = cc }
 
--- Reading what the writer wrote gives back what was given, whatever stands in the room beyond.
-pub reading-what-was-written : (pts decoding matching : ℕ) (out : List ℕ) {size : ℕ} → writeOf pts decoding matching (length out) ≡ Bytes size
-    → readOf (bufferOf (Bytes size) (headerOf pts decoding matching) out) ≡ Answer.Times pts decoding matching
-reading-what-was-written pts decoding matching out e =
-    let a : Narrow pts decoding matching × (isBefore pts decoding ≡ false) = accepted pts decoding matching out e in
-    own-reads (own-is pts decoding matching (a .0)) (drop (length (headerOf pts decoding matching)) out)
-    ∙ ap (λ (b : Bool). cond b (Answer.Refused PtsBeforeDts) (Answer.Times pts decoding matching)) (a .1)
+-- Reading what the writer wrote gives back the times, whether a TREF was asked for, and the number of bytes written, whatever stands in the room
+-- beyond.
+pub reading-what-was-written : (times : Times) (withTref : Bool) (out : List ℕ) {size : ℕ} → writeOf times withTref (length out) ≡ Bytes size
+    → readOf (bufferOf (Bytes size) (headerOf times withTref) out) ≡ Answer.Read (readBack times withTref size)
+reading-what-was-written times withTref out {size} e =
+    let a : Accepted times withTref size = accepted times withTref out e in
+    own-reads (own-is times withTref (a .fit)) (drop (length (headerOf times withTref)) out)
+    ∙ ap₂ (λ (b : Bool) (end : ℕ). cond b (Answer.Refused PtsBeforeDts) (Answer.Read (readBack times withTref end))) (a .not-before) (a .as-long)
 
 -- Rewriting what was read from a header in the writer's own shape gives the same bytes: with room for them the writer accepts, and
 -- they stand at the front.
-record SameTimes (a b c pts decoding matching : ℕ) : Type 0 where
-  pts-same : a ≡ pts
-  decoding-same : b ≡ decoding
-  matching-same : c ≡ matching
-  not-before : isBefore a b ≡ false
+record SameHeader (written read : Header) : Type 0 where
+  times-same : written .times ≡ read .times
+  sent-same : written .«tref_sent» ≡ read .«tref_sent»
+  end-same : written .end ≡ read .end
+  not-before : isBefore (written .times .pts) (written .times .decoding) ≡ false
 
-same-times : (a b c pts decoding matching : ℕ) (before : Bool) → isBefore a b ≡ before
-    → cond before (Answer.Refused PtsBeforeDts) (Answer.Times a b c) ≡ Answer.Times pts decoding matching
-    → SameTimes a b c pts decoding matching
-same-times a b c pts decoding matching true f e = let one : _≡_ {A = ℕ} 0 1 = cc in absurd (omega arith)
-same-times a b c pts decoding matching false f e = record { pts-same = cc; decoding-same = cc; matching-same = cc; not-before = f }
+same-header : (written read : Header) (before : Bool) → isBefore (written .times .pts) (written .times .decoding) ≡ before
+    → cond before (Answer.Refused PtsBeforeDts) (Answer.Read written) ≡ Answer.Read read → SameHeader written read
+same-header written read true f e = let one : _≡_ {A = ℕ} 0 1 = cc in absurd (omega arith)
+same-header written read false f e =
+    let same : written ≡ read = cc in
+    record {
+      times-same = ap (λ (h : Header). h .times) same;
+      sent-same = ap (λ (h : Header). h .«tref_sent») same;
+      end-same = ap (λ (h : Header). h .end) same;
+      not-before = f;
+    }
 
-module _ {bytes : List ℕ} {a b c : ℕ} (o : OwnShape bytes a b c) (pts decoding matching : ℕ) (read : readOf bytes ≡ Answer.Times pts decoding matching) where
-  times-read-off : SameTimes a b c pts decoding matching
-  times-read-off = same-times a b c pts decoding matching (isBefore a b) refl (sym (own-reads o []) ∙ ap readOf (append-nil bytes) ∙ read)
+module _ {bytes : List ℕ} {times : Times} {withTref : Bool} (o : OwnShape bytes times withTref) (header : Header) (read : readOf bytes ≡ Answer.Read header) where
+  abbrev written : Header
+  written = readBack times withTref (length bytes)
 
-  own-again : OwnShape bytes pts decoding matching
+  read-off : SameHeader written header
+  read-off =
+      same-header written header (isBefore (times .pts) (times .decoding)) refl (sym (own-reads o []) ∙ ap readOf (append-nil bytes) ∙ read)
+
+  own-again : OwnShape bytes (header .times) (header .«tref_sent»)
   own-again =
-      let s : SameTimes a b c pts decoding matching = times-read-off in
-      subst (λ (p : ℕ). OwnShape bytes p decoding matching) (s .pts-same)
-      (subst (λ (d : ℕ). OwnShape bytes a d matching) (s .decoding-same) (subst (OwnShape bytes a b) (s .matching-same) o))
+      subst (λ (t : Times). OwnShape bytes t (header .«tref_sent»)) (read-off .times-same) (subst (OwnShape bytes times) (read-off .sent-same) o)
 
-  pub rewriting-what-was-read : headerOf pts decoding matching ≡ bytes
+  pub rewriting-what-was-read : headerOf (header .times) (header .«tref_sent») ≡ bytes
   rewriting-what-was-read = sym (own-only own-again)
 
+  pub end-of-what-was-read : header .end ≡ length bytes
+  end-of-what-was-read = sym (read-off .end-same)
+
   pub rewritten : (out : List ℕ) → length bytes ≤ length out
-      → (writeOf pts decoding matching (length out) ≡ Bytes (length bytes))
-      × (bufferOf (Bytes (length bytes)) (headerOf pts decoding matching) out ≡ bytes ++ drop (length bytes) out)
+      → (writeOf (header .times) (header .«tref_sent») (length out) ≡ Bytes (length bytes))
+      × (bufferOf (Bytes (length bytes)) (headerOf (header .times) (header .«tref_sent»)) out ≡ bytes ++ drop (length bytes) out)
   rewritten out room =
-      let s : SameTimes a b c pts decoding matching = times-read-off in
-      let after : isBefore pts decoding ≡ false = ap₂ isBefore (sym (s .pts-same)) (sym (s .decoding-same)) ∙ s .not-before in
-      let done = writes-only pts decoding matching out (own.written (own-narrow own-again) own-again room after) in
+      let after : isBefore (header .times .pts) (header .times .decoding) ≡ false =
+      ap (λ (t : Times). isBefore (t .pts) (t .decoding)) (sym (read-off .times-same)) ∙ read-off .not-before in
+      let done = writes-only (header .times) (header .«tref_sent») out (own.written (own-narrow own-again) own-again room after) in
       (sym (done .0), sym (done .1))

@@ -1,6 +1,7 @@
 // Runs PES headers through the reader and times through the writer. Each line of the input is a case: its name, a colon, and the
-// bytes of a header in hexadecimal, or PTS, decoding time, match time and the room of a buffer. The file `stdin` has the cases, and
-// `stdout` what every line has to say; both were worked out by hand from Table 2-21 of H.222.0, source 003 and document 01.
+// bytes of a header in hexadecimal, or PTS, decoding time, match time, 1 or 0 for a TREF or none, and the room of a buffer. The file
+// `stdin` has the cases, and `stdout` what every line has to say; both were worked out by hand from Table 2-21 of H.222.0, source 003 and
+// documents 01 and 02.
 ghost use Prim.Native.Nat.{_≤_};
 use cases::number_or;
 use cases::numbers_of;
@@ -8,16 +9,28 @@ use cases::say;
 use cases::say_number;
 use libc::STDOUT_FILENO;
 use pes::Answer;
+use pes::Header;
+use pes::Times;
 use pes::Written;
 
 fn say_refused(refusal: vocabulary::Refusal) {
     say_number(b"refused ", vocabulary::number(refusal) as u64);
 }
 
-fn say_times(pts: u64, decoding: u64, matching: u64) {
-    say_number(b"times ", pts);
-    say_number(b" ", decoding);
-    say_number(b" ", matching);
+fn say_times(times: Times) {
+    say_number(b"times ", times.pts);
+    say_number(b" ", times.decoding);
+    say_number(b" ", times.matching);
+}
+
+fn say_header(header: Header) {
+    say_times(header.times);
+    if header.tref_sent {
+        say(b", TREF");
+    } else {
+        say(b", no TREF");
+    }
+    say_number(b", ends at ", header.end as u64);
 }
 
 fn say_byte(byte: u8) {
@@ -37,11 +50,7 @@ fn say_bytes(bytes: &[u8]) {
 fn read(header: &[u8]) {
     let answer = pes::read(header);
     match answer {
-        Answer::Times {
-            pts,
-            decoding,
-            matching,
-        } => say_times(pts, decoding, matching),
+        Answer::Read(header) => say_header(header),
         Answer::Refused(refusal) => say_refused(refusal),
     }
 }
@@ -62,9 +71,9 @@ fn read_case(words: &[u8]) {
     }
 }
 
-// Three times and a buffer, what the writer answers, and the whole buffer after it.
-fn write(pts: u64, decoding: u64, matching: u64, out: &mut [u8]) {
-    let written = pes::write(pts, decoding, matching, out);
+// Three times, whether a TREF is asked for and a buffer, what the writer answers, and the whole buffer after it.
+fn write(times: Times, with_tref: bool, out: &mut [u8]) {
+    let written = pes::write(times, with_tref, out);
     match written {
         Written::Bytes(n) => say_number(b"bytes ", n as u64),
         Written::Refused(refusal) => say_refused(refusal),
@@ -76,15 +85,15 @@ fn write(pts: u64, decoding: u64, matching: u64, out: &mut [u8]) {
 fn write_case(words: &[u8]) {
     let numbers = numbers_of(words);
     let mut out = [0xAAu8; 32];
-    let size = number_or(numbers, 4, 0);
+    let size = number_or(numbers, 5, 0);
     if size <= 32 {
         let end = size as usize;
-        write(
-            number_or(numbers, 1, 0),
-            number_or(numbers, 2, 0),
-            number_or(numbers, 3, 0),
-            &mut out[..end],
-        );
+        let times = Times {
+            pts: number_or(numbers, 1, 0),
+            decoding: number_or(numbers, 2, 0),
+            matching: number_or(numbers, 3, 0),
+        };
+        write(times, number_or(numbers, 4, 0) == 1, &mut out[..end]);
     }
 }
 

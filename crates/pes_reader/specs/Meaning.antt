@@ -17,9 +17,9 @@ use Rattle.pes_fields.specs.Tables.{head}
 use Rattle.pes_fields.specs.HeaderData.{flagsOf}
 use Rattle.pes_fields.specs.Meaning.{HeaderData}
 use Rattle.pes_fields.specs.declared.Extension.{Extension}
-use Rattle.pes_reader.specs.Reading.{dataOf, marksOf, matchOf}
+use Rattle.pes_reader.specs.Reading.{dataOf, endOf, marksOf, matchOf, sentOf, headerOf}
 use Rattle.pes_reader.specs.declared.Answer.{Answer}
-use Rattle.pes_reader.specs.declared.Answer.the-variants.{Times, Refused}
+use Rattle.pes_reader.specs.declared.Answer.the-variants.{Read, Refused}
 
 -- A video PES header, as refusal 20 asks: nine bytes with the prefix 00 00 01 and the '10' that the head's table fixes, a stream_id of
 -- 0xE0 to 0xEF, and the header data within the input.
@@ -39,7 +39,8 @@ pub record LaidOut (bytes : List ℕ) (stamps : Stamps) (given : Extension) : Ty
   pub fields : HeaderData (flagsOf head (number 9 bytes)) (dataOf bytes) pts dts given
   pub stamps-are : stamps ≡ stampsOf (named "PTS_DTS_flags" head (number 9 bytes)) (pts ++ dts)
 
--- What the reader has to answer: 20 to 24 where each applies and none before it does, and else the times.
+-- What the reader has to answer: 20 to 24 where each applies and none before it does, and else the times, whether a TREF stood there and where the
+-- header ends.
 pub data Answers (bytes : List ℕ) : Answer → Type 0 where
   not-video-header : (VideoHeader bytes → ⊥) → Answers bytes (Refused NotVideoHeader)
   no-pts : VideoHeader bytes → named "PTS_DTS_flags" head (number 9 bytes) < 0b10 → Answers bytes (Refused NoPts)
@@ -50,6 +51,6 @@ pub data Answers (bytes : List ℕ) : Answer → Type 0 where
   pts-before-dts : {stamps : Stamps} {given : Extension} → LaidOut bytes stamps given → marksOf stamps given ≡ true
       → isBefore (stamps .pts) (stamps .decoding) ≡ true
       → Answers bytes (Refused PtsBeforeDts)
-  times : {stamps : Stamps} {given : Extension} → LaidOut bytes stamps given → marksOf stamps given ≡ true
+  says : {stamps : Stamps} {given : Extension} → LaidOut bytes stamps given → marksOf stamps given ≡ true
       → isBefore (stamps .pts) (stamps .decoding) ≡ false
-      → Answers bytes (Times (stamps .pts) (stamps .decoding) (matchOf stamps given))
+      → Answers bytes (Read (headerOf stamps (matchOf stamps given) (sentOf given) (endOf bytes)))

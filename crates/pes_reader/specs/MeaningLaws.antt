@@ -20,18 +20,18 @@ use Rattle.pes_fields.specs.FieldLaws.{header-data-only, header-data-fits, stam
 use Rattle.pes_fields.specs.WalkLaws.{OneBit, Fields, header-data-is}
 use Rattle.pes_fields.specs.declared.Extension.{Extension}
 use Rattle.pes_fields.specs.declared.Extension.the-variants.{DoesNotFit, WithoutTref, WithTref}
-use Rattle.pes_reader.specs.Reading.{isVideoHeader, dataOf, judged, marksOf, matchOf, timesOf, fieldsOf, videoHeaderOf, readOf}
-use Rattle.pes_reader.specs.Meaning.{VideoHeader, LaidOut, Answers, not-video-header, no-pts, fields-do-not-fit, wrong-marker, pts-before-dts, times}
+use Rattle.pes_reader.specs.Reading.{isVideoHeader, dataOf, endOf, judged, marksOf, matchOf, sentOf, headerOf, saidBy, fieldsOf, videoHeaderOf, readOf}
+use Rattle.pes_reader.specs.Meaning.{VideoHeader, LaidOut, Answers, not-video-header, no-pts, fields-do-not-fit, wrong-marker, pts-before-dts, says}
 use Rattle.pes_reader.specs.VideoLaws.{video-is, video-only}
 use Rattle.pes_reader.specs.declared.Answer.{Answer}
-use Rattle.pes_reader.specs.declared.Answer.the-variants.{Times, Refused}
+use Rattle.pes_reader.specs.declared.Answer.the-variants.{Read, Refused}
 
 -- the case of a header whose fields fit
-judged-times : (stamps : Stamps) (given : Extension) → (given ≡ DoesNotFit → ⊥)
-    → timesOf stamps given ≡ judged (marksOf stamps given) (stamps .pts) (stamps .decoding) (matchOf stamps given)
-judged-times stamps DoesNotFit fits = absurd (fits refl)
-judged-times stamps (WithoutTref marked) fits = refl
-judged-times stamps (WithTref tref) fits = refl
+judged-header : (end : ℕ) (stamps : Stamps) (given : Extension) → (given ≡ DoesNotFit → ⊥)
+    → saidBy end stamps given ≡ judged (marksOf stamps given) (headerOf stamps (matchOf stamps given) (sentOf given) end)
+judged-header end stamps DoesNotFit fits = absurd (fits refl)
+judged-header end stamps (WithoutTref marked) fits = refl
+judged-header end stamps (WithTref tref) fits = refl
 
 module _ (l : List ℕ) where
   abbrev ptsDtsFlags : ℕ
@@ -55,24 +55,24 @@ module _ (l : List ℕ) where
   by-video : (t : Bool) → isVideoHeader l ≡ t → readOf l ≡ cond t (videoHeaderOf l) (Refused NotVideoHeader)
   by-video t e = ap (λ (t : Bool). cond t (videoHeaderOf l) (Refused NotVideoHeader)) e
 
-  by-flags : (t : Bool) → leb 0b10 ptsDtsFlags ≡ t → videoHeaderOf l ≡ cond t (fieldsOf flags (dataOf l)) (Refused NoPts)
-  by-flags t e = ap (λ (t : Bool). cond t (fieldsOf flags (dataOf l)) (Refused NoPts)) e
+  by-flags : (t : Bool) → leb 0b10 ptsDtsFlags ≡ t → videoHeaderOf l ≡ cond t (fieldsOf (endOf l) flags (dataOf l)) (Refused NoPts)
+  by-flags t e = ap (λ (t : Bool). cond t (fieldsOf (endOf l) flags (dataOf l)) (Refused NoPts)) e
 
-  a-header : VideoHeader l → 0b10 ≤ ptsDtsFlags → readOf l ≡ fieldsOf flags (dataOf l)
+  a-header : VideoHeader l → 0b10 ≤ ptsDtsFlags → readOf l ≡ fieldsOf (endOf l) flags (dataOf l)
   a-header video flagged = by-video true (video-only l video) ∙ by-flags true (le-leb 0b10 ptsDtsFlags flagged)
 
   module _ {stamps : Stamps} {given : Extension} (laid : LaidOut l stamps given) where
-    pub laid-answer : readOf l ≡ judged (marksOf stamps given) (stamps .pts) (stamps .decoding) (matchOf stamps given)
+    pub laid-answer : readOf l ≡ judged (marksOf stamps given) (headerOf stamps (matchOf stamps given) (sentOf given) (endOf l))
     laid-answer =
         a-header (laid .video) (laid .flagged)
-        ∙ ap₂ timesOf (sym (laid .stamps-are ∙ stamps-in-fields (laid .fields))) (header-data-only (laid .fields))
-        ∙ judged-times stamps given (header-data-fits (laid .fields))
+        ∙ ap₂ (saidBy (endOf l)) (sym (laid .stamps-are ∙ stamps-in-fields (laid .fields))) (header-data-only (laid .fields))
+        ∙ judged-header (endOf l) stamps given (header-data-fits (laid .fields))
 
     judged-by : (m : Bool) → marksOf stamps given ≡ m → (b : Bool) → isBefore (stamps .pts) (stamps .decoding) ≡ b
-        → readOf l ≡ cond m (cond b (Refused PtsBeforeDts) (Times (stamps .pts) (stamps .decoding) (matchOf stamps given))) (Refused WrongMarker)
+        → readOf l ≡ cond m (cond b (Refused PtsBeforeDts) (Read (headerOf stamps (matchOf stamps given) (sentOf given) (endOf l)))) (Refused WrongMarker)
     judged-by m e b f =
         laid-answer
-        ∙ ap₂ (λ (m b : Bool). cond m (cond b (Refused PtsBeforeDts) (Times (stamps .pts) (stamps .decoding) (matchOf stamps given))) (Refused WrongMarker)) e f
+        ∙ ap₂ (λ (m b : Bool). cond m (cond b (Refused PtsBeforeDts) (Read (headerOf stamps (matchOf stamps given) (sentOf given) (endOf l)))) (Refused WrongMarker)) e f
 
   no-fields : ((pts dts : List ℕ) (given : Extension) → HeaderData flags (dataOf l) pts dts given → ⊥) → (x : Extension)
       → headerDataOf flags (dataOf l) ≡ x → headerDataOf flags (dataOf l) ≡ DoesNotFit
@@ -93,10 +93,10 @@ module _ (l : List ℕ) where
       refused false e = by-video false e
   answers-only (no-pts video below) = sym (by-video true (video-only l video) ∙ by-flags false (lt-leb 0b10 ptsDtsFlags below))
   answers-only (fields-do-not-fit video flagged none) =
-      sym (a-header video flagged ∙ ap (timesOf (stampsOf ptsDtsFlags (dataOf l))) (no-fields none (headerDataOf flags (dataOf l)) refl))
+      sym (a-header video flagged ∙ ap (saidBy (endOf l) (stampsOf ptsDtsFlags (dataOf l))) (no-fields none (headerDataOf flags (dataOf l)) refl))
   answers-only (wrong-marker {stamps} laid e) = sym (judged-by laid false e (isBefore (stamps .pts) (stamps .decoding)) refl)
   answers-only (pts-before-dts laid e f) = sym (judged-by laid true e true f)
-  answers-only (times laid e f) = sym (judged-by laid true e false f)
+  answers-only (says laid e f) = sym (judged-by laid true e false f)
 
   -- there is an answer
   record Some : Type 0 where
@@ -106,7 +106,7 @@ module _ (l : List ℕ) where
   by-before : {stamps : Stamps} {given : Extension} → LaidOut l stamps given → marksOf stamps given ≡ true
       → (b : Bool) → isBefore (stamps .pts) (stamps .decoding) ≡ b → Some
   by-before laid e true f = record { answer = _; is = pts-before-dts laid e f }
-  by-before laid e false f = record { answer = _; is = times laid e f }
+  by-before laid e false f = record { answer = _; is = says laid e f }
 
   by-marks : {stamps : Stamps} {given : Extension} → LaidOut l stamps given → (m : Bool) → marksOf stamps given ≡ m → Some
   by-marks {stamps} laid true e = by-before laid e (isBefore (stamps .pts) (stamps .decoding)) refl

@@ -1,4 +1,5 @@
-// Reads the times of a video PES header, PTS, DTS and TREF: which of the refusals 20 to 24 it meets, tested in that order, or its three times.
+// Reads a video PES header for its times, PTS, DTS and TREF: which of the refusals 20 to 24 it meets, tested in that order, or its three times,
+// whether a TREF stood in it, and where it ends.
 ghost use mathlib.Core.Path.{_≡_};
 ghost use Prim.Native.Nat.{_≤_};
 ghost use lib.Dec.{eqb};
@@ -6,17 +7,23 @@ ghost use lib.ListN.{length};
 ghost use Rattle.syntax.specs.Table.{number};
 ghost use Rattle.pes_fields.specs.Tables.{packetFlags};
 ghost use Rattle.pes_fields.specs.HeaderData.{flagsOf};
-ghost use Rattle.pes_reader.specs.Reading.{isVideoHeader, judged, fieldsOf, readOf};
+ghost use Rattle.pes_reader.specs.Reading.{isVideoHeader, headerOf, judged, fieldsOf, readOf};
 use pes_fields::Extension;
+use stamps::Stamps;
+use stamps::Times;
 use vocabulary::Refusal;
 
-// What a header says of its component's times, or why it is refused.
+// What a header says of its component's times, whether a TREF stood in it, and the offset at which it ends: 9 plus PES_header_data_length,
+// stuffing included.
+pub struct Header {
+    pub times: Times,
+    pub tref_sent: bool,
+    pub end: usize,
+}
+
+// A header that was read, or why it is refused.
 pub enum Answer {
-    Times {
-        pts: u64,
-        decoding: u64,
-        matching: u64,
-    },
+    Read(Header),
     Refused(Refusal),
 }
 
@@ -51,26 +58,37 @@ fn is_video_header(bytes: &[u8]) -> bool
     9 + pes_fields::wide(bytes[8]) <= bytes.len()
 }
 
-// 23 before 24, and else the times.
-fn judge(marked: bool, pts: u64, decoding: u64, matching: u64) -> Answer
-    ensures { λ r. ⌜ r ≡ judged marked pts decoding matching ⌝ }
+// 23 before 24, and else what the header says.
+fn judge(marked: bool, header: Header) -> Answer
+    ensures { λ r. ⌜ r ≡ judged marked header ⌝ }
 {
     if !marked {
         return Answer::Refused(Refusal::WrongMarker);
     }
-    if clock::before(pts, decoding) {
+    if clock::before(header.times.pts, header.times.decoding) {
         return Answer::Refused(Refusal::PtsBeforeDts);
     }
-    Answer::Times {
-        pts,
-        decoding,
-        matching,
+    Answer::Read(header)
+}
+
+// What a header says that has these times, of which the match time is TREF where one was sent.
+fn header_of(stamps: Stamps, matching: u64, tref_sent: bool, end: usize) -> Header
+    ensures { λ r. ⌜ r ≡ headerOf stamps matching «tref_sent» end ⌝ }
+{
+    Header {
+        times: Times {
+            pts: stamps.pts,
+            decoding: stamps.decoding,
+            matching,
+        },
+        tref_sent,
+        end,
     }
 }
 
 // The header data, where there is a PTS: all lengths are settled before a marker is judged.
-fn read_fields(flags: u8, bytes: &[u8]) -> Answer
-    ensures { λ r. ⌜ r ≡ fieldsOf (flagsOf packetFlags flags) (now (bytes .entry)) ⌝ }
+fn read_fields(end: usize, flags: u8, bytes: &[u8]) -> Answer
+    ensures { λ r. ⌜ r ≡ fieldsOf end (flagsOf packetFlags flags) (now (bytes .entry)) ⌝ }
 {
     let extension = pes_fields::header_data(flags, bytes);
     match extension {
@@ -79,24 +97,20 @@ fn read_fields(flags: u8, bytes: &[u8]) -> Answer
             let stamps = stamps::pts_and_dts(flags / 64, bytes);
             judge(
                 stamps.marked & marked,
-                stamps.pts,
-                stamps.decoding,
-                stamps.decoding,
+                header_of(stamps, stamps.decoding, false, end),
             )
         }
         Extension::WithTref(tref) => {
             let stamps = stamps::pts_and_dts(flags / 64, bytes);
             judge(
                 stamps.marked & tref.marked,
-                stamps.pts,
-                stamps.decoding,
-                tref.time,
+                header_of(stamps, tref.time, true, end),
             )
         }
     }
 }
 
-// The times of a PES header, whatever the bytes are.
+// What a PES header says, whatever the bytes are.
 pub fn read(bytes: &[u8]) -> Answer
     ensures { λ r. ⌜ r ≡ readOf (now (bytes .entry)) ⌝ }
 {
@@ -108,5 +122,5 @@ pub fn read(bytes: &[u8]) -> Answer
         return Answer::Refused(Refusal::NoPts);
     }
     let end = 9 + pes_fields::wide(bytes[8]);
-    read_fields(flags, &bytes[9..end])
+    read_fields(end, flags, &bytes[9..end])
 }

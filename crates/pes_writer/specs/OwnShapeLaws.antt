@@ -15,12 +15,13 @@ use Rattle.syntax.specs.Named.{valuesBy, writeBy}
 use Rattle.syntax.proofs.NamedLaws.{written-by-meant, written-by-only}
 use Rattle.clock.specs.Clock.{ticks, isBefore}
 use Rattle.vocabulary.specs.declared.refusal.Refusal.the-variants.{NoRoom, PtsBeforeDts, TooWide}
-use Rattle.stamps.specs.Tables as Times
+use Rattle.stamps.specs.Tables as TimeTables
 use Rattle.stamps.specs.Tables.{timeBits, ptsAlone, ptsBeforeDts, tref}
 use Rattle.stamps.specs.Stamps.{partsOf, timeField}
+use Rattle.stamps.specs.declared.Times.{Times}
 use Rattle.pes_fields.specs.Tables as Tables
 use Rattle.pes_writer.specs.Writing.{timeFields, trefHead, trefFields, dataFields, headGiven, ptsDtsFlagsOf, extensionFlagOf, headOf, headerOf, tooWide, writeOf, bufferOf}
-use Rattle.pes_writer.specs.WritingLaws.{times-at-most, tref-at-most, data-length, flags-below, extension-below, narrow, narrow-only}
+use Rattle.pes_writer.specs.WritingLaws.{times-at-most, tref-length, tref-at-most, data-length, flags-below, extension-below, narrow, narrow-only}
 use Rattle.pes_writer.specs.OwnShape.{OwnTimes, alone, both, OwnExtension, with-tref, OwnShape, Narrow, Writes, too-wide, no-room, pts-before-dts}
 use Rattle.pes_writer.specs.OwnShape as own
 use Rattle.pes_writer.specs.declared.Written as answer
@@ -53,46 +54,52 @@ fit-head f e n hf he hn =
 
 -- ---- the header is in its own shape
 
-module _ (pts decoding matching : ℕ) (n : Narrow pts decoding matching) where
-  times-own : (t : Bool) → eqb pts decoding ≡ t
-      → OwnTimes (cond t 0b10 0b11) (cond t (timeField ptsAlone pts) (timeField ptsBeforeDts pts ++ timeField Times.dts decoding)) pts decoding
-  times-own true e =
-      subst (λ (d : ℕ). OwnTimes 0b10 (timeField ptsAlone pts) pts d) (eqb-true pts decoding e)
-      (alone (written-by-meant (record { whole = refl; fixed-fit = refl }) refl (at-fixed (fit-parts pts (n .pts-below)))))
-  times-own false e =
-      both
-      (written-by-meant (record { whole = refl; fixed-fit = refl }) refl (at-fixed (fit-parts pts (n .pts-below))))
-      (written-by-meant (record { whole = refl; fixed-fit = refl }) refl (at-fixed (fit-parts decoding (n .decoding-below))))
-      (eqb-false pts decoding e)
+times-own : (pts decoding : ℕ) → pts < ticks → decoding < ticks → (t : Bool) → eqb pts decoding ≡ t
+    → OwnTimes (cond t 0b10 0b11) (cond t (timeField ptsAlone pts) (timeField ptsBeforeDts pts ++ timeField TimeTables.dts decoding)) pts decoding
+times-own pts decoding pts-below decoding-below true e =
+    subst (λ (d : ℕ). OwnTimes 0b10 (timeField ptsAlone pts) pts d) (eqb-true pts decoding e)
+    (alone (written-by-meant (record { whole = refl; fixed-fit = refl }) refl (at-fixed (fit-parts pts pts-below))))
+times-own pts decoding pts-below decoding-below false e =
+    both
+    (written-by-meant (record { whole = refl; fixed-fit = refl }) refl (at-fixed (fit-parts pts pts-below)))
+    (written-by-meant (record { whole = refl; fixed-fit = refl }) refl (at-fixed (fit-parts decoding decoding-below)))
+    (eqb-false pts decoding e)
 
-  extension-own : (t : Bool) → eqb matching decoding ≡ t → OwnExtension (cond t 0 1) (cond t [] (trefHead ++ timeField tref matching)) decoding matching
-  extension-own true e = subst (λ (m : ℕ). OwnExtension 0 [] decoding m) (sym (eqb-true matching decoding e)) OwnExtension.none
-  extension-own false e =
-      with-tref
-      (written-by-meant (record { whole = refl; fixed-fit = refl }) refl (at-value (lit< tt) (at-value (lit< tt) (at-value (lit< tt) (at-value (lit< tt) (at-reserved (at-value (lit< tt) none)))))))
-      (written-by-meant (record { whole = refl; fixed-fit = refl }) refl (at-fixed (at-value (lit< tt) none)))
-      (written-by-meant (record { whole = refl; fixed-fit = refl }) refl (at-value (lit< tt) (at-reserved (at-value (lit< tt) none))))
-      (written-by-meant (record { whole = refl; fixed-fit = refl }) refl (at-reserved (fit-parts matching (n .matching-below))))
-      (eqb-false matching decoding e)
+extension-own : (times : Times) (withTref : Bool) → Narrow times withTref
+    → OwnExtension (extensionFlagOf withTref) (trefFields withTref (times .matching)) (times .decoding) (times .matching) withTref
+extension-own times true n =
+    with-tref
+    (written-by-meant (record { whole = refl; fixed-fit = refl }) refl (at-value (lit< tt) (at-value (lit< tt) (at-value (lit< tt) (at-value (lit< tt) (at-reserved (at-value (lit< tt) none)))))))
+    (written-by-meant (record { whole = refl; fixed-fit = refl }) refl (at-fixed (at-value (lit< tt) none)))
+    (written-by-meant (record { whole = refl; fixed-fit = refl }) refl (at-value (lit< tt) (at-reserved (at-value (lit< tt) none))))
+    (written-by-meant (record { whole = refl; fixed-fit = refl }) refl (at-reserved (fit-parts (times .matching) (n .matching-below))))
+extension-own times false n =
+    subst (λ (m : ℕ). OwnExtension 0 [] (times .decoding) m false) (sym (n .without-tref refl)) OwnExtension.none
 
-  pub own-is : OwnShape (headerOf pts decoding matching) pts decoding matching
-  own-is =
-      record {
-        head = headOf pts decoding matching;
-        times = timeFields pts decoding;
-        extension = trefFields decoding matching;
-        ptsDtsFlags = ptsDtsFlagsOf pts decoding;
-        extensionFlag = extensionFlagOf decoding matching;
-        order = refl;
-        head-is =
-            written-by-meant (record { whole = refl; fixed-fit = refl }) refl
-            (fit-head (ptsDtsFlagsOf pts decoding) (extensionFlagOf decoding matching) (length (dataFields pts decoding matching))
-            (flags-below pts decoding)
-            (extension-below decoding matching)
-            (omega (arith, data-length pts decoding matching, times-at-most pts decoding matching, tref-at-most pts decoding matching)));
-        times-are = times-own (eqb pts decoding) refl;
-        extension-is = extension-own (eqb matching decoding) refl;
-      }
+pub own-is : (times : Times) (withTref : Bool) → Narrow times withTref → OwnShape (headerOf times withTref) times withTref
+own-is times withTref n =
+    record {
+      head = headOf times withTref;
+      times = timeFields (times .pts) (times .decoding);
+      extension = trefFields withTref (times .matching);
+      ptsDtsFlags = ptsDtsFlagsOf (times .pts) (times .decoding);
+      extensionFlag = extensionFlagOf withTref;
+      order = refl;
+      head-is =
+          written-by-meant (record { whole = refl; fixed-fit = refl }) refl
+          (fit-head (ptsDtsFlagsOf (times .pts) (times .decoding)) (extensionFlagOf withTref) (length (dataFields times withTref))
+          (flags-below (times .pts) (times .decoding))
+          (extension-below withTref)
+          (omega (
+            arith,
+            data-length times withTref,
+            times-at-most (times .pts) (times .decoding),
+            tref-length withTref (times .matching),
+            tref-at-most withTref,
+          )));
+      times-are = times-own (times .pts) (times .decoding) (n .pts-below) (n .decoding-below) (eqb (times .pts) (times .decoding)) refl;
+      extension-is = extension-own times withTref n;
+    }
 
 -- ---- and nothing else is
 
@@ -101,68 +108,64 @@ own-times-only (alone {field} {time} w) =
     let same : eqb time time ≡ true = eq-eqb time time refl in (
       ap (λ (t : Bool). cond t 0b10 0b11) (sym same),
       written-by-only (record { whole = refl; fixed-fit = refl }) w
-          ∙ ap (λ (t : Bool). cond t (timeField ptsAlone time) (timeField ptsBeforeDts time ++ timeField Times.dts time)) (sym same),
+          ∙ ap (λ (t : Bool). cond t (timeField ptsAlone time) (timeField ptsBeforeDts time ++ timeField TimeTables.dts time)) (sym same),
     )
 own-times-only (both {ptsField} {dtsField} {pts} {decoding} v w differ) =
     let apart : eqb pts decoding ≡ false = ne-eqb pts decoding differ in (
       ap (λ (t : Bool). cond t 0b10 0b11) (sym apart),
       ap₂ _++_ (written-by-only (record { whole = refl; fixed-fit = refl }) v) (written-by-only (record { whole = refl; fixed-fit = refl }) w)
-          ∙ ap (λ (t : Bool). cond t (timeField ptsAlone pts) (timeField ptsBeforeDts pts ++ timeField Times.dts decoding)) (sym apart),
+          ∙ ap (λ (t : Bool). cond t (timeField ptsAlone pts) (timeField ptsBeforeDts pts ++ timeField TimeTables.dts decoding)) (sym apart),
     )
 
-own-extension-only : {e : ℕ} {extension : List ℕ} {decoding matching : ℕ} → OwnExtension e extension decoding matching
-    → (e ≡ extensionFlagOf decoding matching) × (extension ≡ trefFields decoding matching)
-own-extension-only (OwnExtension.none {time}) =
-    let same : eqb time time ≡ true = eq-eqb time time refl in
-    (ap (λ (t : Bool). cond t 0 1) (sym same), ap (λ (t : Bool). cond t [] (trefHead ++ timeField tref time)) (sym same))
-own-extension-only (with-tref {flags} {second} {mark} {field} {decoding} {matching} a b c d differ) =
-    let apart : eqb matching decoding ≡ false = ne-eqb matching decoding differ in (
-      ap (λ (t : Bool). cond t 0 1) (sym apart),
-      ap₂ _++_ (written-by-only (record { whole = refl; fixed-fit = refl }) a)
-          (ap₂ _++_ (written-by-only (record { whole = refl; fixed-fit = refl }) b)
-          (ap₂ _++_ (written-by-only (record { whole = refl; fixed-fit = refl }) c) (written-by-only (record { whole = refl; fixed-fit = refl }) d)))
-          ∙ ap (λ (t : Bool). cond t [] (trefHead ++ timeField tref matching)) (sym apart),
-    )
+own-extension-only : {e : ℕ} {extension : List ℕ} {decoding matching : ℕ} {withTref : Bool} → OwnExtension e extension decoding matching withTref
+    → (e ≡ extensionFlagOf withTref) × (extension ≡ trefFields withTref matching)
+own-extension-only (OwnExtension.none {time}) = (refl, refl)
+own-extension-only (with-tref {flags} {second} {mark} {field} {decoding} {matching} a b c d) = (
+  refl,
+  ap₂ _++_ (written-by-only (record { whole = refl; fixed-fit = refl }) a)
+      (ap₂ _++_ (written-by-only (record { whole = refl; fixed-fit = refl }) b)
+      (ap₂ _++_ (written-by-only (record { whole = refl; fixed-fit = refl }) c) (written-by-only (record { whole = refl; fixed-fit = refl }) d))),
+)
 
-pub own-only : {bytes : List ℕ} {pts decoding matching : ℕ} → OwnShape bytes pts decoding matching → bytes ≡ headerOf pts decoding matching
-own-only {bytes} {pts} {decoding} {matching} o =
-    let times-same : (o .ptsDtsFlags ≡ ptsDtsFlagsOf pts decoding) × (o .times ≡ timeFields pts decoding) = own-times-only (o .times-are) in
-    let extension-same : (o .extensionFlag ≡ extensionFlagOf decoding matching) × (o .extension ≡ trefFields decoding matching) =
+pub own-only : {bytes : List ℕ} {times : Times} {withTref : Bool} → OwnShape bytes times withTref → bytes ≡ headerOf times withTref
+own-only {bytes} {times} {withTref} o =
+    let times-same : (o .ptsDtsFlags ≡ ptsDtsFlagsOf (times .pts) (times .decoding)) × (o .times ≡ timeFields (times .pts) (times .decoding)) = own-times-only (o .times-are) in
+    let extension-same : (o .extensionFlag ≡ extensionFlagOf withTref) × (o .extension ≡ trefFields withTref (times .matching)) =
     own-extension-only (o .extension-is) in
-    let fields-same : o .times ++ o .extension ≡ dataFields pts decoding matching = ap₂ _++_ (times-same .1) (extension-same .1) in
+    let fields-same : o .times ++ o .extension ≡ dataFields times withTref = ap₂ _++_ (times-same .1) (extension-same .1) in
     o .order
     ∙ ap₂ _++_
     (written-by-only (record { whole = refl; fixed-fit = refl }) (o .head-is)
     ∙ ap₂ (λ (f e : ℕ). writeBy Tables.head (headGiven f e (length (o .times ++ o .extension)))) (times-same .0) (extension-same .0)
-    ∙ ap (λ (l : List ℕ). writeBy Tables.head (headGiven (ptsDtsFlagsOf pts decoding) (extensionFlagOf decoding matching) (length l))) fields-same)
+    ∙ ap (λ (l : List ℕ). writeBy Tables.head (headGiven (ptsDtsFlagsOf (times .pts) (times .decoding)) (extensionFlagOf withTref) (length l))) fields-same)
     fields-same
 
 -- ---- what the writer has to do
 
-module _ (pts decoding matching : ℕ) (out : List ℕ) where
+module _ (times : Times) (withTref : Bool) (out : List ℕ) where
   abbrev header : List ℕ
-  header = headerOf pts decoding matching
+  header = headerOf times withTref
 
   -- the answer, test by test
-  pub by-tests : (w r b : Bool) → tooWide pts decoding matching ≡ w → leb (length header) (length out) ≡ r → isBefore pts decoding ≡ b
-      → writeOf pts decoding matching (length out) ≡ cond w (Refused TooWide) (cond r (cond b (Refused PtsBeforeDts) (Bytes (length header))) (Refused NoRoom))
+  pub by-tests : (w r b : Bool) → tooWide times withTref ≡ w → leb (length header) (length out) ≡ r → isBefore (times .pts) (times .decoding) ≡ b
+      → writeOf times withTref (length out) ≡ cond w (Refused TooWide) (cond r (cond b (Refused PtsBeforeDts) (Bytes (length header))) (Refused NoRoom))
   by-tests w r b e f g =
-      ap (λ (w : Bool). cond w (Refused TooWide) (cond (leb (length header) (length out)) (cond (isBefore pts decoding) (Refused PtsBeforeDts) (Bytes (length header))) (Refused NoRoom))) e
+      ap (λ (w : Bool). cond w (Refused TooWide) (cond (leb (length header) (length out)) (cond (isBefore (times .pts) (times .decoding)) (Refused PtsBeforeDts) (Bytes (length header))) (Refused NoRoom))) e
       ∙ ap₂ (λ (r b : Bool). cond w (Refused TooWide) (cond r (cond b (Refused PtsBeforeDts) (Bytes (length header))) (Refused NoRoom))) f g
 
   -- both parts of what is promised
   abbrev Promised : answer.Written → List ℕ → Type 0
-  Promised r exit = (r ≡ writeOf pts decoding matching (length out)) × (exit ≡ bufferOf r header out)
+  Promised r exit = (r ≡ writeOf times withTref (length out)) × (exit ≡ bufferOf r header out)
 
-  wide : (t : Bool) → tooWide pts decoding matching ≡ t → (Narrow pts decoding matching → ⊥) → tooWide pts decoding matching ≡ true
+  wide : (t : Bool) → tooWide times withTref ≡ t → (Narrow times withTref → ⊥) → tooWide times withTref ≡ true
   wide true e not-narrow = e
-  wide false e not-narrow = absurd (not-narrow (narrow pts decoding matching e))
+  wide false e not-narrow = absurd (not-narrow (narrow times withTref e))
 
-  pub writes-only : {r : answer.Written} {exit : List ℕ} → Writes pts decoding matching out r exit → Promised r exit
+  pub writes-only : {r : answer.Written} {exit : List ℕ} → Writes times withTref out r exit → Promised r exit
   writes-only (too-wide not-narrow) =
-      (sym (by-tests true (leb (length header) (length out)) (isBefore pts decoding) (wide (tooWide pts decoding matching) refl not-narrow) refl refl), refl)
+      (sym (by-tests true (leb (length header) (length out)) (isBefore (times .pts) (times .decoding)) (wide (tooWide times withTref) refl not-narrow) refl refl), refl)
   writes-only (no-room n o short) =
-      (sym (by-tests false false (isBefore pts decoding) (narrow-only n) (lt-leb (length header) (length out) (rw (own-only o) at short)) refl), refl)
+      (sym (by-tests false false (isBefore (times .pts) (times .decoding)) (narrow-only n) (lt-leb (length header) (length out) (rw (own-only o) at short)) refl), refl)
   writes-only (pts-before-dts n o room b) =
       (sym (by-tests false true true (narrow-only n) (le-leb (length header) (length out) (rw (own-only o) at room)) b), refl)
   writes-only (own.written {header = h} n o room b) = (
@@ -174,29 +177,29 @@ module _ (pts decoding matching : ℕ) (out : List ℕ) where
   record Some : Type 0 where
     answer : answer.Written
     exit : List ℕ
-    is : Writes pts decoding matching out answer exit
+    is : Writes times withTref out answer exit
 
-  by-before : Narrow pts decoding matching → length header ≤ length out → (b : Bool) → isBefore pts decoding ≡ b → Some
-  by-before n room true e = record { answer = _; exit = _; is = pts-before-dts n (own-is pts decoding matching n) room e }
-  by-before n room false e = record { answer = _; exit = _; is = own.written n (own-is pts decoding matching n) room e }
+  by-before : Narrow times withTref → length header ≤ length out → (b : Bool) → isBefore (times .pts) (times .decoding) ≡ b → Some
+  by-before n room true e = record { answer = _; exit = _; is = pts-before-dts n (own-is times withTref n) room e }
+  by-before n room false e = record { answer = _; exit = _; is = own.written n (own-is times withTref n) room e }
 
-  by-room : Narrow pts decoding matching → (r : Bool) → leb (length header) (length out) ≡ r → Some
-  by-room n true e = by-before n (leb-true (length header) (length out) e) (isBefore pts decoding) refl
+  by-room : Narrow times withTref → (r : Bool) → leb (length header) (length out) ≡ r → Some
+  by-room n true e = by-before n (leb-true (length header) (length out) e) (isBefore (times .pts) (times .decoding)) refl
   by-room n false e =
-      record { answer = _; exit = _; is = no-room n (own-is pts decoding matching n) (leb-false (length header) (length out) e) }
+      record { answer = _; exit = _; is = no-room n (own-is times withTref n) (leb-false (length header) (length out) e) }
 
-  by-width : (w : Bool) → tooWide pts decoding matching ≡ w → Some
+  by-width : (w : Bool) → tooWide times withTref ≡ w → Some
   by-width true e =
       record {
         answer = _;
         exit = _;
         is = too-wide (λ n. let z : true ≡ false = sym e ∙ narrow-only n in let one : _≡_ {A = ℕ} 0 1 = cc in omega arith);
       }
-  by-width false e = by-room (narrow pts decoding matching e) (leb (length header) (length out)) refl
+  by-width false e = by-room (narrow times withTref e) (leb (length header) (length out)) refl
 
-  pub writes-is : Writes pts decoding matching out (writeOf pts decoding matching (length out)) (bufferOf (writeOf pts decoding matching (length out)) header out)
+  pub writes-is : Writes times withTref out (writeOf times withTref (length out)) (bufferOf (writeOf times withTref (length out)) header out)
   writes-is =
-      let some : Some = by-width (tooWide pts decoding matching) refl in
+      let some : Some = by-width (tooWide times withTref) refl in
       let promised : Promised (some .answer) (some .exit) = writes-only (some .is) in
-      subst (λ (r : answer.Written). Writes pts decoding matching out r (bufferOf r header out)) (promised .0)
-      (subst (Writes pts decoding matching out (some .answer)) (promised .1) (some .is))
+      subst (λ (r : answer.Written). Writes times withTref out r (bufferOf r header out)) (promised .0)
+      (subst (Writes times withTref out (some .answer)) (promised .1) (some .is))

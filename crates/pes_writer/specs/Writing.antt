@@ -1,8 +1,8 @@
--- What the writer makes of three times: 'stream id 0xE0, packet length 0, byte 0x84, a DTS only if it differs from PTS, a TREF only
--- if match and decoding time differ, and no other field'.
+-- What the writer makes of three times and of its caller's choice whether a TREF is sent: 'stream id 0xE0, packet length 0, byte 0x84, a DTS only
+-- if it differs from PTS', a TREF exactly when asked for (document 02, W-213), 'and no other field'.
 -- Assumes nothing.
 use Prim.Native.Nat.{ℕ}
-use mathlib.Core.Bool.{Bool, cond, _||_}
+use mathlib.Core.Bool.{Bool, cond, not, _&&_, _||_}
 use mathlib.Core.List.{List, [], _∷_, _++_}
 use lib.Dec.{eqb, leb}
 use lib.ListN.{length}
@@ -12,6 +12,7 @@ use Rattle.clock.specs.Clock.{ticks, isBefore}
 use Rattle.vocabulary.specs.declared.refusal.Refusal.the-variants.{NoRoom, PtsBeforeDts, TooWide}
 use Rattle.stamps.specs.Tables.{ptsAlone, ptsBeforeDts, dts, tref}
 use Rattle.stamps.specs.Stamps.{timeField}
+use Rattle.stamps.specs.declared.Times.{Times}
 use Rattle.pes_fields.specs.Tables.{head, extensionFlags, secondExtension, trefExtension}
 use Rattle.pes_writer.specs.declared.Written.{Written}
 use Rattle.pes_writer.specs.declared.Written.the-variants.{Bytes, Refused}
@@ -21,7 +22,7 @@ abbrev pub timeFields : ℕ → ℕ → List ℕ
 timeFields pts decoding =
     cond (eqb pts decoding) (timeField ptsAlone pts) (timeField ptsBeforeDts pts ++ timeField dts decoding)
 
--- the extension, if match and decoding time differ: no other flag of it, a second extension of 6 bytes, and TREF
+-- the extension, if a TREF is asked for: no other flag of it, a second extension of 6 bytes, and TREF
 abbrev pub secondAlone : Given
 secondAlone = ("PES_extension_flag_2", 1) ∷ []
 
@@ -34,11 +35,14 @@ trefFollows = ("stream_id_extension_flag", 1) ∷ ("tref_extension_flag", 0) ∷
 abbrev pub trefHead : List ℕ
 trefHead = writeBy extensionFlags secondAlone ++ (writeBy secondExtension sixBytes ++ writeBy trefExtension trefFollows)
 
-abbrev pub trefFields : ℕ → ℕ → List ℕ
-trefFields decoding matching = cond (eqb matching decoding) [] (trefHead ++ timeField tref matching)
+abbrev pub trefFields : Bool → ℕ → List ℕ
+trefFields withTref matching = cond withTref (trefHead ++ timeField tref matching) []
 
-abbrev pub dataFields : ℕ → ℕ → ℕ → List ℕ
-dataFields pts decoding matching = timeFields pts decoding ++ trefFields decoding matching
+abbrev pub trefLength : Bool → ℕ
+trefLength withTref = cond withTref 8 0
+
+abbrev pub dataFields : Times → Bool → List ℕ
+dataFields times withTref = timeFields (times .pts) (times .decoding) ++ trefFields withTref (times .matching)
 
 -- What is given to the head's lines; all others have 0. Byte 0x84 is '10' and data_alignment_indicator.
 abbrev pub headGiven : ℕ → ℕ → ℕ → Given
@@ -54,28 +58,33 @@ headGiven ptsDtsFlags extensionFlag dataLength =
 abbrev pub ptsDtsFlagsOf : ℕ → ℕ → ℕ
 ptsDtsFlagsOf pts decoding = cond (eqb pts decoding) 0b10 0b11
 
-abbrev pub extensionFlagOf : ℕ → ℕ → ℕ
-extensionFlagOf decoding matching = cond (eqb matching decoding) 0 1
+abbrev pub extensionFlagOf : Bool → ℕ
+extensionFlagOf withTref = cond withTref 1 0
 
-abbrev pub headOf : ℕ → ℕ → ℕ → List ℕ
-headOf pts decoding matching =
+abbrev pub headOf : Times → Bool → List ℕ
+headOf times withTref =
     writeBy head
-    (headGiven (ptsDtsFlagsOf pts decoding) (extensionFlagOf decoding matching) (length (dataFields pts decoding matching)))
+    (headGiven (ptsDtsFlagsOf (times .pts) (times .decoding)) (extensionFlagOf withTref) (length (dataFields times withTref)))
 
 -- The header whole.
-abbrev pub headerOf : ℕ → ℕ → ℕ → List ℕ
-headerOf pts decoding matching = headOf pts decoding matching ++ dataFields pts decoding matching
+abbrev pub headerOf : Times → Bool → List ℕ
+headerOf times withTref = headOf times withTref ++ dataFields times withTref
 
--- '25: a value to be written is too wide for its field'
-abbrev pub tooWide : ℕ → ℕ → ℕ → Bool
-tooWide pts decoding matching = leb ticks pts || leb ticks decoding || leb ticks matching
+-- '25: a value to be written is too wide for its field'; and 'when asked for no TREF although match and decoding time differ', since the match
+-- time then has no field at all
+abbrev pub tooWide : Times → Bool → Bool
+tooWide times withTref =
+    leb ticks (times .pts)
+    || leb ticks (times .decoding)
+    || leb ticks (times .matching)
+    || (not withTref && not (eqb (times .matching) (times .decoding)))
 
 -- 'Writers test 25 before all else', and then the lowest number: 17 for the room, 24. The answer is the number of bytes written.
-abbrev pub writeOf : ℕ → ℕ → ℕ → ℕ → Written
-writeOf pts decoding matching room =
-    cond (tooWide pts decoding matching) (Refused TooWide)
-    (cond (leb (length (headerOf pts decoding matching)) room)
-    (cond (isBefore pts decoding) (Refused PtsBeforeDts) (Bytes (length (headerOf pts decoding matching))))
+abbrev pub writeOf : Times → Bool → ℕ → Written
+writeOf times withTref room =
+    cond (tooWide times withTref) (Refused TooWide)
+    (cond (leb (length (headerOf times withTref)) room)
+    (cond (isBefore (times .pts) (times .decoding)) (Refused PtsBeforeDts) (Bytes (length (headerOf times withTref))))
     (Refused NoRoom))
 
 -- 'every output buffer is untouched' on a refusal, and on acceptance 'the room beyond what was written'

@@ -1,13 +1,14 @@
-// Writes the times of a video PES header, PTS, DTS and TREF: 25, 17 and 24 tested in that order, or the header written at the front of the
-// buffer.
+// Writes a video PES header of three times, with a TREF exactly when its caller asks for one: 25, 17 and 24 tested in that order, or the header
+// written at the front of the buffer.
 ghost use mathlib.Core.Path.{_≡_};
 ghost use Prim.Native.Nat.{_+_, _^_, _≤_, _<_};
 ghost use lib.ListN.{length};
 ghost use Rattle.buffers.specs.Buffers.{Laid};
 ghost use Rattle.syntax.specs.Named.{writeBy};
 ghost use Rattle.pes_fields.specs.Tables.{head};
-ghost use Rattle.pes_writer.specs.Writing.{timeFields, trefFields, dataFields, headGiven, ptsDtsFlagsOf, extensionFlagOf, headOf, headerOf, tooWide, writeOf, bufferOf};
+ghost use Rattle.pes_writer.specs.Writing.{timeFields, trefFields, trefLength, dataFields, headGiven, ptsDtsFlagsOf, extensionFlagOf, headOf, headerOf, tooWide, writeOf, bufferOf};
 use buffers::put_whole;
+use stamps::Times;
 use vocabulary::Refusal;
 
 // The number of bytes written, or why nothing was.
@@ -50,13 +51,13 @@ fn put_times(out: &mut [u8], at: usize, pts: u64, decoding: u64) -> usize
     put_whole(out, next, &second)
 }
 
-// The extension with TREF, if match and decoding time differ, laid over the buffer, and the place after it.
-fn put_tref(out: &mut [u8], at: usize, decoding: u64, matching: u64) -> usize
+// The extension with TREF, if one is asked for, laid over the buffer, and the place after it.
+fn put_tref(out: &mut [u8], at: usize, with_tref: bool, matching: u64) -> usize
     requires { ⌜ matching < 2 ^ 33 ⌝ }
-    requires { ⌜ at + length (trefFields decoding matching) ≤ length (now out) ⌝ }
-    ensures { λ r. ⌜ Laid (now (out .entry)) at (trefFields decoding matching) r (now (out .exit)) ⌝ }
+    requires { ⌜ at + length (trefFields «with_tref» matching) ≤ length (now out) ⌝ }
+    ensures { λ r. ⌜ Laid (now (out .entry)) at (trefFields «with_tref» matching) r (now (out .exit)) ⌝ }
 {
-    if matching == decoding {
+    if !with_tref {
         return at;
     }
     let flags = [0x0Fu8, 0x86, 0xFE];
@@ -72,77 +73,80 @@ fn times_length(pts: u64, decoding: u64) -> u8
     if pts == decoding { 5 } else { 10 }
 }
 
-fn tref_length(decoding: u64, matching: u64) -> u8
-    ensures { λ r. ⌜ r ≡ length (trefFields decoding matching) ⌝ }
+fn tref_length(with_tref: bool) -> u8
+    ensures { λ r. ⌜ r ≡ trefLength «with_tref» ⌝ }
 {
-    if matching == decoding { 0 } else { 8 }
+    if with_tref { 8 } else { 0 }
 }
 
 // PES_header_data_length
-fn data_length(pts: u64, decoding: u64, matching: u64) -> u8
-    ensures { λ r. ⌜ r ≡ length (dataFields pts decoding matching) ⌝ }
+fn data_length(times: Times, with_tref: bool) -> u8
+    ensures { λ r. ⌜ r ≡ length (dataFields times «with_tref») ⌝ }
 {
-    times_length(pts, decoding) + tref_length(decoding, matching)
+    times_length(times.pts, times.decoding) + tref_length(with_tref)
 }
 
-// The flags of the head that depend on the times.
+// The flags of the head that depend on the times, and on whether a TREF is asked for.
 fn pts_dts_flags(pts: u64, decoding: u64) -> u8
     ensures { λ r. ⌜ r ≡ ptsDtsFlagsOf pts decoding ⌝ }
 {
     if pts == decoding { 2 } else { 3 }
 }
 
-fn extension_flag(decoding: u64, matching: u64) -> u8
-    ensures { λ r. ⌜ r ≡ extensionFlagOf decoding matching ⌝ }
+fn extension_flag(with_tref: bool) -> u8
+    ensures { λ r. ⌜ r ≡ extensionFlagOf «with_tref» ⌝ }
 {
-    if matching == decoding { 0 } else { 1 }
+    if with_tref { 1 } else { 0 }
 }
 
 // The head for the times.
-fn head_for(pts: u64, decoding: u64, matching: u64) -> [u8; 9]
-    ensures { λ r. ⌜ r ≡ headOf pts decoding matching ⌝ }
+fn head_for(times: Times, with_tref: bool) -> [u8; 9]
+    ensures { λ r. ⌜ r ≡ headOf times «with_tref» ⌝ }
 {
     head_of(
-        pts_dts_flags(pts, decoding),
-        extension_flag(decoding, matching),
-        data_length(pts, decoding, matching),
+        pts_dts_flags(times.pts, times.decoding),
+        extension_flag(with_tref),
+        data_length(times, with_tref),
     )
 }
 
 // The header laid over the front of the buffer, and its length.
-fn put_header(out: &mut [u8], pts: u64, decoding: u64, matching: u64) -> usize
-    requires { ⌜ (pts < 2 ^ 33) × (decoding < 2 ^ 33) ⌝ }
-    requires { ⌜ matching < 2 ^ 33 ⌝ }
-    requires { ⌜ length (headerOf pts decoding matching) ≤ length (now out) ⌝ }
-    ensures { λ r. ⌜ Laid (now (out .entry)) 0 (headerOf pts decoding matching) r (now (out .exit)) ⌝ }
+fn put_header(out: &mut [u8], times: Times, with_tref: bool) -> usize
+    requires { ⌜ (times .pts < 2 ^ 33) × (times .decoding < 2 ^ 33) ⌝ }
+    requires { ⌜ times .matching < 2 ^ 33 ⌝ }
+    requires { ⌜ length (headerOf times «with_tref») ≤ length (now out) ⌝ }
+    ensures { λ r. ⌜ Laid (now (out .entry)) 0 (headerOf times «with_tref») r (now (out .exit)) ⌝ }
 {
-    let head = head_for(pts, decoding, matching);
+    let head = head_for(times, with_tref);
     let at = put_whole(out, 0, &head);
-    let next = put_times(out, at, pts, decoding);
-    put_tref(out, next, decoding, matching)
+    let next = put_times(out, at, times.pts, times.decoding);
+    put_tref(out, next, with_tref, times.matching)
 }
 
-// All that refusal 25 asks.
-fn any_too_wide(pts: u64, decoding: u64, matching: u64) -> bool
-    ensures { λ r. ⌜ r ≡ tooWide pts decoding matching ⌝ }
+// All that refusal 25 asks: each time fits its field, and without a TREF the match time, which then has no field, is the decoding time.
+fn any_too_wide(times: Times, with_tref: bool) -> bool
+    ensures { λ r. ⌜ r ≡ tooWide times «with_tref» ⌝ }
 {
-    (8589934592 <= pts) | (8589934592 <= decoding) | (8589934592 <= matching)
+    (8589934592 <= times.pts)
+        | (8589934592 <= times.decoding)
+        | (8589934592 <= times.matching)
+        | (!with_tref & (times.matching != times.decoding))
 }
 
-// Writes the header of three times to the front of the buffer.
-pub fn write(pts: u64, decoding: u64, matching: u64, out: &mut [u8]) -> Written
-    ensures { λ r. ⌜ r ≡ writeOf pts decoding matching (length (now (out .entry))) ⌝ }
-    ensures { λ r. ⌜ now (out .exit) ≡ bufferOf r (headerOf pts decoding matching) (now (out .entry)) ⌝ }
+// Writes the header of three times to the front of the buffer, with a TREF exactly when asked for one.
+pub fn write(times: Times, with_tref: bool, out: &mut [u8]) -> Written
+    ensures { λ r. ⌜ r ≡ writeOf times «with_tref» (length (now (out .entry))) ⌝ }
+    ensures { λ r. ⌜ now (out .exit) ≡ bufferOf r (headerOf times «with_tref») (now (out .entry)) ⌝ }
 {
-    if any_too_wide(pts, decoding, matching) {
+    if any_too_wide(times, with_tref) {
         return Written::Refused(Refusal::TooWide);
     }
-    let length = 9 + data_length(pts, decoding, matching) as usize;
+    let length = 9 + data_length(times, with_tref) as usize;
     if out.len() < length {
         return Written::Refused(Refusal::NoRoom);
     }
-    if clock::before(pts, decoding) {
+    if clock::before(times.pts, times.decoding) {
         return Written::Refused(Refusal::PtsBeforeDts);
     }
-    Written::Bytes(put_header(out, pts, decoding, matching))
+    Written::Bytes(put_header(out, times, with_tref))
 }

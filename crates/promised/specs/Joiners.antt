@@ -1,4 +1,5 @@
--- The calls that join rows to units, and their promises: over layers, and from the bytes of a loop. Each has two lists for its output.
+-- The calls that join rows to units, and their promises: over a closure that was found, over layers, and from the bytes of a loop. Each has two
+-- lists for its output.
 -- Assumes nothing.
 use Prim.Native.Nat.{ℕ}
 use mathlib.Core.Bool.{true}
@@ -15,7 +16,11 @@ use Rattle.closure.specs.declared.Layers.{Layers}
 use Rattle.joining.specs.declared.answer.Joined.{Joined}
 use Rattle.joining.specs.declared.answer.Joined.the-variants as Joined
 use Rattle.rows.specs.Table.{Table, table}
-use Rattle.joining.specs.Joining.{joinedOf, numbersAfter, lagsAfter}
+use Rattle.joining.specs.Units.{frameOf}
+use Rattle.joining.specs.Orderly.{Closed}
+use Rattle.joining.specs.Joining.{tableJoined, framedNumbers, framedLags, joinedOf, numbersAfter, lagsAfter}
+use Rattle.joining.proofs.join_table.Kinds as join-table-kinds
+use Rattle.joining.proofs.join_table.Reads as join-table
 use Rattle.joining.proofs.join.Kinds as join-kinds
 use Rattle.joining.proofs.join.Reads as join
 use Rattle.joining.specs.Meaning as Joining
@@ -73,10 +78,89 @@ module _ {Given : Type 0} (j : Joiner Given) where
   kept given k (Joined.Refused r) number e =
       ap₂ (λ (numbers : List ℕ) (lags : List ℤ). record { numbers = numbers; lags = lags }) (k .numbers-kept r) (k .lags-kept r)
 
--- ---- `joining::join`: 'the target 11 and 12, joining 13 to 17 after these'
+-- ---- `joining::join_table`: 13 to 17, of a table over the whole closure of a target
 
 abbrev pub joiningNumbers : List ℕ
 joiningNumbers = 13 ∷ 14 ∷ 15 ∷ 16 ∷ 17 ∷ []
+
+pub record TableGiven : Type 0 where
+  pub layers : Layers
+  pub closure : ℕ
+  pub target : ℕ
+  pub whole : Closed layers target closure
+  pub rows : Table
+  pub lists : Lists
+
+-- Of all the calls this function alone asks for something, the closure that its caller was answered: the runs it has are those with it.
+pub record RunOverClosure : Type 0 where
+  pub run : Run 5 join-table-kinds.ps join-table-kinds.r
+  pub closed : Closed (run .handed .0) (run .handed .1 .1 .0) (run .handed .1 .0)
+
+abbrev pub joinTable : Call
+joinTable =
+    record {
+      Ran = RunOverClosure;
+      Asks = λ ran. join-table.Pre (ran .run .lifetimes) (ran .run .handed);
+      Ensures = λ ran. join-table.Post (ran .run .lifetimes) (ran .run .handed) (ran .run .answer) (ran .run .left);
+      Given = TableGiven;
+      Answer = Joined;
+      Buffers = Lists;
+      given = λ ran. record {
+        layers = ran .run .handed .0;
+        closure = ran .run .handed .1 .0;
+        target = ran .run .handed .1 .1 .0;
+        whole = ran .closed;
+        rows = table (now (ran .run .handed .1 .1 .1 .0)) (now (ran .run .handed .1 .1 .1 .1 .0)) (now (ran .run .handed .1 .1 .1 .1 .1 .0));
+        lists = record { numbers = now (ran .run .handed .1 .1 .1 .1 .1 .1 .0); lags = now (ran .run .handed .1 .1 .1 .1 .1 .1 .1 .0) };
+      };
+      answer = λ ran. ran .run .answer;
+      before = λ given. given .lists;
+      after = λ ran. record { numbers = now (ran .run .left .1 .1 .1 .1 .1 .1 .0); lags = now (ran .run .left .1 .1 .1 .1 .1 .1 .1 .0) };
+      numberIn = joinedNumber;
+      numbers = joiningNumbers;
+      Means = λ given answer lists. Joining.AnswersOver (given .layers) (given .target) (given .closure) (given .rows) (given .lists .numbers)
+          (given .lists .lags) answer (lists .numbers) (lists .lags);
+    }
+
+table-listed : {layers : Layers} {target closure : ℕ} {rows : Table} {numbers numbers₂ : List ℕ} {lags lags₂ : List ℤ} {answer : Joined}
+    → Joining.AnswersOver layers target closure rows numbers lags answer numbers₂ lags₂ → isListed joiningNumbers (joinedNumber answer) ≡ true
+table-listed (Joining.wrong-shape a) = refl
+table-listed (Joining.out-of-range a b) = refl
+table-listed (Joining.order-broken a b c) = refl
+table-listed (Joining.no-assembly a b) = refl
+table-listed (Joining.in-two-units a b c) = refl
+table-listed (Joining.no-room a b c d e) = refl
+table-listed (Joining.joined a b c) = refl
+
+abbrev tableJoiner : Joiner TableGiven
+tableJoiner =
+    record {
+      joined = λ given. tableJoined (given .layers) (given .target) (given .rows) (given .closure) (length (given .lists .numbers)) (length (given .lists .lags));
+      lists = λ given. given .lists;
+      numbersBy = λ given. framedNumbers (given .rows) (frameOf (given .layers) (given .closure) (given .target));
+      lagsBy = λ given. framedLags (given .rows) (frameOf (given .layers) (given .closure) (given .target));
+    }
+
+pub tableJoinedComputed : Computed joinTable (tableJoiner .joined) (λ given. after tableJoiner given (tableJoiner .joined given))
+tableJoinedComputed =
+    record {
+      asks-nothing = λ ran. ran .closed;
+      ensured = λ ran e. equals tableJoiner (joinTable .given ran) (record { is-answer = e .0; is-numbers = e .1 .0; is-lags = e .1 .1 });
+      right = right;
+      nothing-else = λ given means. (let c = joining.table-only (given .layers) (given .target) (given .closure) (given .whole) (given .rows) (given .lists .numbers) (given .lists .lags) means in
+          equals tableJoiner given (record { is-answer = c .is-answer; is-numbers = c .is-numbers; is-lags = c .is-lags }));
+      listed = λ given. table-listed (right given);
+      untouched = λ given. kept tableJoiner given (record { numbers-kept = λ r. refl; lags-kept = λ r. refl }) (tableJoiner .joined given);
+    }
+  where
+    right : (given : TableGiven) → joinTable .Means given (tableJoiner .joined given) (after tableJoiner given (tableJoiner .joined given))
+    right given =
+        joining.table-meant (given .layers) (given .target) (given .closure) (given .whole) (given .rows) (given .lists .numbers) (given .lists .lags)
+
+pub table-joined : Promised joinTable
+table-joined = promised tableJoinedComputed
+
+-- ---- `joining::join`: 'the target 11 and 12, joining 13 to 17 after these'
 
 pub record RowsGiven : Type 0 where
   pub layers : Layers
@@ -111,13 +195,8 @@ joinRows =
 joining-listed : {layers : Layers} {target : ℕ} {rows : Table} {numbers numbers₂ : List ℕ} {lags lags₂ : List ℤ} {answer : Joined}
     → Joining.Answers layers target rows numbers lags answer numbers₂ lags₂ → isListed (joinRows .numbers) (joinedNumber answer) ≡ true
 joining-listed (Joining.no-closure {refusal} c) = listed-first (closureOfTarget .numbers) joiningNumbers (some (numberOf refusal)) (target-listed c)
-joining-listed (Joining.wrong-shape a b) = refl
-joining-listed (Joining.out-of-range a b c) = refl
-joining-listed (Joining.order-broken a b c d) = refl
-joining-listed (Joining.no-assembly a b) = refl
-joining-listed (Joining.in-two-units a b c) = refl
-joining-listed (Joining.no-room a b c d e) = refl
-joining-listed (Joining.joined a b c) = refl
+joining-listed (Joining.over-closure {answer = answer} c a) =
+    listed-second (closureOfTarget .numbers) joiningNumbers (joinedNumber answer) (table-listed a)
 
 abbrev rowsJoiner : Joiner RowsGiven
 rowsJoiner =

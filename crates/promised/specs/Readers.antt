@@ -201,7 +201,7 @@ loop-closure-found = promised loopClosureComputed
 -- ---- `pes::read`: 'The PES reader uses 20 to 24'
 
 abbrev pub timesNumber : Answer → Option ℕ
-timesNumber (Answer.Times pts decoding matching) = none
+timesNumber (Answer.Read header) = none
 timesNumber (Answer.Refused refusal) = some (numberOf refusal)
 
 abbrev pub readTimes : Call
@@ -228,7 +228,7 @@ times-listed (Times.no-pts a b) = refl
 times-listed (Times.fields-do-not-fit a b c) = refl
 times-listed (Times.wrong-marker a b) = refl
 times-listed (Times.pts-before-dts a b c) = refl
-times-listed (Times.times a b c) = refl
+times-listed (Times.says a b c) = refl
 
 pub timesReadComputed : Computed readTimes (readOf) (λ bytes. tt)
 timesReadComputed =

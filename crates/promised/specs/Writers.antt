@@ -1,7 +1,7 @@
 -- The calls that write bytes into a buffer, and their promises.
 -- Assumes nothing.
 use Prim.Native.Nat.{ℕ}
-use mathlib.Core.Bool.{true}
+use mathlib.Core.Bool.{Bool, true}
 use mathlib.Core.List.{List, [], _∷_}
 use mathlib.Core.Option.{Option, none, some}
 use mathlib.Core.Path.{_≡_, refl, _∙_, ap}
@@ -19,6 +19,7 @@ use Rattle.combinators.specs.Members.{member}
 use Rattle.judging.specs.Judging.{mostEmbedded}
 use Rattle.loop_writer.specs.Meaning as Loop
 use Rattle.loop_writer.proofs.Meant as loop
+use Rattle.stamps.specs.declared.Times.{Times as HeaderTimes}
 use Rattle.pes_writer.specs.declared.Written.{Written as TimesWritten}
 use Rattle.pes_writer.specs.declared.Written.the-variants as TimesWritten
 use Rattle.pes_writer.specs.Writing.{headerOf, writeOf, bufferOf}
@@ -99,9 +100,8 @@ loop-written = promised loopWrittenComputed
 -- ---- `pes::write`: 'its writer 24, 25, 17'
 
 pub record TimesGiven : Type 0 where
-  pub pts : ℕ
-  pub decoding : ℕ
-  pub matching : ℕ
+  pub times : HeaderTimes
+  pub withTref : Bool
   pub out : List ℕ
 
 abbrev pub timesWrittenNumber : TimesWritten → Option ℕ
@@ -117,16 +117,16 @@ writeTimes =
       Given = TimesGiven;
       Answer = TimesWritten;
       Buffers = List ℕ;
-      given = λ run. record { pts = run .handed .0; decoding = run .handed .1 .0; matching = run .handed .1 .1 .0; out = now (run .handed .1 .1 .1 .0) };
+      given = λ run. record { times = run .handed .0; withTref = run .handed .1 .0; out = now (run .handed .1 .1 .0) };
       answer = λ run. run .answer;
       before = λ given. given .out;
-      after = λ run. now (run .left .1 .1 .1 .0);
+      after = λ run. now (run .left .1 .1 .0);
       numberIn = timesWrittenNumber;
       numbers = 17 ∷ 24 ∷ 25 ∷ [];
-      Means = λ given answer after. Times.Writes (given .pts) (given .decoding) (given .matching) (given .out) answer after;
+      Means = λ given answer after. Times.Writes (given .times) (given .withTref) (given .out) answer after;
     }
 
-times-written-listed : {pts decoding matching : ℕ} {out after : List ℕ} {answer : TimesWritten} → Times.Writes pts decoding matching out answer after
+times-written-listed : {times : HeaderTimes} {withTref : Bool} {out after : List ℕ} {answer : TimesWritten} → Times.Writes times withTref out answer after
     → isListed (writeTimes .numbers) (timesWrittenNumber answer) ≡ true
 times-written-listed (Times.too-wide a) = refl
 times-written-listed (Times.no-room a b c) = refl
@@ -134,10 +134,10 @@ times-written-listed (Times.pts-before-dts a b c d) = refl
 times-written-listed (Times.written a b c d) = refl
 
 abbrev timesAnswer : TimesGiven → TimesWritten
-timesAnswer given = writeOf (given .pts) (given .decoding) (given .matching) (length (given .out))
+timesAnswer given = writeOf (given .times) (given .withTref) (length (given .out))
 
 abbrev timesBuffer : TimesGiven → TimesWritten → List ℕ
-timesBuffer given written = bufferOf written (headerOf (given .pts) (given .decoding) (given .matching)) (given .out)
+timesBuffer given written = bufferOf written (headerOf (given .times) (given .withTref)) (given .out)
 
 times-untouched : (written : TimesWritten) (bytes out : List ℕ) (number : ℕ) → timesWrittenNumber written ≡ some number
     → bufferOf written bytes out ≡ out
@@ -149,16 +149,16 @@ timesWrittenComputed =
     record {
       asks-nothing = λ run. tt;
       ensured = λ run e. (e .0, e .1 ∙ ap (timesBuffer (writeTimes .given run)) (e .0));
-      right = λ given. times.writes-is (given .pts) (given .decoding) (given .matching) (given .out);
+      right = λ given. times.writes-is (given .times) (given .withTref) (given .out);
       nothing-else = λ given means. only given means;
-      listed = λ given. times-written-listed (times.writes-is (given .pts) (given .decoding) (given .matching) (given .out));
-      untouched = λ given number e. times-untouched (timesAnswer given) (headerOf (given .pts) (given .decoding) (given .matching)) (given .out) number e;
+      listed = λ given. times-written-listed (times.writes-is (given .times) (given .withTref) (given .out));
+      untouched = λ given number e. times-untouched (timesAnswer given) (headerOf (given .times) (given .withTref)) (given .out) number e;
     }
   where
-    only : (given : TimesGiven) {written : TimesWritten} {after : List ℕ} → Times.Writes (given .pts) (given .decoding) (given .matching) (given .out) written after
+    only : (given : TimesGiven) {written : TimesWritten} {after : List ℕ} → Times.Writes (given .times) (given .withTref) (given .out) written after
         → (written ≡ timesAnswer given) × (after ≡ timesBuffer given (timesAnswer given))
     only given means =
-        let both = times.writes-only (given .pts) (given .decoding) (given .matching) (given .out) means in
+        let both = times.writes-only (given .times) (given .withTref) (given .out) means in
         (both .0, both .1 ∙ ap (timesBuffer given) (both .0))
 
 pub times-written : Promised writeTimes

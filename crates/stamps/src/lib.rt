@@ -12,6 +12,13 @@ pub struct Stamp {
     pub time: u64,
 }
 
+// The times of a PES header. Decoding time is DTS, or PTS without a DTS; match time is TREF, or the decoding time without one.
+pub struct Times {
+    pub pts: u64,
+    pub decoding: u64,
+    pub matching: u64,
+}
+
 // PTS and decoding time, and whether the bits that their fields fix are right.
 pub struct Stamps {
     pub marked: bool,

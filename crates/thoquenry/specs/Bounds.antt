@@ -24,17 +24,19 @@ use Rattle.vocabulary.specs.declared.refusal.Refusal.{Refusal}
 use Rattle.vocabulary.specs.declared.refusal.Refusal.the-variants.{LoopTooLong, DoesNotFit, RepeatedPid, WrongLength, SecondRecord, TypeNotAllowed, WrongFlags, RepeatedLayerIndex, WrongEmbeddedIndex, TooManyEmbedded, NoSuchLayer, EmbeddedLayerAbsent, OutOfRange, TimeOrderBroken, Unpaired, UsedTwice, NoRoom, NotVideoHeader, NoPts, FieldsDoNotFit, WrongMarker, PtsBeforeDts, TooWide}
 use Rattle.vocabulary.specs.Refusals.{numberOf, placeOf}
 use Rattle.stamps.specs.declared.Stamps.{Stamps}
+use Rattle.stamps.specs.declared.Times.{Times}
 use Rattle.pes_fields.specs.declared.Extension.{Extension}
 use Rattle.pes_fields.specs.declared.Extension.the-variants.{DoesNotFit as DataDoNotFit, WithoutTref, WithTref}
 use Rattle.pes_reader.specs.declared.Answer.{Answer}
-use Rattle.pes_reader.specs.declared.Answer.the-variants.{Times, Refused as NotRead}
+use Rattle.pes_reader.specs.declared.Answer.the-variants.{Read, Refused as NotRead}
+use Rattle.pes_reader.specs.declared.Header.{Header}
 use Rattle.pes_writer.specs.declared.Written.{Written as HeaderWritten}
 use Rattle.pes_writer.specs.declared.Written.the-variants.{Bytes as HeaderBytes, Refused as NoHeader}
 use Rattle.stamps.specs.Tables.{ptsAlone, ptsBeforeDts, dts, tref}
 use Rattle.pes_fields.specs.Tables.{head as packetHead}
 use Rattle.stamps.specs.Stamps.{stampsOf, timeField}
 use Rattle.pes_fields.specs.HeaderData.{flagsOf, headerDataOf}
-use Rattle.pes_reader.specs.Reading.{isVideoHeader, dataOf, judged as timesJudged, timesOf, fieldsOf, videoHeaderOf, readOf}
+use Rattle.pes_reader.specs.Reading.{isVideoHeader, dataOf, endOf, judged as headerJudged, headerOf as headerRead, saidBy, fieldsOf, videoHeaderOf, readOf}
 use Rattle.pes_writer.specs.Writing.{timeFields, trefHead, trefFields, dataFields, headOf, headerOf, tooWide as timesTooWide, writeOf}
 use Rattle.closure.specs.declared.Layers.{Layers}
 use Rattle.closure.specs.declared.Closure.{Closure}
@@ -115,44 +117,47 @@ accepted-count count h = value-of 0 count (omega arith) (omega arith)
 -- ---- times: every place is 0
 
 abbrev pub SmallTimes : Answer → Type 0
-SmallTimes (Times pts decoding matching) = Unit {0}
+SmallTimes (Read header) = Unit {0}
 SmallTimes (NotRead refusal) = Placed refusal
 
-small-judged : (marked : Bool) (pts decoding matching : ℕ) → SmallTimes (timesJudged marked pts decoding matching)
-small-judged marked pts decoding matching =
-    either-way SmallTimes marked (cond (isBefore pts decoding) (NotRead PtsBeforeDts) (Times pts decoding matching)) (NotRead WrongMarker)
-    (either-way SmallTimes (isBefore pts decoding) (NotRead PtsBeforeDts) (Times pts decoding matching) (omega arith) tt) (omega arith)
+small-judged : (marked : Bool) (header : Header) → SmallTimes (headerJudged marked header)
+small-judged marked header =
+    let before : Bool = isBefore (header .times .pts) (header .times .decoding) in
+    either-way SmallTimes marked (cond before (NotRead PtsBeforeDts) (Read header)) (NotRead WrongMarker)
+    (either-way SmallTimes before (NotRead PtsBeforeDts) (Read header) (omega arith) tt) (omega arith)
 
-small-times : (stamps : Stamps) (extension : Extension) → SmallTimes (timesOf stamps extension)
-small-times stamps DataDoNotFit = omega arith
-small-times stamps (WithoutTref marked) = small-judged (stamps .marked && marked) (stamps .pts) (stamps .decoding) (stamps .decoding)
-small-times stamps (WithTref tref) = small-judged (stamps .marked && tref .marked) (stamps .pts) (stamps .decoding) (tref .time)
+small-times : (end : ℕ) (stamps : Stamps) (extension : Extension) → SmallTimes (saidBy end stamps extension)
+small-times end stamps DataDoNotFit = omega arith
+small-times end stamps (WithoutTref marked) = small-judged (stamps .marked && marked) (headerRead stamps (stamps .decoding) false end)
+small-times end stamps (WithTref tref) = small-judged (stamps .marked && tref .marked) (headerRead stamps (tref .time) true end)
 
 pub small-read : (bytes : List ℕ) → SmallTimes (readOf bytes)
 small-read bytes =
     either-way SmallTimes (isVideoHeader bytes) (videoHeaderOf bytes) (NotRead NotVideoHeader)
-    (either-way SmallTimes (leb 0b10 (named "PTS_DTS_flags" packetHead (number 9 bytes))) (fieldsOf (flagsOf packetHead (number 9 bytes)) (dataOf bytes)) (NotRead NoPts)
-    (small-times (stampsOf (flagsOf packetHead (number 9 bytes) .ptsDts) (dataOf bytes)) (headerDataOf (flagsOf packetHead (number 9 bytes)) (dataOf bytes))) (omega arith))
+    (either-way SmallTimes (leb 0b10 (named "PTS_DTS_flags" packetHead (number 9 bytes))) (fieldsOf (endOf bytes) (flagsOf packetHead (number 9 bytes)) (dataOf bytes)) (NotRead NoPts)
+    (small-times (endOf bytes) (stampsOf (flagsOf packetHead (number 9 bytes) .ptsDts) (dataOf bytes)) (headerDataOf (flagsOf packetHead (number 9 bytes)) (dataOf bytes))) (omega arith))
     (omega arith)
 
 abbrev pub SmallHeader : HeaderWritten → Type 0
 SmallHeader (HeaderBytes count) = count ≤ 32768
 SmallHeader (NoHeader refusal) = Placed refusal
 
-header-short : (pts decoding matching : ℕ) → length (headerOf pts decoding matching) ≤ 32768
-header-short pts decoding matching =
-    let times : length (timeFields pts decoding) ≤ 10 =
+header-short : (times : Times) (withTref : Bool) → length (headerOf times withTref) ≤ 32768
+header-short times withTref =
+    let pts : ℕ = times .pts in
+    let decoding : ℕ = times .decoding in
+    let first-two : length (timeFields pts decoding) ≤ 10 =
     either-way (λ (l : List ℕ). length l ≤ 10) (eqb pts decoding) (timeField ptsAlone pts) (timeField ptsBeforeDts pts ++ timeField dts decoding) (omega arith) (omega arith) in
-    let last : length (trefFields decoding matching) ≤ 8 =
-    either-way (λ (l : List ℕ). length l ≤ 8) (eqb matching decoding) [] (trefHead ++ timeField tref matching) (omega arith) (omega arith) in
-    let first : length (headOf pts decoding matching) ≡ 9 = refl in
-    omega (arith, length-append (headOf pts decoding matching) (dataFields pts decoding matching), length-append (timeFields pts decoding) (trefFields decoding matching))
+    let last : length (trefFields withTref (times .matching)) ≤ 8 =
+    either-way (λ (l : List ℕ). length l ≤ 8) withTref (trefHead ++ timeField tref (times .matching)) [] (omega arith) (omega arith) in
+    let first : length (headOf times withTref) ≡ 9 = refl in
+    omega (arith, length-append (headOf times withTref) (dataFields times withTref), length-append (timeFields pts decoding) (trefFields withTref (times .matching)))
 
-pub small-header : (pts decoding matching room : ℕ) → SmallHeader (writeOf pts decoding matching room)
-small-header pts decoding matching room =
-    either-way SmallHeader (timesTooWide pts decoding matching) (NoHeader TooWide) _ (omega arith)
-    (either-way SmallHeader (leb (length (headerOf pts decoding matching)) room) _ (NoHeader NoRoom)
-    (either-way SmallHeader (isBefore pts decoding) (NoHeader PtsBeforeDts) (HeaderBytes (length (headerOf pts decoding matching))) (omega arith) (header-short pts decoding matching))
+pub small-header : (times : Times) (withTref : Bool) (room : ℕ) → SmallHeader (writeOf times withTref room)
+small-header times withTref room =
+    either-way SmallHeader (timesTooWide times withTref) (NoHeader TooWide) _ (omega arith)
+    (either-way SmallHeader (leb (length (headerOf times withTref)) room) _ (NoHeader NoRoom)
+    (either-way SmallHeader (isBefore (times .pts) (times .decoding)) (NoHeader PtsBeforeDts) (HeaderBytes (length (headerOf times withTref))) (omega arith) (header-short times withTref))
     (omega arith))
 
 -- ---- loops

@@ -42,11 +42,21 @@ third-row : take 17 (drop 160 (readLoop 2015 loopA (replicate 241 9) .buffer))
 unfolding headOf tailOf
 third-row = refl
 
--- 'PTS 9000 alone', read and written
-nine-thousand : readTimes (0x00 ∷ 0x00 ∷ 0x01 ∷ 0xE0 ∷ 0x00 ∷ 0x00 ∷ 0x84 ∷ 0x80 ∷ 0x05 ∷ 0x21 ∷ 0x00 ∷ 0x01 ∷ 0x46 ∷ 0x51 ∷ []) (0 ∷ 0 ∷ 0 ∷ 7 ∷ [])
-    ≡ reply (0 + 256 * 3) (9000 ∷ 9000 ∷ 9000 ∷ 7 ∷ [])
+-- 'PTS 9000 alone', read and written: no TREF, and the header ends at 14
+nine-thousand : readTimes (0x00 ∷ 0x00 ∷ 0x01 ∷ 0xE0 ∷ 0x00 ∷ 0x00 ∷ 0x84 ∷ 0x80 ∷ 0x05 ∷ 0x21 ∷ 0x00 ∷ 0x01 ∷ 0x46 ∷ 0x51 ∷ []) (0 ∷ 0 ∷ 0 ∷ 0 ∷ 0 ∷ 7 ∷ [])
+    ≡ reply (0 + 256 * 5) (9000 ∷ 9000 ∷ 9000 ∷ 0 ∷ 14 ∷ 7 ∷ [])
 nine-thousand = refl
 
-written : writeTimes 9000 9000 9000 (replicate 15 7)
+written : writeTimes 9000 9000 9000 0 (replicate 15 7)
     ≡ reply (0 + 256 * 14) (0x00 ∷ 0x00 ∷ 0x01 ∷ 0xE0 ∷ 0x00 ∷ 0x00 ∷ 0x84 ∷ 0x80 ∷ 0x05 ∷ 0x21 ∷ 0x00 ∷ 0x01 ∷ 0x46 ∷ 0x51 ∷ 7 ∷ [])
 written = refl
+
+-- four numbers are no room; a choice of 2 and a match time without a TREF give 25, in no room too
+room-for-four : readTimes [] (0 ∷ 0 ∷ 0 ∷ 0 ∷ []) ≡ reply 17 (0 ∷ 0 ∷ 0 ∷ 0 ∷ [])
+room-for-four = refl
+
+neither-choice : writeTimes 9000 9000 9000 2 [] ≡ reply 25 []
+neither-choice = refl
+
+no-field-for-it : writeTimes 12000 12000 12600 0 [] ≡ reply 25 []
+no-field-for-it = refl

@@ -20,10 +20,10 @@ from ._library import load
 from ._refusals import Number, Refused
 
 __all__ = [
-    "Component", "Entry", "Extension", "Hierarchy", "Number", "Reading", "Refused", "Row", "Times", "Units",
+    "Component", "Entry", "Extension", "Header", "Hierarchy", "Number", "Reading", "Refused", "Row", "Times", "Units",
     "closure", "import_", "join", "read_loop", "read_times", "write_loop", "write_times",
 ]
-__version__ = "0.1.0"
+__version__ = "0.2.0"
 
 _LIBRARY = load()
 
@@ -99,6 +99,16 @@ class Times:
     pts: int
     decoding: int
     matching: int
+
+
+@dataclass(frozen=True)
+class Header:
+    """What a PES header says of its component: its times; whether a TREF stood in it, also one that equals the decoding time; and the offset at which
+    it ends, stuffing included."""
+
+    times: Times
+    tref_sent: bool
+    end: int
 
 
 @dataclass(frozen=True)
@@ -252,17 +262,19 @@ def closure(reading: Reading, loop: bytes, target: int) -> Tuple[int, ...]:
     return _indices(members[0])
 
 
-def read_times(header: bytes) -> Times:
-    """Reads the times of a PES header, which more may follow. Refusals: 20 to 24."""
-    times, room = _room(c_uint64, 3)
-    _accepted(_LIBRARY.thq_read_times(*_head(header, _HEADER_BYTES), times, room))
-    return Times(*times)
+def read_times(header: bytes) -> Header:
+    """Reads the times of a PES header, which more may follow, whether a TREF stands in it, and where it ends. Refusals: 20 to 24."""
+    numbers, room = _room(c_uint64, 5)
+    _accepted(_LIBRARY.thq_read_times(*_head(header, _HEADER_BYTES), numbers, room))
+    *times, tref_sent, end = numbers
+    return Header(Times(*times), tref_sent == 1, end)
 
 
-def write_times(times: Times) -> bytes:
-    """Writes a PES header with these times. Refusals: 25, 24."""
+def write_times(times: Times, with_tref: bool) -> bytes:
+    """Writes a PES header with these times, and with a TREF or without one. Refusals: 25, also without a TREF for a match time that is not the decoding
+    time; 24."""
     out, room = _room(c_uint8, _HEADER_ROOM)
-    values = (_number(value, 64) for value in (times.pts, times.decoding, times.matching))
+    values = (_number(value, 64) for value in (times.pts, times.decoding, times.matching, with_tref))
     return bytes(out[:_accepted(_LIBRARY.thq_write_times(*values, out, room))])
 
 

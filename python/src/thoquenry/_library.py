@@ -28,7 +28,7 @@ DECLARATIONS = {
         ("times", POINTER(c_uint64)), ("times_length", c_size_t),
     ]),
     "thq_write_times": (c_uint64, [
-        ("pts", c_uint64), ("decoding", c_uint64), ("match", c_uint64),
+        ("pts", c_uint64), ("decoding", c_uint64), ("match", c_uint64), ("with_tref", c_uint64),
         ("out", POINTER(c_uint8)), ("out_length", c_size_t),
     ]),
     "thq_join": (c_uint64, [
@@ -57,8 +57,8 @@ DECLARATIONS = {
 
 # The name under which programs ask for the shared object, and the versions that have it: 10,000 times the first part of the version and 100
 # times the second.
-_SONAME = "libthoquenry.so.0.1"
-_FITTING = range(100, 200)
+_SONAME = "libthoquenry.so.0.2"
+_FITTING = range(200, 300)
 
 _REMEDY = f"""Build it with scripts/build-library in a clone of its repository, install it there with scripts/install (or its Debian package), so
 that the system finds {_SONAME}, or name the file by the environment's THOQUENRY_SO."""

@@ -11,7 +11,7 @@
 compile_error!("libthoquenry is for x86-64 Linux");
 
 /// The version of the header that these are the declarations of; [`thq_version`] gives the library's.
-pub const THQ_VERSION_NUMBER: u64 = 100;
+pub const THQ_VERSION_NUMBER: u64 = 200;
 
 /// The readings.
 pub const THQ_2009: u64 = 2009;
@@ -92,6 +92,7 @@ extern "C" {
         pts: u64,
         decoding: u64,
         matching: u64,
+        with_tref: u64,
         out: *mut u8,
         out_length: usize,
     ) -> u64;

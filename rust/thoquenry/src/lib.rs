@@ -54,6 +54,17 @@ pub struct Times {
     pub matching: u64,
 }
 
+/// What a PES header says of its component.
+#[derive(Clone, Copy, Debug, PartialEq, Eq, Hash)]
+pub struct Header {
+    /// Its times.
+    pub times: Times,
+    /// Whether a TREF stood in the header, also one that equals the decoding time.
+    pub tref_sent: bool,
+    /// The offset at which the header ends, stuffing included.
+    pub end: usize,
+}
+
 /// One component of a table, in arrival order.
 #[derive(Clone, Copy, Debug, PartialEq, Eq, Hash)]
 pub struct Row {
@@ -165,24 +176,29 @@ pub fn closure(reading: Reading, bytes: &[u8], target: LayerIndex) -> Result<Lay
     Ok(LayerSet(set[0]))
 }
 
-/// Reads the times of a PES header. Refusals: 20 to 24.
-pub fn read_times(bytes: &[u8]) -> Result<Times, Refusal> {
-    let mut times = [0; 3];
+/// Reads the times of a PES header, whether a TREF stands in it, and where it ends. Refusals: 20 to 24.
+pub fn read_times(bytes: &[u8]) -> Result<Header, Refusal> {
+    let mut times = [0; 5];
     // SAFETY: pointer and length of each buffer belong together; `times` is this call's own.
     let answer = unsafe {
         raw::thq_read_times(bytes.as_ptr(), bytes.len(), times.as_mut_ptr(), times.len())
     };
     accepted(answer)?;
-    let [pts, decoding, matching] = times;
-    Ok(Times {
-        pts,
-        decoding,
-        matching,
+    let [pts, decoding, matching, tref_sent, end] = times;
+    Ok(Header {
+        times: Times {
+            pts,
+            decoding,
+            matching,
+        },
+        tref_sent: tref_sent == 1,
+        end: end as usize,
     })
 }
 
-/// Writes a PES header with these times. Refusals: 25, 24.
-pub fn write_times(times: Times) -> Result<Vec<u8>, Refusal> {
+/// Writes a PES header with these times, and with a TREF or without one. Refusals: 25, also without a TREF for a match time that is not the
+/// decoding time; 24.
+pub fn write_times(times: Times, with_tref: bool) -> Result<Vec<u8>, Refusal> {
     let mut out = vec![0; HEADER_BYTES];
     // SAFETY: `out` is this call's own, and its length is beside it.
     let answer = unsafe {
@@ -190,6 +206,7 @@ pub fn write_times(times: Times) -> Result<Vec<u8>, Refusal> {
             times.pts,
             times.decoding,
             times.matching,
+            u64::from(with_tref),
             out.as_mut_ptr(),
             out.len(),
         )

@@ -281,18 +281,37 @@ fn headers() {
         decoding,
         matching,
     };
-    for (times, bytes) in [
-        (times(9000, 9000, 9000), &pts_alone[..]),
-        (times(12000, 12000, 12600), &with_tref[..]),
+    let equal_tref = [
+        0x00, 0x00, 0x01, 0xE0, 0x00, 0x00, 0x84, 0x81, 0x0D, 0x21, 0x00, 0x01, 0x46, 0x51, 0x0F,
+        0x86, 0xFE, 0xF1, 0x00, 0x01, 0x46, 0x51,
+    ];
+    for (times, tref_sent, bytes) in [
+        (times(9000, 9000, 9000), false, &pts_alone[..]),
+        (times(9000, 9000, 9000), true, &equal_tref[..]),
+        (times(12000, 12000, 12600), true, &with_tref[..]),
     ] {
-        assert_eq!(read_times(bytes), Ok(times));
-        assert_eq!(write_times(times).unwrap(), bytes);
+        let header = Header {
+            times,
+            tref_sent,
+            end: bytes.len(),
+        };
+        assert_eq!(read_times(bytes), Ok(header));
+        assert_eq!(write_times(times, tref_sent).unwrap(), bytes);
     }
-    let longest = times(3, 2, 1);
-    assert_eq!(read_times(&write_times(longest).unwrap()), Ok(longest));
+    let longest = Header {
+        times: times(3, 2, 1),
+        tref_sent: true,
+        end: 27,
+    };
+    let written = write_times(longest.times, true).unwrap();
+    assert_eq!(read_times(&written), Ok(longest));
     assert_eq!(read_times(&[]), Err(Refusal::NotVideoHeader));
-    assert_eq!(write_times(times(1, 2, 2)), Err(Refusal::PtsBeforeDts));
-    assert_eq!(write_times(times(1 << 33, 2, 2)), Err(Refusal::TooWide));
+    let refused = |pts, decoding, matching, with_tref| {
+        write_times(times(pts, decoding, matching), with_tref).unwrap_err()
+    };
+    assert_eq!(refused(1, 2, 2, false), Refusal::PtsBeforeDts);
+    assert_eq!(refused(1 << 33, 2, 2, false), Refusal::TooWide);
+    assert_eq!(refused(12000, 12000, 12600, false), Refusal::TooWide);
 }
 
 #[test]

@@ -21,6 +21,9 @@ number-or-requires-3 c κs = search needs
 number-or-requires-4 : tie.Need-number-or-requires-4
 number-or-requires-4 c κs = search needs
 
+number-or-requires-5 : tie.Need-number-or-requires-5
+number-or-requires-5 c κs = search needs
+
 array-borrow-prefix-out : tie.Need-array-borrow-prefix-out
 array-borrow-prefix-out c = search needs
 
@@ -45,6 +48,7 @@ write-case-spec =
     number-or-requires-2
     number-or-requires-3
     number-or-requires-4
+    number-or-requires-5
     array-borrow-prefix-out
     slice-aggregate-write
     write-requires

@@ -14,7 +14,7 @@ use Rattle.syntax.specs.Named.{named}
 use Rattle.vocabulary.specs.declared.refusal.Refusal.the-variants.{NotVideoHeader, NoPts}
 use Rattle.pes_fields.specs.Tables.{head, packetFlags}
 use Rattle.pes_fields.specs.HeaderData.{Flags, flagsOf}
-use Rattle.pes_reader.specs.Reading.{dataOf, fieldsOf, videoHeaderOf, readOf}
+use Rattle.pes_reader.specs.Reading.{dataOf, endOf, fieldsOf, videoHeaderOf, readOf}
 use Rattle.pes_reader.specs.HeadLaws.{flags-of-head, data-length-of-head}
 use Rattle.pes_reader.specs.Meaning.{VideoHeader}
 use Rattle.pes_reader.specs.VideoLaws.{video-is, video-only}
@@ -48,7 +48,7 @@ returns-2 c =
     let flags : named "PTS_DTS_flags" head (number 9 l) ≡ named "PTS_DTS_flags" packetFlags (getD l 7 0) =
     ap (λ (f : Flags). f .ptsDts) (flags-of-head l (λ i. c .before .before .before .before .shared-slice-known .given i .fits)) in
     ap
-    (λ (t : Bool). cond t (fieldsOf (flagsOf head (number 9 l)) (dataOf l)) (Refused NoPts))
+    (λ (t : Bool). cond t (fieldsOf (endOf l) (flagsOf head (number 9 l)) (dataOf l)) (Refused NoPts))
     (sym (lt-leb 0b10 (named "PTS_DTS_flags" head (number 9 l)) (omega (arith, flags, c .if2 .taken))))
     ∙ a-video-header l video
 
@@ -90,10 +90,12 @@ returns-3 c =
     let flags : named "PTS_DTS_flags" head (number 9 l) ≡ named "PTS_DTS_flags" packetFlags (getD l 7 0) =
     ap (λ (f : Flags). f .ptsDts) (flags-of-head l known) in
     let size : 9 + c .before .before .wide .result - 9 ≡ named "PES_header_data_length" head (number 9 l) = omega (arith, c .before .before .wide .ensures, data-length-of-head l known) in
+    let end : 9 + c .before .before .wide .result ≡ endOf l = omega (arith, c .before .before .wide .ensures, data-length-of-head l known) in
     c .read-fields .ensures
-    ∙ ap₂ fieldsOf (sym (flags-of-head l known)) (ap (λ (n : ℕ). take n (drop 9 l)) size)
+    ∙ ap (λ (n : ℕ). fieldsOf n (flagsOf packetFlags (getD l 7 0)) (take (9 + c .before .before .wide .result - 9) (drop 9 l))) end
+    ∙ ap₂ (fieldsOf (endOf l)) (sym (flags-of-head l known)) (ap (λ (n : ℕ). take n (drop 9 l)) size)
     ∙ ap
-    (λ (t : Bool). cond t (fieldsOf (flagsOf head (number 9 l)) (dataOf l)) (Refused NoPts))
+    (λ (t : Bool). cond t (fieldsOf (endOf l) (flagsOf head (number 9 l)) (dataOf l)) (Refused NoPts))
     (sym (le-leb 0b10 (named "PTS_DTS_flags" head (number 9 l)) (omega (arith, flags, c .before .before .before .before .if2 .left, known 7))))
     ∙ a-video-header l video
 

@@ -2,7 +2,7 @@
 -- Assumes nothing.
 use borrow.Author.Needs.{needs}
 use native.Mathlib.Omega.{arith}
-use Rattle.pes_writer.specs.WritingLaws.{times-at-most, tref-at-most, data-length}
+use Rattle.pes_writer.specs.WritingLaws.{times-at-most, tref-length, tref-at-most, data-length}
 use Rattle.pes_writer.proofs.data_length.Statement.{statement}
 use Rattle.pes_writer.proofs.data_length.Tie as tie
 
@@ -17,15 +17,22 @@ add-result c =
     let a = c .before .before .args in
     omega (
       arith,
-      times-at-most (a .pts) (a .decoding) (a .matching),
-      tref-at-most (a .pts) (a .decoding) (a .matching),
+      times-at-most (a .times .pts) (a .times .decoding),
+      tref-at-most (a .with-tref),
       c .before .times-length .ensures,
       c .tref-length .ensures,
     )
 
 returns : tie.Need-returns
 returns c =
-    omega (arith, data-length (c .before .before .args .pts) (c .before .before .args .decoding) (c .before .before .args .matching), c .before .times-length .ensures, c .tref-length .ensures)
+    let a = c .before .before .args in
+    omega (
+      arith,
+      data-length (a .times) (a .with-tref),
+      tref-length (a .with-tref) (a .times .matching),
+      c .before .times-length .ensures,
+      c .tref-length .ensures,
+    )
 
 pub data-length-spec : {M : Type 1} → statement M
 data-length-spec =

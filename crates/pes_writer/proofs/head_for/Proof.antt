@@ -22,8 +22,8 @@ data-length-requires c κs = search needs
 
 head-of-requires : tie.Need-head-of-requires
 head-of-requires c κs = (
-  omega (arith, flags-below (c .before .before .before .args .pts) (c .before .before .before .args .decoding), c .before .before .pts-dts-flags .ensures),
-  omega (arith, extension-below (c .before .before .before .args .decoding) (c .before .before .before .args .matching), c .before .extension-flag .ensures),
+  omega (arith, flags-below (c .before .before .before .args .times .pts) (c .before .before .before .args .times .decoding), c .before .before .pts-dts-flags .ensures),
+  omega (arith, extension-below (c .before .before .before .args .with-tref), c .before .extension-flag .ensures),
 )
 
 returns : tie.Need-returns
@@ -31,7 +31,7 @@ returns c =
     let a = c .before .before .before .before .args in
     c .head-of .ensures
     ∙ ap₂ (λ (f e : ℕ). writeBy head (headGiven f e (c .before .data-length .result))) (c .before .before .before .pts-dts-flags .ensures) (c .before .before .extension-flag .ensures)
-    ∙ ap (λ (n : ℕ). writeBy head (headGiven (ptsDtsFlagsOf (a .pts) (a .decoding)) (extensionFlagOf (a .decoding) (a .matching)) n)) (c .before .data-length .ensures)
+    ∙ ap (λ (n : ℕ). writeBy head (headGiven (ptsDtsFlagsOf (a .times .pts) (a .times .decoding)) (extensionFlagOf (a .with-tref)) n)) (c .before .data-length .ensures)
 
 pub head-for-spec : {M : Type 1} → statement M
 head-for-spec =

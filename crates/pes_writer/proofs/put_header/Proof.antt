@@ -28,8 +28,8 @@ put-times-requires c κs =
       omega (
         arith,
         c .before .before .before .before .before .before .before .before .pre .1 .1,
-        header-length (a .pts) (a .decoding) (a .matching),
-        data-length (a .pts) (a .decoding) (a .matching),
+        header-length (a .times) (a .with-tref),
+        data-length (a .times) (a .with-tref),
         ap length (c .before .before .before .before .before .before .head-for .ensures),
         c .before .before .before .put-whole .ensures .place,
         c .before .before .before .put-whole .kept .0,
@@ -43,8 +43,8 @@ put-tref-requires c κs =
       omega (
         arith,
         c .before .before .before .before .before .before .before .before .before .before .before .before .pre .1 .1,
-        header-length (a .pts) (a .decoding) (a .matching),
-        data-length (a .pts) (a .decoding) (a .matching),
+        header-length (a .times) (a .with-tref),
+        data-length (a .times) (a .with-tref),
         ap length (c .before .before .before .before .before .before .before .before .before .before .head-for .ensures),
         c .before .before .before .before .before .before .before .put-whole .ensures .place,
         c .before .before .before .before .before .before .before .put-whole .kept .0,
@@ -60,8 +60,8 @@ returns : tie.Need-returns
 returns c =
     let a = c .before .before .before .before .before .before .before .before .before .before .before .before .before .before .before .args in
     laid-as
-    (ap (λ (l : List ℕ). l ++ timeFields (a .pts) (a .decoding) ++ trefFields (a .decoding) (a .matching)) (c .before .before .before .before .before .before .before .before .before .before .before .before .before .head-for .ensures)
-    ∙ append-assoc (headOf (a .pts) (a .decoding) (a .matching)) (timeFields (a .pts) (a .decoding)) (trefFields (a .decoding) (a .matching)))
+    (ap (λ (l : List ℕ). l ++ timeFields (a .times .pts) (a .times .decoding) ++ trefFields (a .with-tref) (a .times .matching)) (c .before .before .before .before .before .before .before .before .before .before .before .before .before .head-for .ensures)
+    ∙ append-assoc (headOf (a .times) (a .with-tref)) (timeFields (a .times .pts) (a .times .decoding)) (trefFields (a .with-tref) (a .times .matching)))
     (laid-then
     (laid-then
     (c .before .before .before .before .before .before .before .before .before .before .put-whole .ensures)

@@ -1,6 +1,7 @@
 -- `pes_writer::put_tref` meets its contract: nothing, or the three bytes before TREF and TREF, each put right after the last.
 -- Assumes nothing.
 use borrow.Author.Needs.{needs}
+use borrow.Author.Tests.{not-true, not-false}
 use native.Mathlib.Omega.{arith}
 use Prim.Native.Nat.{ℕ}
 use mathlib.Core.Path.{ap, sym, _∙_}
@@ -15,14 +16,15 @@ use Rattle.pes_writer.proofs.put_tref.Tie as tie
 
 returns : tie.Need-returns
 returns c =
-    laid-as (sym (no-tref-fields (c .before .before .args .decoding) (c .before .before .args .matching) (c .if1 .taken))) (laid-nothing (now (c .before .before .args .out)) (c .before .before .args .at) (c .before .before .args .at) (omega (arith, c .before .before .pre .1)))
+    let a = c .before .before .args in
+    laid-as (sym (no-tref-fields (not-true (a .with-tref) (c .if1 .taken)) (a .matching))) (laid-nothing (now (a .out)) (a .at) (a .at) (omega (arith, c .before .before .pre .1)))
 
 slice-aggregate-put-whole : tie.Need-slice-aggregate-put-whole
 slice-aggregate-put-whole c = search needs
 
 put-whole-requires : tie.Need-put-whole-requires
 put-whole-requires c κs =
-    omega (arith, c .before .before .before .before .pre .1, ap length (tref-fields (c .before .before .before .before .args .decoding) (c .before .before .before .before .args .matching) (c .before .before .if1 .left)))
+    omega (arith, c .before .before .before .before .pre .1, ap length (tref-fields (not-false (c .before .before .before .before .args .with-tref) (c .before .before .if1 .left)) (c .before .before .before .before .args .matching)))
 
 time-field-requires : tie.Need-time-field-requires
 time-field-requires c κs = search needs
@@ -35,7 +37,7 @@ put-whole-requires-2 c κs =
     omega (
       arith,
       c .before .before .before .before .before .before .before .before .before .before .pre .1,
-      ap length (tref-fields (c .before .before .before .before .before .before .before .before .before .before .args .decoding) (c .before .before .before .before .before .before .before .before .before .before .args .matching) (c .before .before .before .before .before .before .before .before .if1 .left)),
+      ap length (tref-fields (not-false (c .before .before .before .before .before .before .before .before .before .before .args .with-tref) (c .before .before .before .before .before .before .before .before .if1 .left)) (c .before .before .before .before .before .before .before .before .before .before .args .matching)),
       ap length (c .before .before .time-field .ensures),
       c .before .before .before .before .before .put-whole .ensures .place,
       c .before .before .before .before .before .put-whole .kept .0,
@@ -48,7 +50,7 @@ returns-2 : tie.Need-returns-2
 returns-2 c =
     laid-as
     (ap (λ (l : List ℕ). trefHead ++ l) (c .before .before .before .before .before .time-field .ensures)
-    ∙ sym (tref-fields (c .before .before .before .before .before .before .before .before .before .before .before .before .before .args .decoding) (c .before .before .before .before .before .before .before .before .before .before .before .before .before .args .matching) (c .before .before .before .before .before .before .before .before .before .before .before .if1 .left)))
+    ∙ sym (tref-fields (not-false (c .before .before .before .before .before .before .before .before .before .before .before .before .before .args .with-tref) (c .before .before .before .before .before .before .before .before .before .before .before .if1 .left)) (c .before .before .before .before .before .before .before .before .before .before .before .before .before .args .matching)))
     (laid-then
     (c .before .before .before .before .before .before .before .before .put-whole .ensures)
     (c .before .before .put-whole2 .ensures))

@@ -36,8 +36,8 @@ returns-2 c =
     let a = c .before .before .before .before .before .args in (
       simp (
         sym (c .before .before .before .any-too-wide .ensures) ∙ c .before .before .if1 .left,
-        lt-leb (length (headerOf (a .pts) (a .decoding) (a .matching))) (length (now (a .out)))
-            (omega (arith, header-length (a .pts) (a .decoding) (a .matching), c .before .data-length .ensures, c .if2 .taken)),
+        lt-leb (length (headerOf (a .times) (a .with-tref))) (length (now (a .out)))
+            (omega (arith, header-length (a .times) (a .with-tref), c .before .data-length .ensures, c .if2 .taken)),
       ),
       refl,
     )
@@ -50,8 +50,8 @@ returns-3 c =
     let a = c .before .before .before .before .before .before .before .args in (
       simp (
         sym (c .before .before .before .before .before .any-too-wide .ensures) ∙ c .before .before .before .before .if1 .left,
-        le-leb (length (headerOf (a .pts) (a .decoding) (a .matching))) (length (now (a .out)))
-            (omega (arith, header-length (a .pts) (a .decoding) (a .matching), c .before .before .before .data-length .ensures, c .before .before .if2 .left)),
+        le-leb (length (headerOf (a .times) (a .with-tref))) (length (now (a .out)))
+            (omega (arith, header-length (a .times) (a .with-tref), c .before .before .before .data-length .ensures, c .before .before .if2 .left)),
         sym (c .before .before2 .ensures) ∙ c .if3 .taken,
       ),
       refl,
@@ -60,9 +60,9 @@ returns-3 c =
 put-header-requires : tie.Need-put-header-requires
 put-header-requires c κs =
     let a = c .before .before .before .before .before .before .before .before .args in
-    let n : Narrow (a .pts) (a .decoding) (a .matching) = narrow (a .pts) (a .decoding) (a .matching) (sym (c .before .before .before .before .before .before .any-too-wide .ensures) ∙ c .before .before .before .before .before .if1 .left) in (
+    let n : Narrow (a .times) (a .with-tref) = narrow (a .times) (a .with-tref) (sym (c .before .before .before .before .before .before .any-too-wide .ensures) ∙ c .before .before .before .before .before .if1 .left) in (
       (n .pts-below, n .decoding-below),
-      (n .matching-below, omega (arith, header-length (a .pts) (a .decoding) (a .matching), c .before .before .before .before .data-length .ensures, c .before .before .before .if2 .left)),
+      (n .matching-below, omega (arith, header-length (a .times) (a .with-tref), c .before .before .before .before .data-length .ensures, c .before .before .before .if2 .left)),
     )
 
 same-length : tie.Need-same-length
@@ -72,12 +72,12 @@ returns-4 : tie.Need-returns-4
 returns-4 c =
     let a = c .before .before .before .before .before .before .before .before .before .before .before .args in
     let put = c .before .before .put-header .ensures in
-    let room : length (headerOf (a .pts) (a .decoding) (a .matching)) ≤ length (now (a .out)) =
-    omega (arith, header-length (a .pts) (a .decoding) (a .matching), c .before .before .before .before .before .before .before .data-length .ensures, c .before .before .before .before .before .before .if2 .left) in
-    let e : c .before .before .put-header .result ≡ length (headerOf (a .pts) (a .decoding) (a .matching)) = omega (arith, put .place, room) in (
+    let room : length (headerOf (a .times) (a .with-tref)) ≤ length (now (a .out)) =
+    omega (arith, header-length (a .times) (a .with-tref), c .before .before .before .before .before .before .before .data-length .ensures, c .before .before .before .before .before .before .if2 .left) in
+    let e : c .before .before .put-header .result ≡ length (headerOf (a .times) (a .with-tref)) = omega (arith, put .place, room) in (
       simp (
         sym (c .before .before .before .before .before .before .before .before .before .any-too-wide .ensures) ∙ c .before .before .before .before .before .before .before .before .if1 .left,
-        le-leb (length (headerOf (a .pts) (a .decoding) (a .matching))) (length (now (a .out))) room,
+        le-leb (length (headerOf (a .times) (a .with-tref))) (length (now (a .out))) room,
         sym (c .before .before .before .before .before .before2 .ensures) ∙ c .before .before .before .before .if3 .left,
       )
           (ap Bytes e),

@@ -16,8 +16,8 @@ closure-of-requires c κs = search needs
 enum-known-found : tie.Need-enum-known-found
 enum-known-found c = search needs
 
-join-closure-requires : tie.Need-join-closure-requires
-join-closure-requires c κs = closed _ _ _ (sym (c .before .before .before .before .before .closure-of .ensures) ∙ c .before .before .before .found .given .1)
+join-table-requires : tie.Need-join-table-requires
+join-table-requires c κs = closed _ _ _ (sym (c .before .before .before .before .before .closure-of .ensures) ∙ c .before .before .before .found .given .1)
 
 enum-known-found-2 : tie.Need-enum-known-found-2
 enum-known-found-2 c = search needs
@@ -32,7 +32,7 @@ returns : tie.Need-returns
 returns c =
     let a = c .before .before .before .before .before .before .before .before .before .before .before .before .before .before .args in
     let t = table (a .indices .now) (a .decodings .now) (a .matches .now) in
-    let joined = c .before .before .before .join-closure in
+    let joined = c .before .before .before .join-table in
     let is = sym (c .before .before .before .before .before .before .before .before .before .closure-of .ensures) ∙ c .before .before .before .before .before .before .before .found .given .1 in (
       joined .ensures .0 ∙ sym (ap (joinedIn (a .layers) (a .target) t (length (a .numbers .now)) (length (a .lags .now))) is),
       (
@@ -54,7 +54,7 @@ join-spec =
     (tie.spec
     closure-of-requires
     enum-known-found
-    join-closure-requires
+    join-table-requires
     enum-known-found-2
     same-length
     same-length-2

@@ -1,4 +1,4 @@
--- `joining::answer::join_closure` meets its contract: each arm is a case of the definition by the verdict on the table (Cases).
+-- `joining::answer::join_table` meets its contract: each arm is a case of the definition by the verdict on the table (Cases).
 -- Assumes nothing.
 use mathlib.Core.Path.{refl, sym, _∙_, ap}
 use borrow.Author.Needs.{needs}
@@ -8,8 +8,8 @@ use Rattle.rows.specs.Table.{table}
 use Rattle.joining.specs.Units.{frameOf}
 use Rattle.joining.specs.Joining.{unitsJoined, joinedBy}
 use Rattle.joining.proofs.Cases.{orderly}
-use Rattle.joining.proofs.answer.join_closure.Statement.{statement}
-use Rattle.joining.proofs.answer.join_closure.Tie as tie
+use Rattle.joining.proofs.answer.join_table.Statement.{statement}
+use Rattle.joining.proofs.answer.join_table.Tie as tie
 
 judge-requires : tie.Need-judge-requires
 judge-requires c κs = search needs
@@ -66,8 +66,8 @@ returns-3 c =
       (refl, refl),
     )
 
-pub join-closure-spec : {M : Type 1} → statement M
-join-closure-spec =
+pub join-table-spec : {M : Type 1} → statement M
+join-table-spec =
     tie.close
     (tie.spec
     judge-requires

@@ -1,0 +1,2 @@
+-- The laws of what specs/ says.
+pub mod ThreeTimesLaws
