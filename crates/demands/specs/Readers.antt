@@ -18,7 +18,7 @@ use Rattle.closure.specs.declared.Closure.{Closure}
 use Rattle.closure.specs.declared.Closure.the-variants as Closure
 use Rattle.closure.specs.Closures.{closureOf}
 use Rattle.closure.specs.Meaning as Target
-use Rattle.closure.specs.Laws as target
+use Rattle.closure.proofs.Meant as target
 use Rattle.loop_layers.specs.Closures.{loopClosure}
 use Rattle.loop_layers.specs.Meaning as LoopTarget
 use Rattle.loop_layers.specs.Meant as loop-target
@@ -110,9 +110,9 @@ target-listed (Target.complete here closure) = refl
 pub closure-found : Promised closureOfTarget
 closure-found =
     record {
-      right = λ given. target.meets (given .layers) (given .target);
-      nothing-else = λ given means. (target.nothing-else (given .layers) (given .target) means, refl);
-      listed = λ given. target-listed (target.meets (given .layers) (given .target));
+      right = λ given. target.closure-meant (given .layers) (given .target);
+      nothing-else = λ given means. (target.closure-only (given .layers) (given .target) means, refl);
+      listed = λ given. target-listed (target.closure-meant (given .layers) (given .target));
       untouched = λ given refusal e. refl;
     }
 
