@@ -149,7 +149,7 @@ class WorkedExamples(unittest.TestCase):
         for wrong in (1.0, 0.5, "1", None):
             for call in (lambda: closure(Reading.EDITION_2015, LOOP_A, wrong), lambda: join({0: ()}, 0, [Row(0, wrong, 0)]),
                          lambda: join({0: ()}, 0, [Row(0, 0, wrong)]), lambda: join({wrong: ()}, 0, []),
-                         lambda: write_times(Times(wrong, 0, 0)), lambda: write_loop([Entry(0x1B, wrong)])):
+                         lambda: write_times(Times(wrong, 0, 0)), lambda: write_loop([Entry(0x1B, wrong)]), lambda: read_loop(wrong, LOOP_A)):
                 self.assertRaises(TypeError, call)
         for wrong in (37, [0x1B], "loop"):
             self.assertRaises(TypeError, read_loop, Reading.EDITION_2015, wrong)
@@ -173,6 +173,16 @@ class WorkedExamples(unittest.TestCase):
         self.refused(Number.OUT_OF_RANGE, 0, join, {0: ()}, 0, (Row(0, k, k) for k in range(10**12)))
         self.assertLess(time.monotonic() - began, 1)
         self.assertEqual(read_times(header + long), Times(3, 2, 1))
+
+    def test_more_entries_than_a_loop_has(self):
+        for last in (201, 202, 403, 1000, 10_000):
+            entries = [Entry(0x02, k % 8192) for k in range(last)]
+            if last == 201:
+                self.assertEqual(len(write_loop(iter(entries))), 1005)
+            else:
+                self.refused(Number.LOOP_TOO_LONG, 0, write_loop, iter(entries))
+            self.refused(Number.TOO_WIDE, 0, write_loop, [*entries, Entry(0x02, 8192)])
+            self.refused(Number.TOO_WIDE, 0, write_loop, [Entry(0x02, 8192), *entries])
 
     def test_the_longest_header(self):
         # PTS, then stuffing up to the most that PES_header_data_length can say

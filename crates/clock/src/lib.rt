@@ -3,10 +3,13 @@
 ghost use mathlib.Core.Path.{_≡_};
 ghost use Rattle.clock.specs.Clock.{distanceOf, isBefore, lagOf};
 
-// The ticks of the clock, 2^33, after which it begins again, and half of them.
+// The ticks of the clock, 2^33, after which it starts again, and half of them.
 pub const TICKS: u64 = 8589934592;
 
 pub const HALF: u64 = 4294967296;
+
+// One turn of the clock, among signed numbers.
+const TURN: i64 = 8589934592;
 
 // The forward distance from one time to another, across the wrap of the clock: 2^64 is a multiple of the clock's 2^33 ticks, so
 // the wrapped difference has the right remainder.
@@ -31,5 +34,5 @@ pub fn lag(time: u64, target: u64) -> i64
     if ahead < HALF {
         return ahead as i64;
     }
-    (ahead as i64) - 8589934592
+    (ahead as i64) - TURN
 }

@@ -1,19 +1,21 @@
 -- The round trips of document 01, for all times and all headers: reading what the writer wrote gives back what was given, and
 -- rewriting what was read from a header in the writer's own shape gives the same bytes.
 -- Assumes nothing.
-use Prim.Native.Nat.{ℕ, _+_, _*_, _^_, _≤_, _<_}
+use Prim.Native.Nat.{ℕ, _+_, _*_, _/_, _%_, _^_, _≤_, _<_}
+use Prim.Native.String.{String}
 use mathlib.Core.Path.{_≡_, refl, sym, ap, ap₂, subst, _∙_}
 use mathlib.Core.Bool.{Bool, true, false, cond}
 use mathlib.Core.List.{List, [], _∷_, _++_, append-assoc, append-nil}
 use native.Mathlib.Omega.{arith}
 use lib.Dec.{leb}
-use lib.ListN.{length, take, drop, getD, length-append}
+use lib.ListN.{length, take, drop, length-append}
 use lib.Seq.{take-at, drop-at}
+use Rattle.combinators.specs.Bools.{both-left, both-right}
 use Rattle.syntax.specs.Table as Table
-use Rattle.syntax.specs.Table.{Table, number, valuesOf, fixedHold, Written}
+use Rattle.syntax.specs.Table.{Table, number, fixedHold}
 use Rattle.syntax.proofs.Number.{number-append}
-use Rattle.syntax.proofs.Laws.{written-unique}
-use Rattle.syntax.specs.Named.{named}
+use Rattle.syntax.specs.Named.{named, givenTo, hasLine, haveLines, WrittenBy}
+use Rattle.syntax.proofs.NamedLaws.{written-by-only, read-by-name}
 use Rattle.clock.specs.Clock.{ticks, isBefore}
 use Rattle.vocabulary.specs.declared.refusal.Refusal.the-variants.{NoRoom, PtsBeforeDts, TooWide}
 use Rattle.stamps.specs.Tables as Times
@@ -32,7 +34,7 @@ use Rattle.pes_reader.specs.Reading.{dataOf, judged, marksOf, matchOf, readOf}
 use Rattle.pes_reader.specs.Meaning.{VideoHeader, LaidOut}
 use Rattle.pes_reader.specs.MeaningLaws.{laid-answer}
 use Rattle.pes_reader.specs.declared.Answer.the-variants as Answer
-use Rattle.pes_writer.specs.Writing.{headValues, headerOf, tooWide, writeOf, bufferOf}
+use Rattle.pes_writer.specs.Writing.{secondAlone, sixBytes, trefFollows, headGiven, headerOf, tooWide, writeOf, bufferOf}
 use Rattle.pes_writer.specs.WritingLaws.{narrow}
 use Rattle.pes_writer.specs.OwnShape as own
 use Rattle.pes_writer.specs.OwnShape.{OwnTimes, alone, both, OwnExtension, OwnShape, Narrow}
@@ -41,20 +43,26 @@ use Rattle.pes_writer.specs.declared.Written.the-variants.{Bytes, Refused}
 
 -- ---- a time in its field
 
-abbrev joinedParts : List ℕ → ℕ
-joinedParts vs = getD vs 0 0 * 2 ^ 30 + getD vs 1 0 * 2 ^ 15 + getD vs 2 0
+joined-parts : (time : ℕ) {high middle low : ℕ} → high ≡ time / 2 ^ 30 → middle ≡ time / 2 ^ 15 % 2 ^ 15 → low ≡ time % 2 ^ 15
+    → high * 2 ^ 30 + middle * 2 ^ 15 + low ≡ time
+joined-parts time h m l = omega arith
 
-joined-parts : (time : ℕ) → joinedParts (partsOf time) ≡ time
-joined-parts time = omega arith
-
--- for a table of five bytes whose three values are the parts of a time: PTS, DTS and TREF alike
-module _ (t : Table) (five : Table.bytes t ≡ 5) (as-joined : (n : ℕ) → timeOf t n ≡ joinedParts (valuesOf t n)) where
-  field-stamp : {time : ℕ} {field : List ℕ} → Written t (partsOf time) field → stampOf t field ≡ stamp true time
+-- for a table of five bytes with a line for each part of a time: PTS, DTS and TREF alike
+module _ (t : Table) (five : Table.bytes t ≡ 5) where
+  field-stamp : {time : ℕ} {field : List ℕ} → WrittenBy t (partsOf time) field → stampOf t field ≡ stamp true time
   field-stamp {time} {field} w =
       let whole : number 5 field ≡ number (Table.bytes t) field = ap (λ (k : ℕ). number k field) (sym five) in
-      ap₂ stamp
-      (ap (fixedHold t) whole ∙ w .carries .fixed-bits)
-      (as-joined (number 5 field) ∙ ap joinedParts (ap (valuesOf t) whole ∙ w .carries .values) ∙ joined-parts time)
+      let after-high : haveLines (("[29..15]", time / 2 ^ 15 % 2 ^ 15) ∷ ("[14..0]", time % 2 ^ 15) ∷ []) t ≡ true =
+      both-right (hasLine "[32..30]" t) (haveLines (("[29..15]", time / 2 ^ 15 % 2 ^ 15) ∷ ("[14..0]", time % 2 ^ 15) ∷ []) t) (w .lines) in
+      let after-middle : haveLines (("[14..0]", time % 2 ^ 15) ∷ []) t ≡ true =
+      both-right (hasLine "[29..15]" t) (haveLines (("[14..0]", time % 2 ^ 15) ∷ []) t) after-high in
+      let part : (name : String) → hasLine name t ≡ true → named name t (number 5 field) ≡ givenTo name (partsOf time) =
+      λ name has. ap (named name t) whole ∙ read-by-name w name has in
+      ap₂ stamp (ap (fixedHold t) whole ∙ w .written .carries .fixed-bits)
+      (joined-parts time
+      (part "[32..30]" (both-left (hasLine "[32..30]" t) (haveLines (("[29..15]", time / 2 ^ 15 % 2 ^ 15) ∷ ("[14..0]", time % 2 ^ 15) ∷ []) t) (w .lines)))
+      (part "[29..15]" (both-left (hasLine "[29..15]" t) (haveLines (("[14..0]", time % 2 ^ 15) ∷ []) t) after-high))
+      (part "[14..0]" (both-left (hasLine "[14..0]" t) true after-middle)))
 
 abbrev stamps : ℕ → ℕ → Stamps
 stamps pts decoding = record { marked = true; pts = pts; decoding = decoding }
@@ -77,9 +85,9 @@ times-read (alone {field} {time} w) =
       dtsField = [];
       are = sym (append-nil field);
       flagged = omega arith;
-      five = w .as-long;
+      five = w .written .as-long;
       optional = Optional.absent;
-      reads = ap (λ (l : List ℕ). withoutDts (stampOf ptsAlone l)) (append-nil field) ∙ ap withoutDts (field-stamp ptsAlone refl (λ n. refl) w);
+      reads = ap (λ (l : List ℕ). withoutDts (stampOf ptsAlone l)) (append-nil field) ∙ ap withoutDts (field-stamp ptsAlone refl w);
     }
 times-read (both {ptsField} {dtsField} {pts} {decoding} v w differ) =
     record {
@@ -87,12 +95,12 @@ times-read (both {ptsField} {dtsField} {pts} {decoding} v w differ) =
       dtsField = dtsField;
       are = refl;
       flagged = omega arith;
-      five = v .as-long;
-      optional = Optional.present (w .as-long);
+      five = v .written .as-long;
+      optional = Optional.present (w .written .as-long);
       reads =
           ap₂ withDts
-          (stamp-before ptsBeforeDts ptsField dtsField (omega (arith, v .as-long)) ∙ field-stamp ptsBeforeDts refl (λ n. refl) v)
-          (ap (stampOf Times.dts) (drop-at ptsField dtsField 5 (v .as-long)) ∙ field-stamp Times.dts refl (λ n. refl) w);
+          (stamp-before ptsBeforeDts ptsField dtsField (omega (arith, v .written .as-long)) ∙ field-stamp ptsBeforeDts refl v)
+          (ap (stampOf Times.dts) (drop-at ptsField dtsField 5 (v .written .as-long)) ∙ field-stamp Times.dts refl w);
     }
 
 -- ---- the extension
@@ -103,8 +111,8 @@ record ExtensionRead (flag : ℕ) (extension : List ℕ) (pts decoding matching 
   marks : marksOf (stamps pts decoding) given ≡ true
   match : matchOf (stamps pts decoding) given ≡ matching
 
-tref-only : {flags second mark : List ℕ} (field : List ℕ) → Written extensionFlags (0 ∷ 0 ∷ 0 ∷ 0 ∷ 1 ∷ []) flags → Written secondExtension (6 ∷ []) second
-    → Written trefExtension (1 ∷ 0 ∷ []) mark → length field ≡ 5
+tref-only : {flags second mark : List ℕ} (field : List ℕ) → WrittenBy extensionFlags secondAlone flags → WrittenBy secondExtension sixBytes second
+    → WrittenBy trefExtension trefFollows mark → length field ≡ 5
     → PesExtension 1 (inOrder (flags ∷ second ∷ mark ∷ []) field) (WithTref (withMarker true (stampOf tref field)))
 tref-only {flags} {second} {mark} field a b c five =
     subst (λ (l : List ℕ). PesExtension 1 l (WithTref (withMarker true (stampOf tref field)))) bytes
@@ -120,18 +128,18 @@ tref-only {flags} {second} {mark} field a b c five =
     bytes =
         ap (λ (l : List ℕ). 0x0F ∷ 0x86 ∷ 0xFE ∷ l) (append-nil field)
         ∙ sym
-        (ap₂ _++_ (written-unique (record { whole = refl; fixed-fit = refl }) a)
-        (ap₂ _++_ (written-unique (record { whole = refl; fixed-fit = refl }) b)
-        (ap (λ (l : List ℕ). l ++ field) (written-unique (record { whole = refl; fixed-fit = refl }) c))))
+        (ap₂ _++_ (written-by-only (record { whole = refl; fixed-fit = refl }) a)
+        (ap₂ _++_ (written-by-only (record { whole = refl; fixed-fit = refl }) b)
+        (ap (λ (l : List ℕ). l ++ field) (written-by-only (record { whole = refl; fixed-fit = refl }) c))))
 
 extension-read : {flag : ℕ} {extension : List ℕ} (pts : ℕ) {decoding matching : ℕ} → OwnExtension flag extension decoding matching
     → ExtensionRead flag extension pts decoding matching
 extension-read pts (OwnExtension.none {time}) = record { given = WithoutTref true; is = PesExtension.absent; marks = refl; match = refl }
 extension-read pts (own.with-tref {field = field} {decoding = decoding} a b c d differ) =
-    let read : stampOf tref field ≡ stamp true _ = field-stamp tref refl (λ n. refl) d in
+    let read : stampOf tref field ≡ stamp true _ = field-stamp tref refl d in
     record {
       given = WithTref (withMarker true (stampOf tref field));
-      is = tref-only field a b c (d .as-long);
+      is = tref-only field a b c (d .written .as-long);
       marks = ap (λ (s : Stamp). s .marked) read;
       match = ap (λ (s : Stamp). s .time) read;
     }
@@ -155,29 +163,30 @@ module _ {bytes : List ℕ} {pts decoding matching : ℕ} (o : OwnShape bytes pt
   extension-of = extension-read pts (o .extension-is)
 
   nine : length (o .head) ≡ 9
-  nine = o .head-is .as-long
+  nine = o .head-is .written .as-long
 
   of-head : n ≡ number 9 (o .head)
   of-head = number-append 9 (o .head) (o .times ++ (o .extension ++ rest)) (omega (arith, nine))
 
-  -- a value of the head, by its place in the table
-  value-at : (k : ℕ) → getD (valuesOf Tables.head n) k 0 ≡ getD (headValues (o .ptsDtsFlags) (o .extensionFlag) (length fields)) k 0
-  value-at k = ap (λ (vs : List ℕ). getD vs k 0) (ap (valuesOf Tables.head) of-head ∙ o .head-is .carries .values)
+  -- what a line of the head says
+  says : (name : String) → hasLine name Tables.head ≡ true
+      → named name Tables.head n ≡ givenTo name (headGiven (o .ptsDtsFlags) (o .extensionFlag) (length fields))
+  says name has = ap (named name Tables.head) of-head ∙ read-by-name (o .head-is) name has
 
   -- what follows the head, as long as it says
   data-are : dataOf l ≡ fields
   data-are =
-      ap₂ take (value-at 14) (drop-at (o .head) (o .times ++ (o .extension ++ rest)) 9 nine ∙ sym (append-assoc (o .times) (o .extension) rest))
+      ap₂ take (says "PES_header_data_length" refl) (drop-at (o .head) (o .times ++ (o .extension ++ rest)) 9 nine ∙ sym (append-assoc (o .times) (o .extension) rest))
       ∙ take-at fields rest (length fields) refl
 
   video : VideoHeader l
   video =
-      let id : named "stream_id" Tables.head n ≡ 0xE0 = value-at 0 in
-      let size : named "PES_header_data_length" Tables.head n ≡ length fields = value-at 14 in
+      let id : named "stream_id" Tables.head n ≡ 0xE0 = says "stream_id" refl in
+      let size : named "PES_header_data_length" Tables.head n ≡ length fields = says "PES_header_data_length" refl in
       let long : length l ≡ length (o .head) + length (o .times ++ (o .extension ++ rest)) = length-append (o .head) (o .times ++ (o .extension ++ rest)) in
       record {
         long = omega (arith, nine, long);
-        fixed-bits = ap (fixedHold Tables.head) of-head ∙ o .head-is .carries .fixed-bits;
+        fixed-bits = ap (fixedHold Tables.head) of-head ∙ o .head-is .written .carries .fixed-bits;
         from-E0 = omega (arith, id);
         to-EF = omega (arith, id);
         within =
@@ -193,14 +202,14 @@ module _ {bytes : List ℕ} {pts decoding matching : ℕ} (o : OwnShape bytes pt
       }
 
   -- a field that the writer never writes
-  left-out : (k size : ℕ) → getD (valuesOf Tables.head n) k 0 ≡ 0 → Optional size (getD (valuesOf Tables.head n) k 0) []
-  left-out k size e = subst (λ (flag : ℕ). Optional size flag []) (sym e) Optional.absent
+  left-out : (name : String) (size : ℕ) → named name Tables.head n ≡ 0 → Optional size (named name Tables.head n) []
+  left-out name size e = subst (λ (flag : ℕ). Optional size flag []) (sym e) Optional.absent
 
   laid : LaidOut l (stamps pts decoding) (extension-of .given)
   laid =
       record {
         video = video;
-        flagged = subst (λ (f : ℕ). 0b10 ≤ f) (sym (value-at 7)) (times-of .flagged);
+        flagged = subst (λ (f : ℕ). 0b10 ≤ f) (sym (says "PTS_DTS_flags" refl)) (times-of .flagged);
         pts = times-of .ptsField;
         dts = times-of .dtsField;
         fields = record {
@@ -214,15 +223,15 @@ module _ {bytes : List ℕ} {pts decoding matching : ℕ} (o : OwnShape bytes pt
           order = data-are ∙ ap (λ (l : List ℕ). l ++ o .extension) (times-of .are) ∙ append-assoc (times-of .ptsField) (times-of .dtsField) (o .extension)
               ∙ ap (λ (l : List ℕ). times-of .ptsField ++ (times-of .dtsField ++ l)) (sym (append-nil (o .extension)));
           pts-is = times-of .five;
-          dts-is = subst (λ (f : ℕ). Optional 5 (dtsFlag f) (times-of .dtsField)) (sym (value-at 7)) (times-of .optional);
-          escr-is = left-out 8 6 (value-at 8);
-          esRate-is = left-out 9 3 (value-at 9);
-          trickMode-is = left-out 10 1 (value-at 10);
-          copyInfo-is = left-out 11 1 (value-at 11);
-          crc-is = left-out 12 2 (value-at 12);
-          extension-is = subst (λ (e : ℕ). PesExtension e (o .extension) (extension-of .given)) (sym (value-at 13)) (extension-of .is);
+          dts-is = subst (λ (f : ℕ). Optional 5 (dtsFlag f) (times-of .dtsField)) (sym (says "PTS_DTS_flags" refl)) (times-of .optional);
+          escr-is = left-out "ESCR_flag" 6 (says "ESCR_flag" refl);
+          esRate-is = left-out "ES_rate_flag" 3 (says "ES_rate_flag" refl);
+          trickMode-is = left-out "DSM_trick_mode_flag" 1 (says "DSM_trick_mode_flag" refl);
+          copyInfo-is = left-out "additional_copy_info_flag" 1 (says "additional_copy_info_flag" refl);
+          crc-is = left-out "PES_CRC_flag" 2 (says "PES_CRC_flag" refl);
+          extension-is = subst (λ (e : ℕ). PesExtension e (o .extension) (extension-of .given)) (sym (says "PES_extension_flag" refl)) (extension-of .is);
         };
-        stamps-are = sym (times-of .reads) ∙ ap (λ (f : ℕ). stampsOf f (times-of .ptsField ++ times-of .dtsField)) (sym (value-at 7));
+        stamps-are = sym (times-of .reads) ∙ ap (λ (f : ℕ). stampsOf f (times-of .ptsField ++ times-of .dtsField)) (sym (says "PTS_DTS_flags" refl));
       }
 
   own-reads : readOf (bytes ++ rest) ≡ judged true pts decoding matching
@@ -238,15 +247,15 @@ module _ {bytes : List ℕ} {pts decoding matching : ℕ} (o : OwnShape bytes pt
 
 times-narrow : {flags : ℕ} {times : List ℕ} {pts decoding : ℕ} → OwnTimes flags times pts decoding → (pts < ticks) × (decoding < ticks)
 times-narrow (alone {field} {time} w) =
-    let below : time < ticks = omega (arith, ap (λ (vs : List ℕ). getD vs 0 0) (w .carries .values)) in (below, below)
+    let below : time < ticks = omega (arith, read-by-name w "[32..30]" refl) in (below, below)
 times-narrow (both {ptsField} {dtsField} {pts} {decoding} v w differ) = (
-  omega (arith, ap (λ (vs : List ℕ). getD vs 0 0) (v .carries .values)),
-  omega (arith, ap (λ (vs : List ℕ). getD vs 0 0) (w .carries .values)),
+  omega (arith, read-by-name v "[32..30]" refl),
+  omega (arith, read-by-name w "[32..30]" refl),
 )
 
 match-narrow : {flag : ℕ} {extension : List ℕ} {decoding matching : ℕ} → decoding < ticks → OwnExtension flag extension decoding matching → matching < ticks
 match-narrow below OwnExtension.none = below
-match-narrow below (own.with-tref a b c d differ) = omega (arith, ap (λ (vs : List ℕ). getD vs 0 0) (d .carries .values))
+match-narrow below (own.with-tref a b c d differ) = omega (arith, read-by-name d "[32..30]" refl)
 
 own-narrow : {bytes : List ℕ} {pts decoding matching : ℕ} → OwnShape bytes pts decoding matching → Narrow pts decoding matching
 own-narrow {bytes} {pts} {decoding} o =

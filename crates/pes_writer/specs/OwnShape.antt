@@ -1,6 +1,7 @@
 -- A header in the writer's own shape, field by field, and what the writer has to do: reserved bits 1, fixed bits as printed, a DTS
 -- only if it differs from PTS, a TREF only if match and decoding time differ, and no other field.
--- `Written t vs l` says of bytes l that they are a table t whole, with the values vs, its fixed bits and its reserved bits 1.
+-- `WrittenBy t given l` says of bytes l that they are a table t whole, each line with what its name is given, its fixed bits and its reserved
+-- bits 1.
 -- Assumes nothing.
 use Prim.Native.Nat.{ℕ, _≤_, _<_}
 use mathlib.Core.Path.{_≡_}
@@ -8,7 +9,7 @@ use mathlib.Core.Bool.{true, false}
 use mathlib.Core.List.{List, [], _∷_, _++_}
 use lib.ListN.{length}
 use Rattle.buffers.specs.Buffers.{over}
-use Rattle.syntax.specs.Table.{Written}
+use Rattle.syntax.specs.Named.{WrittenBy}
 use Rattle.clock.specs.Clock.{ticks, isBefore}
 use Rattle.vocabulary.specs.declared.refusal.Refusal.the-variants.{NoRoom, PtsBeforeDts, TooWide}
 use Rattle.stamps.specs.Tables as Times
@@ -17,22 +18,22 @@ use Rattle.stamps.specs.Stamps.{partsOf}
 use Rattle.pes_fields.specs.Tables as Tables
 use Rattle.pes_fields.specs.Tables.{extensionFlags, secondExtension, trefExtension}
 use Rattle.pes_fields.specs.Meaning.{inOrder}
-use Rattle.pes_writer.specs.Writing.{headValues}
+use Rattle.pes_writer.specs.Writing.{secondAlone, sixBytes, trefFollows, headGiven}
 use Rattle.pes_writer.specs.declared.Written as answer
 use Rattle.pes_writer.specs.declared.Written.the-variants.{Bytes, Refused}
 
 -- PTS_DTS_flags, the bytes of PTS and DTS, PTS and decoding time
 pub data OwnTimes : ℕ → List ℕ → ℕ → ℕ → Type 0 where
-  alone : {field : List ℕ} {time : ℕ} → Written ptsAlone (partsOf time) field → OwnTimes 0b10 field time time
-  both : {ptsField dtsField : List ℕ} {pts decoding : ℕ} → Written ptsBeforeDts (partsOf pts) ptsField
-      → Written Times.dts (partsOf decoding) dtsField → (pts ≡ decoding → ⊥)
+  alone : {field : List ℕ} {time : ℕ} → WrittenBy ptsAlone (partsOf time) field → OwnTimes 0b10 field time time
+  both : {ptsField dtsField : List ℕ} {pts decoding : ℕ} → WrittenBy ptsBeforeDts (partsOf pts) ptsField
+      → WrittenBy Times.dts (partsOf decoding) dtsField → (pts ≡ decoding → ⊥)
       → OwnTimes 0b11 (inOrder (ptsField ∷ []) dtsField) pts decoding
 
 -- PES_extension_flag, the bytes of the extension, decoding and match time
 pub data OwnExtension : ℕ → List ℕ → ℕ → ℕ → Type 0 where
   none : {time : ℕ} → OwnExtension 0 [] time time
-  with-tref : {flags second mark field : List ℕ} {decoding matching : ℕ} → Written extensionFlags (0 ∷ 0 ∷ 0 ∷ 0 ∷ 1 ∷ []) flags
-      → Written secondExtension (6 ∷ []) second → Written trefExtension (1 ∷ 0 ∷ []) mark → Written tref (partsOf matching) field
+  with-tref : {flags second mark field : List ℕ} {decoding matching : ℕ} → WrittenBy extensionFlags secondAlone flags
+      → WrittenBy secondExtension sixBytes second → WrittenBy trefExtension trefFollows mark → WrittenBy tref (partsOf matching) field
       → (matching ≡ decoding → ⊥)
       → OwnExtension 1 (inOrder (flags ∷ second ∷ mark ∷ []) field) decoding matching
 
@@ -44,7 +45,7 @@ pub record OwnShape (bytes : List ℕ) (pts decoding matching : ℕ) : Type 0 wh
   pub ptsDtsFlags : ℕ
   pub extensionFlag : ℕ
   pub order : bytes ≡ inOrder (head ∷ times ∷ []) extension
-  pub head-is : Written Tables.head (headValues ptsDtsFlags extensionFlag (length (times ++ extension))) head
+  pub head-is : WrittenBy Tables.head (headGiven ptsDtsFlags extensionFlag (length (times ++ extension))) head
   pub times-are : OwnTimes ptsDtsFlags times pts decoding
   pub extension-is : OwnExtension extensionFlag extension decoding matching
 

@@ -10,15 +10,16 @@ use borrow.Author.Tests.{eq-eqb, ne-eqb, eqb-true, eqb-false, leb-true, leb-fals
 use lib.Dec.{eqb, leb, lit<}
 use lib.ListN.{length}
 use Rattle.buffers.specs.Buffers.{over}
-use Rattle.syntax.specs.Table.{writeTable, Fit, none, at-value, at-reserved, at-fixed, Written}
-use Rattle.syntax.proofs.Laws.{written, written-unique}
+use Rattle.syntax.specs.Table.{Fit, none, at-value, at-reserved, at-fixed}
+use Rattle.syntax.specs.Named.{valuesBy, writeBy}
+use Rattle.syntax.proofs.NamedLaws.{written-by-meant, written-by-only}
 use Rattle.clock.specs.Clock.{ticks, isBefore}
 use Rattle.vocabulary.specs.declared.refusal.Refusal.the-variants.{NoRoom, PtsBeforeDts, TooWide}
 use Rattle.stamps.specs.Tables as Times
 use Rattle.stamps.specs.Tables.{timeBits, ptsAlone, ptsBeforeDts, tref}
 use Rattle.stamps.specs.Stamps.{partsOf, timeField}
 use Rattle.pes_fields.specs.Tables as Tables
-use Rattle.pes_writer.specs.Writing.{timeFields, trefHead, trefFields, dataFields, headValues, ptsDtsFlagsOf, extensionFlagOf, headOf, headerOf, tooWide, writeOf, bufferOf}
+use Rattle.pes_writer.specs.Writing.{timeFields, trefHead, trefFields, dataFields, headGiven, ptsDtsFlagsOf, extensionFlagOf, headOf, headerOf, tooWide, writeOf, bufferOf}
 use Rattle.pes_writer.specs.WritingLaws.{times-at-most, tref-at-most, data-length, flags-below, extension-below, narrow, narrow-only}
 use Rattle.pes_writer.specs.OwnShape.{OwnTimes, alone, both, OwnExtension, with-tref, OwnShape, Narrow, Writes, too-wide, no-room, pts-before-dts}
 use Rattle.pes_writer.specs.OwnShape as own
@@ -27,14 +28,14 @@ use Rattle.pes_writer.specs.declared.Written.the-variants.{Bytes, Refuse
 
 -- ---- values that fit their tables
 
-fit-parts : (time : ℕ) → time < ticks → Fit timeBits (partsOf time)
+fit-parts : (time : ℕ) → time < ticks → Fit timeBits (valuesBy timeBits (partsOf time))
 fit-parts time h =
     let high : time / 2 ^ 30 < 2 ^ 3 = omega arith in
     let middle : time / 2 ^ 15 % 2 ^ 15 < 2 ^ 15 = omega arith in
     let low : time % 2 ^ 15 < 2 ^ 15 = omega arith in
     at-value high (at-fixed (at-value middle (at-fixed (at-value low (at-fixed none)))))
 
-fit-head : (f e n : ℕ) → f < 4 → e < 2 → n < 256 → Fit Tables.head (headValues f e n)
+fit-head : (f e n : ℕ) → f < 4 → e < 2 → n < 256 → Fit Tables.head (valuesBy Tables.head (headGiven f e n))
 fit-head f e n hf he hn =
     at-fixed
     (at-value (lit< tt)
@@ -57,21 +58,21 @@ module _ (pts decoding matching : ℕ) (n : Narrow pts decoding matching) where
       → OwnTimes (cond t 0b10 0b11) (cond t (timeField ptsAlone pts) (timeField ptsBeforeDts pts ++ timeField Times.dts decoding)) pts decoding
   times-own true e =
       subst (λ (d : ℕ). OwnTimes 0b10 (timeField ptsAlone pts) pts d) (eqb-true pts decoding e)
-      (alone (written (record { whole = refl; fixed-fit = refl }) (at-fixed (fit-parts pts (n .pts-below)))))
+      (alone (written-by-meant (record { whole = refl; fixed-fit = refl }) refl (at-fixed (fit-parts pts (n .pts-below)))))
   times-own false e =
       both
-      (written (record { whole = refl; fixed-fit = refl }) (at-fixed (fit-parts pts (n .pts-below))))
-      (written (record { whole = refl; fixed-fit = refl }) (at-fixed (fit-parts decoding (n .decoding-below))))
+      (written-by-meant (record { whole = refl; fixed-fit = refl }) refl (at-fixed (fit-parts pts (n .pts-below))))
+      (written-by-meant (record { whole = refl; fixed-fit = refl }) refl (at-fixed (fit-parts decoding (n .decoding-below))))
       (eqb-false pts decoding e)
 
   extension-own : (t : Bool) → eqb matching decoding ≡ t → OwnExtension (cond t 0 1) (cond t [] (trefHead ++ timeField tref matching)) decoding matching
   extension-own true e = subst (λ (m : ℕ). OwnExtension 0 [] decoding m) (sym (eqb-true matching decoding e)) OwnExtension.none
   extension-own false e =
       with-tref
-      (written (record { whole = refl; fixed-fit = refl }) (at-value (lit< tt) (at-value (lit< tt) (at-value (lit< tt) (at-value (lit< tt) (at-reserved (at-value (lit< tt) none)))))))
-      (written (record { whole = refl; fixed-fit = refl }) (at-fixed (at-value (lit< tt) none)))
-      (written (record { whole = refl; fixed-fit = refl }) (at-value (lit< tt) (at-reserved (at-value (lit< tt) none))))
-      (written (record { whole = refl; fixed-fit = refl }) (at-reserved (fit-parts matching (n .matching-below))))
+      (written-by-meant (record { whole = refl; fixed-fit = refl }) refl (at-value (lit< tt) (at-value (lit< tt) (at-value (lit< tt) (at-value (lit< tt) (at-reserved (at-value (lit< tt) none)))))))
+      (written-by-meant (record { whole = refl; fixed-fit = refl }) refl (at-fixed (at-value (lit< tt) none)))
+      (written-by-meant (record { whole = refl; fixed-fit = refl }) refl (at-value (lit< tt) (at-reserved (at-value (lit< tt) none))))
+      (written-by-meant (record { whole = refl; fixed-fit = refl }) refl (at-reserved (fit-parts matching (n .matching-below))))
       (eqb-false matching decoding e)
 
   pub own-is : OwnShape (headerOf pts decoding matching) pts decoding matching
@@ -84,7 +85,7 @@ module _ (pts decoding matching : ℕ) (n : Narrow pts decoding matching) where
         extensionFlag = extensionFlagOf decoding matching;
         order = refl;
         head-is =
-            written (record { whole = refl; fixed-fit = refl })
+            written-by-meant (record { whole = refl; fixed-fit = refl }) refl
             (fit-head (ptsDtsFlagsOf pts decoding) (extensionFlagOf decoding matching) (length (dataFields pts decoding matching))
             (flags-below pts decoding)
             (extension-below decoding matching)
@@ -99,13 +100,13 @@ own-times-only : {f : ℕ} {times : List ℕ} {pts decoding : ℕ} → OwnTimes 
 own-times-only (alone {field} {time} w) =
     let same : eqb time time ≡ true = eq-eqb time time refl in (
       ap (λ (t : Bool). cond t 0b10 0b11) (sym same),
-      written-unique (record { whole = refl; fixed-fit = refl }) w
+      written-by-only (record { whole = refl; fixed-fit = refl }) w
           ∙ ap (λ (t : Bool). cond t (timeField ptsAlone time) (timeField ptsBeforeDts time ++ timeField Times.dts time)) (sym same),
     )
 own-times-only (both {ptsField} {dtsField} {pts} {decoding} v w differ) =
     let apart : eqb pts decoding ≡ false = ne-eqb pts decoding differ in (
       ap (λ (t : Bool). cond t 0b10 0b11) (sym apart),
-      ap₂ _++_ (written-unique (record { whole = refl; fixed-fit = refl }) v) (written-unique (record { whole = refl; fixed-fit = refl }) w)
+      ap₂ _++_ (written-by-only (record { whole = refl; fixed-fit = refl }) v) (written-by-only (record { whole = refl; fixed-fit = refl }) w)
           ∙ ap (λ (t : Bool). cond t (timeField ptsAlone pts) (timeField ptsBeforeDts pts ++ timeField Times.dts decoding)) (sym apart),
     )
 
@@ -117,9 +118,9 @@ own-extension-only (OwnExtension.none {time}) =
 own-extension-only (with-tref {flags} {second} {mark} {field} {decoding} {matching} a b c d differ) =
     let apart : eqb matching decoding ≡ false = ne-eqb matching decoding differ in (
       ap (λ (t : Bool). cond t 0 1) (sym apart),
-      ap₂ _++_ (written-unique (record { whole = refl; fixed-fit = refl }) a)
-          (ap₂ _++_ (written-unique (record { whole = refl; fixed-fit = refl }) b)
-          (ap₂ _++_ (written-unique (record { whole = refl; fixed-fit = refl }) c) (written-unique (record { whole = refl; fixed-fit = refl }) d)))
+      ap₂ _++_ (written-by-only (record { whole = refl; fixed-fit = refl }) a)
+          (ap₂ _++_ (written-by-only (record { whole = refl; fixed-fit = refl }) b)
+          (ap₂ _++_ (written-by-only (record { whole = refl; fixed-fit = refl }) c) (written-by-only (record { whole = refl; fixed-fit = refl }) d)))
           ∙ ap (λ (t : Bool). cond t [] (trefHead ++ timeField tref matching)) (sym apart),
     )
 
@@ -131,9 +132,9 @@ own-only {bytes} {pts} {decoding} {matching} o =
     let fields-same : o .times ++ o .extension ≡ dataFields pts decoding matching = ap₂ _++_ (times-same .1) (extension-same .1) in
     o .order
     ∙ ap₂ _++_
-    (written-unique (record { whole = refl; fixed-fit = refl }) (o .head-is)
-    ∙ ap₂ (λ (f e : ℕ). writeTable Tables.head (headValues f e (length (o .times ++ o .extension)))) (times-same .0) (extension-same .0)
-    ∙ ap (λ (l : List ℕ). writeTable Tables.head (headValues (ptsDtsFlagsOf pts decoding) (extensionFlagOf decoding matching) (length l))) fields-same)
+    (written-by-only (record { whole = refl; fixed-fit = refl }) (o .head-is)
+    ∙ ap₂ (λ (f e : ℕ). writeBy Tables.head (headGiven f e (length (o .times ++ o .extension)))) (times-same .0) (extension-same .0)
+    ∙ ap (λ (l : List ℕ). writeBy Tables.head (headGiven (ptsDtsFlagsOf pts decoding) (extensionFlagOf decoding matching) (length l))) fields-same)
     fields-same
 
 -- ---- what the writer has to do

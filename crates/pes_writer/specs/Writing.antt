@@ -7,7 +7,7 @@ use mathlib.Core.List.{List, [], _∷_, _++_}
 use lib.Dec.{eqb, leb}
 use lib.ListN.{length}
 use Rattle.buffers.specs.Buffers.{over}
-use Rattle.syntax.specs.Table.{writeTable}
+use Rattle.syntax.specs.Named.{Given, writeBy}
 use Rattle.clock.specs.Clock.{ticks, isBefore}
 use Rattle.vocabulary.specs.declared.refusal.Refusal.the-variants.{NoRoom, PtsBeforeDts, TooWide}
 use Rattle.stamps.specs.Tables.{ptsAlone, ptsBeforeDts, dts, tref}
@@ -22,8 +22,17 @@ timeFields pts decoding =
     cond (eqb pts decoding) (timeField ptsAlone pts) (timeField ptsBeforeDts pts ++ timeField dts decoding)
 
 -- the extension, if match and decoding time differ: no other flag of it, a second extension of 6 bytes, and TREF
+abbrev pub secondAlone : Given
+secondAlone = ("PES_extension_flag_2", 1) ∷ []
+
+abbrev pub sixBytes : Given
+sixBytes = ("PES_extension_field_length", 6) ∷ []
+
+abbrev pub trefFollows : Given
+trefFollows = ("stream_id_extension_flag", 1) ∷ ("tref_extension_flag", 0) ∷ []
+
 abbrev pub trefHead : List ℕ
-trefHead = writeTable extensionFlags (0 ∷ 0 ∷ 0 ∷ 0 ∷ 1 ∷ []) ++ (writeTable secondExtension (6 ∷ []) ++ writeTable trefExtension (1 ∷ 0 ∷ []))
+trefHead = writeBy extensionFlags secondAlone ++ (writeBy secondExtension sixBytes ++ writeBy trefExtension trefFollows)
 
 abbrev pub trefFields : ℕ → ℕ → List ℕ
 trefFields decoding matching = cond (eqb matching decoding) [] (trefHead ++ timeField tref matching)
@@ -31,10 +40,16 @@ trefFields decoding matching = cond (eqb matching decoding) [] (trefHead ++ time
 abbrev pub dataFields : ℕ → ℕ → ℕ → List ℕ
 dataFields pts decoding matching = timeFields pts decoding ++ trefFields decoding matching
 
--- The head's values in the table's order. Byte 0x84 is '10' and data_alignment_indicator.
-abbrev pub headValues : ℕ → ℕ → ℕ → List ℕ
-headValues ptsDtsFlags extensionFlag dataLength =
-    0xE0 ∷ 0 ∷ 0 ∷ 0 ∷ 1 ∷ 0 ∷ 0 ∷ ptsDtsFlags ∷ 0 ∷ 0 ∷ 0 ∷ 0 ∷ 0 ∷ extensionFlag ∷ dataLength ∷ []
+-- What is given to the head's lines; all others have 0. Byte 0x84 is '10' and data_alignment_indicator.
+abbrev pub headGiven : ℕ → ℕ → ℕ → Given
+headGiven ptsDtsFlags extensionFlag dataLength =
+    ("stream_id", 0xE0)
+    ∷ ("PES_packet_length", 0)
+    ∷ ("data_alignment_indicator", 1)
+    ∷ ("PTS_DTS_flags", ptsDtsFlags)
+    ∷ ("PES_extension_flag", extensionFlag)
+    ∷ ("PES_header_data_length", dataLength)
+    ∷ []
 
 abbrev pub ptsDtsFlagsOf : ℕ → ℕ → ℕ
 ptsDtsFlagsOf pts decoding = cond (eqb pts decoding) 0b10 0b11
@@ -44,8 +59,8 @@ extensionFlagOf decoding matching = cond (eqb matching decoding) 0 1
 
 abbrev pub headOf : ℕ → ℕ → ℕ → List ℕ
 headOf pts decoding matching =
-    writeTable head
-    (headValues (ptsDtsFlagsOf pts decoding) (extensionFlagOf decoding matching) (length (dataFields pts decoding matching)))
+    writeBy head
+    (headGiven (ptsDtsFlagsOf pts decoding) (extensionFlagOf decoding matching) (length (dataFields pts decoding matching)))
 
 -- The header whole.
 abbrev pub headerOf : ℕ → ℕ → ℕ → List ℕ

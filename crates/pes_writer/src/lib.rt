@@ -4,9 +4,9 @@ ghost use mathlib.Core.Path.{_≡_};
 ghost use Prim.Native.Nat.{_+_, _^_, _≤_, _<_};
 ghost use lib.ListN.{length};
 ghost use Rattle.buffers.specs.Buffers.{Laid};
-ghost use Rattle.syntax.specs.Table.{writeTable};
+ghost use Rattle.syntax.specs.Named.{writeBy};
 ghost use Rattle.pes_fields.specs.Tables.{head};
-ghost use Rattle.pes_writer.specs.Writing.{timeFields, trefFields, dataFields, headValues, ptsDtsFlagsOf, extensionFlagOf, headOf, headerOf, tooWide, writeOf, bufferOf};
+ghost use Rattle.pes_writer.specs.Writing.{timeFields, trefFields, dataFields, headGiven, ptsDtsFlagsOf, extensionFlagOf, headOf, headerOf, tooWide, writeOf, bufferOf};
 use buffers::put_whole;
 use vocabulary::Refusal;
 
@@ -19,7 +19,7 @@ pub enum Written {
 // The nine bytes before the header data.
 fn head_of(pts_dts_flags: u8, extension_flag: u8, data_length: u8) -> [u8; 9]
     requires { ⌜ («pts_dts_flags» < 4) × («extension_flag» < 2) ⌝ }
-    ensures { λ r. ⌜ r ≡ writeTable head (headValues «pts_dts_flags» «extension_flag» «data_length») ⌝ }
+    ensures { λ r. ⌜ r ≡ writeBy head (headGiven «pts_dts_flags» «extension_flag» «data_length») ⌝ }
 {
     [
         0x00,

@@ -6,8 +6,8 @@ use mathlib.Core.Bool.{cond, _&&_}
 use mathlib.Core.List.{List, [], _∷_}
 use lib.Dec.{eqb}
 use lib.ListN.{drop}
-use Rattle.syntax.specs.Table.{Table, number, fixedHold, writeTable}
-use Rattle.syntax.specs.Named.{named}
+use Rattle.syntax.specs.Table.{Table, number, fixedHold}
+use Rattle.syntax.specs.Named.{named, Given, writeBy}
 use Rattle.stamps.specs.Tables.{ptsAlone, ptsBeforeDts, dts}
 use Rattle.stamps.specs.declared.Stamp.{Stamp}
 use Rattle.stamps.specs.declared.Stamps.{Stamps}
@@ -36,9 +36,9 @@ abbrev pub stampsOf : ℕ → List ℕ → Stamps
 stampsOf ptsDtsFlags bytes =
     cond (eqb ptsDtsFlags 0b11) (withDts (stampOf ptsBeforeDts bytes) (stampOf dts (drop 5 bytes))) (withoutDts (stampOf ptsAlone bytes))
 
--- a time in its three parts, [32..30], [29..15] and [14..0], and as a field
-abbrev pub partsOf : ℕ → List ℕ
-partsOf time = time / 2 ^ 30 ∷ time / 2 ^ 15 % 2 ^ 15 ∷ time % 2 ^ 15 ∷ []
+-- a time in its three parts, and as a field
+abbrev pub partsOf : ℕ → Given
+partsOf time = ("[32..30]", time / 2 ^ 30) ∷ ("[29..15]", time / 2 ^ 15 % 2 ^ 15) ∷ ("[14..0]", time % 2 ^ 15) ∷ []
 
 abbrev pub timeField : Table → ℕ → List ℕ
-timeField t time = writeTable t (partsOf time)
+timeField t time = writeBy t (partsOf time)

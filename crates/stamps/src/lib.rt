@@ -35,10 +35,9 @@ pub fn unprefixed(field: &[u8]) -> Stamp
     requires { ⌜ 5 ≤ length (now field) ⌝ }
     ensures { λ r. ⌜ r ≡ stampOf tref (now (field .entry)) ⌝ }
 {
-    let bytes = [field[0], field[1], field[2], field[3], field[4]];
     Stamp {
-        marked: (bytes[0] % 2 == 1) & (bytes[2] % 2 == 1) & (bytes[4] % 2 == 1),
-        time: joined(bytes[0], bytes[1], bytes[2], bytes[3], bytes[4]),
+        marked: (field[0] % 2 == 1) & (field[2] % 2 == 1) & (field[4] % 2 == 1),
+        time: joined(field[0], field[1], field[2], field[3], field[4]),
     }
 }
 

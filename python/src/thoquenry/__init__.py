@@ -11,7 +11,7 @@ from array import array
 from ctypes import c_int64, c_uint8, c_uint16, c_uint64
 from dataclasses import dataclass, field
 from enum import IntEnum
-from itertools import islice
+from itertools import chain, islice
 from operator import index
 from struct import Struct
 from typing import Iterable, List, Mapping, Tuple, Union
@@ -27,10 +27,11 @@ __version__ = "0.1.0"
 
 _LIBRARY = load()
 
-# The most bytes that a loop has, the least bytes of an entry, the numbers by which an entry crosses to the library, and how long the list of
-# embedded layers is among them.
+# The most bytes that a loop has, the least bytes of an entry and so the most entries, the numbers by which an entry crosses to the library, and how
+# long the list of embedded layers is among them.
 _LOOP_BYTES = 1008
 _ENTRY_BYTES = 5
+_ENTRIES = _LOOP_BYTES // _ENTRY_BYTES
 _ENTRY_NUMBERS = 80
 _EMBEDDED_ROOM = 63
 
@@ -137,6 +138,11 @@ def _number(value: int, bits: int) -> int:
     return min(number, 2**bits - 1)
 
 
+def _year(reading: Reading) -> Reading:
+    """The reading, by itself or by its year."""
+    return Reading(index(reading))
+
+
 def _column(code: str, kind, values: List[int]):
     """A C array of these values, and its length."""
     try:
@@ -215,22 +221,34 @@ def read_loop(reading: Reading, loop: bytes) -> List[Entry]:
     """Reads a loop: every entry, in loop order. Refusals: 1 to 10."""
     given, length = _loop(loop)
     entries, room = _room(c_uint16, min(length, _LOOP_BYTES) // _ENTRY_BYTES * _ENTRY_NUMBERS)
-    count = _accepted(_LIBRARY.thq_read_loop(Reading(reading), given, length, entries, room))
+    count = _accepted(_LIBRARY.thq_read_loop(_year(reading), given, length, entries, room))
     return [_entry(entries, at) for at in range(0, count * 2 * _ENTRY_NUMBERS, 2 * _ENTRY_NUMBERS)]
 
 
 def write_loop(entries: Iterable[Entry]) -> bytes:
     """Writes a loop, by the 2015 reading's rules. Refusals: 25; then 1, 3, 6 to 10."""
+    left = iter(entries)
+    written = _written(islice(left, _ENTRIES + 1))
+    # One entry too many is here, and the answer is 1, unless a later value is too wide (25): those are looked at piece by piece, and not kept.
+    for first in left:
+        rest = _written(chain((first,), islice(left, _ENTRIES)))
+        if rest[0] % 256 == Number.TOO_WIDE:
+            written = rest
+    answer, out = written
+    return bytes(out[:_accepted(answer)])
+
+
+def _written(entries: Iterable[Entry]):
+    """The library's answer for these entries, and the buffer."""
     numbers = [number for entry in entries for number in _to_numbers(entry)]
     out, room = _room(c_uint8, _LOOP_BYTES)
-    count = _accepted(_LIBRARY.thq_write_loop(*_column("H", c_uint16, numbers), out, room))
-    return bytes(out[:count])
+    return _LIBRARY.thq_write_loop(*_column("H", c_uint16, numbers), out, room), out
 
 
 def closure(reading: Reading, loop: bytes, target: int) -> Tuple[int, ...]:
     """The layers that a target rests on, itself included, rising. Refusals: 1 to 12."""
     members, room = _room(c_uint64, 1)
-    _accepted(_LIBRARY.thq_closure(Reading(reading), *_loop(loop), _number(target, 64), members, room))
+    _accepted(_LIBRARY.thq_closure(_year(reading), *_loop(loop), _number(target, 64), members, room))
     return _indices(members[0])
 
 
@@ -257,7 +275,7 @@ def join(layers: Mapping[int, Iterable[int]], target: int, rows: Iterable[Row]) 
 
 def import_(reading: Reading, loop: bytes, target: int, rows: Iterable[Row]) -> Units:
     """The whole import: the layers of a loop's bytes, and the rows joined over them. Refusals: 1 to 12; then 13 to 16."""
-    return _joined(_LIBRARY.thq_import, (Reading(reading), *_loop(loop), _number(target, 64)), rows)
+    return _joined(_LIBRARY.thq_import, (_year(reading), *_loop(loop), _number(target, 64)), rows)
 
 
 def _joined(function, first: tuple, rows: Iterable[Row]) -> Units:

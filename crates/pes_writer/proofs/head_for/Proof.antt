@@ -4,9 +4,9 @@ use borrow.Author.Needs.{needs}
 use native.Mathlib.Omega.{arith}
 use Prim.Native.Nat.{ℕ}
 use mathlib.Core.Path.{ap, ap₂, _∙_}
-use Rattle.syntax.specs.Table.{writeTable}
+use Rattle.syntax.specs.Named.{writeBy}
 use Rattle.pes_fields.specs.Tables.{head}
-use Rattle.pes_writer.specs.Writing.{headValues, ptsDtsFlagsOf, extensionFlagOf}
+use Rattle.pes_writer.specs.Writing.{headGiven, ptsDtsFlagsOf, extensionFlagOf}
 use Rattle.pes_writer.specs.WritingLaws.{flags-below, extension-below}
 use Rattle.pes_writer.proofs.head_for.Statement.{statement}
 use Rattle.pes_writer.proofs.head_for.Tie as tie
@@ -30,8 +30,8 @@ returns : tie.Need-returns
 returns c =
     let a = c .before .before .before .before .args in
     c .head-of .ensures
-    ∙ ap₂ (λ (f e : ℕ). writeTable head (headValues f e (c .before .data-length .result))) (c .before .before .before .pts-dts-flags .ensures) (c .before .before .extension-flag .ensures)
-    ∙ ap (λ (n : ℕ). writeTable head (headValues (ptsDtsFlagsOf (a .pts) (a .decoding)) (extensionFlagOf (a .decoding) (a .matching)) n)) (c .before .data-length .ensures)
+    ∙ ap₂ (λ (f e : ℕ). writeBy head (headGiven f e (c .before .data-length .result))) (c .before .before .before .pts-dts-flags .ensures) (c .before .before .extension-flag .ensures)
+    ∙ ap (λ (n : ℕ). writeBy head (headGiven (ptsDtsFlagsOf (a .pts) (a .decoding)) (extensionFlagOf (a .decoding) (a .matching)) n)) (c .before .data-length .ensures)
 
 pub head-for-spec : {M : Type 1} → statement M
 head-for-spec =

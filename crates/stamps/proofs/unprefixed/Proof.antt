@@ -1,4 +1,4 @@
--- `stamps::unprefixed` meets its contract: the markers and the time, read off the five bytes, are those that the table reads off
+-- `stamps::unprefixed` meets its contract: the markers and the time, read off the lent bytes, are those that the table reads off
 -- their number. Assumes nothing.
 use borrow.Author.Needs.{needs}
 use mathlib.Core.Path.{ap₂, _∙_}
@@ -7,69 +7,49 @@ use Rattle.stamps.specs.StampLaws.{stamp, markers-of-bytes, time-of-byte
 use Rattle.stamps.proofs.unprefixed.Statement.{statement}
 use Rattle.stamps.proofs.unprefixed.Tie as tie
 
-shared-slice-read-t4 : tie.Need-shared-slice-read-t4
-shared-slice-read-t4 c = search needs
+shared-slice-read-t3 : tie.Need-shared-slice-read-t3
+shared-slice-read-t3 c = search needs
 
-shared-slice-read-t6 : tie.Need-shared-slice-read-t6
-shared-slice-read-t6 c = search needs
-
-shared-slice-read-t8 : tie.Need-shared-slice-read-t8
-shared-slice-read-t8 c = search needs
-
-shared-slice-read-t10 : tie.Need-shared-slice-read-t10
-shared-slice-read-t10 c = search needs
+shared-slice-read-t7 : tie.Need-shared-slice-read-t7
+shared-slice-read-t7 c = search needs
 
 shared-slice-read-t12 : tie.Need-shared-slice-read-t12
 shared-slice-read-t12 c = search needs
 
-array-read-t4 : tie.Need-array-read-t4
-array-read-t4 c = search needs
+shared-slice-read-joined : tie.Need-shared-slice-read-joined
+shared-slice-read-joined c = search needs
 
-array-read-t10 : tie.Need-array-read-t10
-array-read-t10 c = search needs
+shared-slice-read-joined-2 : tie.Need-shared-slice-read-joined-2
+shared-slice-read-joined-2 c = search needs
 
-array-read-t6 : tie.Need-array-read-t6
-array-read-t6 c = search needs
+shared-slice-read-joined-3 : tie.Need-shared-slice-read-joined-3
+shared-slice-read-joined-3 c = search needs
 
-array-read-joined : tie.Need-array-read-joined
-array-read-joined c = search needs
+shared-slice-read-joined-4 : tie.Need-shared-slice-read-joined-4
+shared-slice-read-joined-4 c = search needs
 
-array-read-joined-2 : tie.Need-array-read-joined-2
-array-read-joined-2 c = search needs
-
-array-read-joined-3 : tie.Need-array-read-joined-3
-array-read-joined-3 c = search needs
-
-array-read-joined-4 : tie.Need-array-read-joined-4
-array-read-joined-4 c = search needs
-
-array-read-joined-5 : tie.Need-array-read-joined-5
-array-read-joined-5 c = search needs
+shared-slice-read-joined-5 : tie.Need-shared-slice-read-joined-5
+shared-slice-read-joined-5 c = search needs
 
 joined-requires : tie.Need-joined-requires
 joined-requires c κs = search needs
 
 returns : tie.Need-returns
 returns c =
-    let l = now (c .before .before .before .before .before .before .before .args .field) in
-    ap₂ stamp (markers-of-bytes l (λ i. c .before .shared-slice-known6 .given i .fits)) (c .joined .ensures ∙ time-of-bytes l (λ i. c .before .shared-slice-known6 .given i .fits))
+    let l = now (c .before .before .before .before .before .before .before .before .before .before .args .field) in
+    ap₂ stamp (markers-of-bytes l (λ i. c .before .shared-slice-known9 .given i .fits)) (c .joined .ensures ∙ time-of-bytes l (λ i. c .before .shared-slice-known9 .given i .fits))
 
 pub unprefixed-spec : {M : Type 1} → statement M
 unprefixed-spec =
     tie.close
     (tie.spec
-    shared-slice-read-t4
-    shared-slice-read-t6
-    shared-slice-read-t8
-    shared-slice-read-t10
+    shared-slice-read-t3
+    shared-slice-read-t7
     shared-slice-read-t12
-    array-read-t4
-    array-read-t10
-    array-read-t6
-    array-read-joined
-    array-read-joined-2
-    array-read-joined-3
-    array-read-joined-4
-    array-read-joined-5
+    shared-slice-read-joined
+    shared-slice-read-joined-2
+    shared-slice-read-joined-3
+    shared-slice-read-joined-4
+    shared-slice-read-joined-5
     joined-requires
     returns)
