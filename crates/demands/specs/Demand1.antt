@@ -5,10 +5,10 @@
 -- among them are the calls that refuse nothing, whose contracts are single equalities: `vocabulary`'s words, the tests of `judging`, the `clock`,
 -- `loop_layers::layers_of` and `table_of`, the text of `listing`, and `thq_version`.
 -- Assumes nothing.
-use Rattle.demands.specs.Calls.{Promised}
-use Rattle.demands.specs.Readers.{readLoop, loop-read, closureOfTarget, closure-found, closureOfLoop, loop-closure-found, readTimes, times-read}
-use Rattle.demands.specs.Writers.{writeLoop, loop-written, writeTimes, times-written}
-use Rattle.demands.specs.Joiners.{joinRows, rows-joined, importLoop, loop-imported}
+use Rattle.promised.specs.Calls.{Promised}
+use Rattle.promised.specs.Readers.{readLoop, loop-read, closureOfTarget, closure-found, closureOfLoop, loop-closure-found, readTimes, times-read}
+use Rattle.promised.specs.Writers.{writeLoop, loop-written, writeTimes, times-written}
+use Rattle.promised.specs.Joiners.{joinRows, rows-joined, importLoop, loop-imported}
 use Rattle.demands.specs.Told.{forC}
 use Rattle.demands.specs.ForC.{thqReadLoop, thqWriteLoop, thqClosure, thqReadTimes, thqWriteTimes, thqJoin, thqImport}
 use Rattle.demands.specs.ForCShown.{thq-loop-read, thq-loop-written, thq-closure-found, thq-times-read, thq-times-written, thq-rows-joined, thq-loop-imported}

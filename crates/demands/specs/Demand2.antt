@@ -49,10 +49,10 @@ use Rattle.joining.specs.Meaning.{FirstRow, NoRow, InOrder, Assembles, NoAssemb
 use Rattle.joining.specs.Meaning as Joining
 use Rattle.joining.proofs.Meant as joining
 use Rattle.importing.specs.Meaning as Import
-use Rattle.demands.specs.Calls.{Promised}
-use Rattle.demands.specs.Readers.{readLoop, loop-read, readTimes, times-read}
-use Rattle.demands.specs.Writers.{writeLoop, loop-written, writeTimes, times-written}
-use Rattle.demands.specs.Joiners.{Lists, RowsGiven, joinRows, rowsJoinedComputed, rows-joined, ImportGiven, importLoop, loop-imported}
+use Rattle.promised.specs.Calls.{Promised}
+use Rattle.promised.specs.Readers.{readLoop, loop-read, readTimes, times-read}
+use Rattle.promised.specs.Writers.{writeLoop, loop-written, writeTimes, times-written}
+use Rattle.promised.specs.Joiners.{Lists, RowsGiven, joinRows, rowsJoinedComputed, rows-joined, ImportGiven, importLoop, loop-imported}
 
 -- 'read and written as H.222.0 and its layered-video amendments lay them out': each call's answer has its meaning, and nothing else has; and
 -- the round trips of document 01, 'reading what a writer wrote gives back what was given, and rewriting gives the same bytes for headers

@@ -41,11 +41,11 @@ use Rattle.thoquenry.proofs.thq_join.Kinds as join-kinds
 use Rattle.thoquenry.proofs.thq_join.Reads as join
 use Rattle.thoquenry.proofs.thq_import.Kinds as import-kinds
 use Rattle.thoquenry.proofs.thq_import.Reads as imports
-use Rattle.demands.specs.Calls.{Run}
+use Rattle.promised.specs.Calls.{Run}
 use Rattle.demands.specs.Told.{ForC, Told, counts, refuses, not-a-call, Says, Retells, If, ByYear}
-use Rattle.demands.specs.Readers.{readLoop, closureOfLoop, readTimes}
-use Rattle.demands.specs.Writers.{writeLoop, TimesGiven, writeTimes}
-use Rattle.demands.specs.Joiners.{Lists, joinRows, importLoop}
+use Rattle.promised.specs.Readers.{readLoop, closureOfLoop, readTimes}
+use Rattle.promised.specs.Writers.{writeLoop, TimesGiven, writeTimes}
+use Rattle.promised.specs.Joiners.{Lists, joinRows, importLoop}
 
 -- ---- thq_read_loop
 

@@ -44,13 +44,13 @@ use Rattle.thoquenry.specs.Loops.{loopLaid, rowsAsked, readLoop as cReadLoop, l
 use Rattle.thoquenry.specs.Times.{timesRead, readTimes as cReadTimes, bytesWritten, timesWritten, writeTimes as cWriteTimes}
 use Rattle.thoquenry.specs.Joins.{JoinReply, layersGiven, withSummary, joinReply, joinCall, importAsked}
 use Rattle.thoquenry.specs.Bounds.{SmallTimes, small-read, SmallHeader, small-header, SmallOutcome, small-loop, SmallWritten, small-written, SmallClosure, small-closure, size-short, Few, few-joined, few-imported, few-places}
-use Rattle.demands.specs.Calls.{isListed, Promised}
-use Rattle.demands.specs.Shown.{listed-first, listed-second}
+use Rattle.promised.specs.Calls.{isListed, Promised}
+use Rattle.promised.specs.Shown.{listed-first, listed-second}
 use Rattle.demands.specs.Told.{Told, counts, refuses, forC}
 use Rattle.demands.specs.ToldShown.{code, leaves, numberTold, Fits, told-promised, if-told, retold, toldByYear, each-year, by-year, asked}
-use Rattle.demands.specs.Readers.{outcomeNumber, readLoop, loopReadComputed, LoopTargetGiven, closureNumber, closureOfLoop, loopClosureComputed, timesNumber, readTimes, timesReadComputed}
-use Rattle.demands.specs.Writers.{EntriesGiven, TimesGiven, writtenNumber, writeLoop, loopWrittenComputed, timesWrittenNumber, writeTimes, timesWrittenComputed}
-use Rattle.demands.specs.Joiners.{Lists, RowsGiven, joinedNumber, joinRows, rowsJoinedComputed, ImportGiven as BaseImportGiven, importLoop, importComputed}
+use Rattle.promised.specs.Readers.{outcomeNumber, readLoop, loopReadComputed, LoopTargetGiven, closureNumber, closureOfLoop, loopClosureComputed, timesNumber, readTimes, timesReadComputed}
+use Rattle.promised.specs.Writers.{EntriesGiven, TimesGiven, writtenNumber, writeLoop, loopWrittenComputed, timesWrittenNumber, writeTimes, timesWrittenComputed}
+use Rattle.promised.specs.Joiners.{Lists, RowsGiven, joinedNumber, joinRows, rowsJoinedComputed, ImportGiven as BaseImportGiven, importLoop, importComputed}
 use Rattle.demands.specs.ForC.{ReadLoopGiven, loopTold, loopReadTold, thqReadLoop, WriteLoopGiven, writtenTold, thqWriteLoop, ClosureGiven, closureTold, thqClosure, ReadTimesGiven, timesTold, thqReadTimes, WriteTimesGiven, timesGiven, timesWrittenTold, thqWriteTimes, Three, two, joinedTold, JoinGiven, thqJoin, ImportGiven, thqImport}
 
 -- ---- one buffer

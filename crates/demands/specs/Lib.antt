@@ -1,8 +1,3 @@
-pub mod Calls
-pub mod Shown
-pub mod Readers
-pub mod Writers
-pub mod Joiners
 pub mod Told
 pub mod ToldShown
 pub mod ForC
@@ -11,3 +6,4 @@ pub mod Demand1
 pub mod Demand2
 pub mod Demand3
 pub mod Starred
+pub mod Pins

@@ -10,7 +10,7 @@ use Rattle.vocabulary.specs.declared.refusal.Refusal.{Refusal}
 use Rattle.vocabulary.specs.declared.stream_types.Reading.{Reading}
 use Rattle.vocabulary.specs.declared.stream_types.Reading.the-variants.{Edition2009, Edition2015}
 use Rattle.vocabulary.specs.Refusals.{numberOf, placeOf}
-use Rattle.demands.specs.Calls.{Call, Right}
+use Rattle.promised.specs.Calls.{Call, Right}
 
 -- A call is accepted, with what it counts and what its buffers then hold; or it refuses; or 'the reading is neither THQ_2009 nor THQ_2015'.
 pub data Told (B : Type 0) : Type 0 where

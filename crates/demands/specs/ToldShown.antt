@@ -18,8 +18,8 @@ use Rattle.thoquenry.specs.declared.answers.Asked.{Asked}
 use Rattle.thoquenry.specs.declared.answers.Asked.the-variants.{Known, Neither}
 use Rattle.thoquenry.specs.Answers.{accepted, refused, notACall, askedFor}
 use Rattle.thoquenry.specs.Bounds.{Placed, refused-number, refused-place, accepted-number, accepted-count}
-use Rattle.demands.specs.Calls.{Call, isListed, Promised}
-use Rattle.demands.specs.Shown.{Computed, promised, not-refused}
+use Rattle.promised.specs.Calls.{Call, isListed, Promised}
+use Rattle.promised.specs.Shown.{Computed, promised, not-refused}
 use Rattle.demands.specs.Told.{Told, counts, refuses, not-a-call, Reads, Says, Retells, If, ByYear, ForC, toldNumber, forC}
 
 module _ {B : Type 0} where

@@ -1,0 +1,171 @@
+-- The calls that write bytes into a buffer, and their promises.
+-- Assumes nothing.
+use Prim.Native.Nat.{ℕ}
+use mathlib.Core.Bool.{Bool, true}
+use mathlib.Core.List.{List, [], _∷_}
+use mathlib.Core.Option.{Option, none, some}
+use mathlib.Core.Path.{_≡_, refl, _∙_, ap}
+use lib.ListN.{length, take}
+use denote.Ref.{now}
+use Rattle.vocabulary.specs.Refusals.{numberOf}
+use Rattle.es_loop.specs.declared.entries.Entry.{Entry}
+use Rattle.loop_writer.specs.declared.Written.{Written}
+use Rattle.loop_writer.specs.declared.Written.the-variants as Written
+use Rattle.loop_layout.specs.Layout.{loopBytes}
+use Rattle.loop_writer.specs.Writing.{answer, contentAfter, content}
+use Rattle.loop_writer.proofs.write_loop.Kinds as write-loop-kinds
+use Rattle.loop_writer.proofs.write_loop.Reads as write-loop
+use Rattle.loop_writer.specs.Meaning as Loop
+use Rattle.loop_writer.specs.Meant as loop
+use Rattle.stamps.specs.declared.Times.{Times as HeaderTimes}
+use Rattle.pes_writer.specs.declared.Written.{Written as TimesWritten}
+use Rattle.pes_writer.specs.declared.Written.the-variants as TimesWritten
+use Rattle.pes_writer.specs.Writing.{headerOf, writeOf, bufferOf}
+use Rattle.pes_writer.proofs.write.Kinds as write-times-kinds
+use Rattle.pes_writer.proofs.write.Reads as write-times
+use Rattle.pes_writer.specs.OwnShape as Times
+use Rattle.pes_writer.specs.OwnShapeLaws as times
+use Rattle.promised.specs.Calls.{Run, Call, isListed, Promised}
+use Rattle.promised.specs.Shown.{Computed, promised, not-refused}
+
+-- ---- `loop_writer::write_loop`: 'The loop writer .. uses 1, 3, 6 to 10 .., 17, 25'
+
+pub record EntriesGiven : Type 0 where
+  pub count : ℕ
+  pub array : List Entry
+  pub out : List ℕ
+
+abbrev pub writtenNumber : Written → Option ℕ
+writtenNumber (Written.Bytes n) = none
+writtenNumber (Written.Refused refusal) = some (numberOf refusal)
+
+-- the answer, and with it the bytes at the front of the buffer and beyond them what it held; or all that it held
+pub record WritesLoop (given : EntriesGiven) (written : Written) (after : List ℕ) : Type 0 where
+  pub answers : Loop.Answers (length (given .out)) (given .count) (given .array) written
+  pub holds : after ≡ contentAfter written (loopBytes (take (given .count) (given .array))) (given .out)
+
+abbrev pub writeLoop : Call
+writeLoop =
+    record {
+      Ran = Run 1 write-loop-kinds.ps write-loop-kinds.r;
+      Asks = λ run. write-loop.Pre (run .lifetimes) (run .handed);
+      Ensures = λ run. write-loop.Post (run .lifetimes) (run .handed) (run .answer) (run .left);
+      Given = EntriesGiven;
+      Answer = Written;
+      Buffers = List ℕ;
+      given = λ run. record { count = run .handed .0; array = run .handed .1 .0; out = now (run .handed .1 .1 .0) };
+      answer = λ run. run .answer;
+      before = λ given. given .out;
+      after = λ run. now (run .left .1 .1 .0);
+      numberIn = writtenNumber;
+      numbers = 1 ∷ 3 ∷ 6 ∷ 7 ∷ 8 ∷ 9 ∷ 10 ∷ 17 ∷ 25 ∷ [];
+      Means = WritesLoop;
+    }
+
+written-listed : {room count : ℕ} {array : List Entry} {written : Written} → Loop.Answers room count array written
+    → isListed (writeLoop .numbers) (writtenNumber written) ≡ true
+written-listed (Loop.too-wide s) = refl
+written-listed (Loop.too-many a b) = refl
+written-listed (Loop.too-long a b) = refl
+written-listed (Loop.refuses a b c (Loop.pid-seen d e f g) lower earlier) = refl
+written-listed (Loop.refuses a b c (Loop.type-wrong d e) lower earlier) = refl
+written-listed (Loop.refuses a b c (Loop.type-unknown d e f) lower earlier) = refl
+written-listed (Loop.refuses a b c (Loop.flags-wrong d e) lower earlier) = refl
+written-listed (Loop.refuses a b c (Loop.index-held d e f g h i) lower earlier) = refl
+written-listed (Loop.refuses a b c (Loop.embedded-wrong d e) lower earlier) = refl
+written-listed (Loop.refuses a b c (Loop.embedded-many d e) lower earlier) = refl
+written-listed (Loop.no-room a b c d e) = refl
+written-listed (Loop.accepts a b c d e) = refl
+
+written-untouched : (written : Written) (bytes out : List ℕ) (number : ℕ) → writtenNumber written ≡ some number
+    → contentAfter written bytes out ≡ out
+written-untouched (Written.Bytes n) bytes out number e = not-refused e
+written-untouched (Written.Refused r) bytes out number e = refl
+
+pub loopWrittenComputed : Computed writeLoop (λ given. answer (length (given .out)) (given .count) (given .array)) (λ given. content (given .count) (given .array) (given .out))
+loopWrittenComputed =
+    record {
+      asks-nothing = λ run. tt;
+      ensured = λ run e. e;
+      right = λ given. record { answers = loop.answer-meant (length (given .out)) (given .count) (given .array); holds = refl };
+      nothing-else = λ given means. only given means;
+      listed = λ given. written-listed (loop.answer-meant (length (given .out)) (given .count) (given .array));
+      untouched = λ given number e. written-untouched (answer (length (given .out)) (given .count) (given .array))
+          (loopBytes (take (given .count) (given .array))) (given .out) number e;
+    }
+  where
+    only : (given : EntriesGiven) {written : Written} {after : List ℕ} → WritesLoop given written after
+        → (written ≡ answer (length (given .out)) (given .count) (given .array)) × (after ≡ content (given .count) (given .array) (given .out))
+    only given means =
+        let same = loop.answer-only (length (given .out)) (given .count) (given .array) (means .answers) in
+        (same, means .holds ∙ ap (λ (w : Written). contentAfter w (loopBytes (take (given .count) (given .array))) (given .out)) same)
+
+pub loop-written : Promised writeLoop
+loop-written = promised loopWrittenComputed
+
+-- ---- `pes::write`: 'its writer 24, 25, 17'
+
+pub record TimesGiven : Type 0 where
+  pub times : HeaderTimes
+  pub withTref : Bool
+  pub out : List ℕ
+
+abbrev pub timesWrittenNumber : TimesWritten → Option ℕ
+timesWrittenNumber (TimesWritten.Bytes n) = none
+timesWrittenNumber (TimesWritten.Refused refusal) = some (numberOf refusal)
+
+abbrev pub writeTimes : Call
+writeTimes =
+    record {
+      Ran = Run 1 write-times-kinds.ps write-times-kinds.r;
+      Asks = λ run. write-times.Pre (run .lifetimes) (run .handed);
+      Ensures = λ run. write-times.Post (run .lifetimes) (run .handed) (run .answer) (run .left);
+      Given = TimesGiven;
+      Answer = TimesWritten;
+      Buffers = List ℕ;
+      given = λ run. record { times = run .handed .0; withTref = run .handed .1 .0; out = now (run .handed .1 .1 .0) };
+      answer = λ run. run .answer;
+      before = λ given. given .out;
+      after = λ run. now (run .left .1 .1 .0);
+      numberIn = timesWrittenNumber;
+      numbers = 17 ∷ 24 ∷ 25 ∷ [];
+      Means = λ given answer after. Times.Writes (given .times) (given .withTref) (given .out) answer after;
+    }
+
+times-written-listed : {times : HeaderTimes} {withTref : Bool} {out after : List ℕ} {answer : TimesWritten} → Times.Writes times withTref out answer after
+    → isListed (writeTimes .numbers) (timesWrittenNumber answer) ≡ true
+times-written-listed (Times.too-wide a) = refl
+times-written-listed (Times.no-room a b c) = refl
+times-written-listed (Times.pts-before-dts a b c d) = refl
+times-written-listed (Times.written a b c d) = refl
+
+abbrev timesAnswer : TimesGiven → TimesWritten
+timesAnswer given = writeOf (given .times) (given .withTref) (length (given .out))
+
+abbrev timesBuffer : TimesGiven → TimesWritten → List ℕ
+timesBuffer given written = bufferOf written (headerOf (given .times) (given .withTref)) (given .out)
+
+times-untouched : (written : TimesWritten) (bytes out : List ℕ) (number : ℕ) → timesWrittenNumber written ≡ some number
+    → bufferOf written bytes out ≡ out
+times-untouched (TimesWritten.Bytes n) bytes out number e = not-refused e
+times-untouched (TimesWritten.Refused r) bytes out number e = refl
+
+pub timesWrittenComputed : Computed writeTimes (timesAnswer) (λ given. timesBuffer given (timesAnswer given))
+timesWrittenComputed =
+    record {
+      asks-nothing = λ run. tt;
+      ensured = λ run e. (e .0, e .1 ∙ ap (timesBuffer (writeTimes .given run)) (e .0));
+      right = λ given. times.writes-is (given .times) (given .withTref) (given .out);
+      nothing-else = λ given means. only given means;
+      listed = λ given. times-written-listed (times.writes-is (given .times) (given .withTref) (given .out));
+      untouched = λ given number e. times-untouched (timesAnswer given) (headerOf (given .times) (given .withTref)) (given .out) number e;
+    }
+  where
+    only : (given : TimesGiven) {written : TimesWritten} {after : List ℕ} → Times.Writes (given .times) (given .withTref) (given .out) written after
+        → (written ≡ timesAnswer given) × (after ≡ timesBuffer given (timesAnswer given))
+    only given means =
+        let both = times.writes-only (given .times) (given .withTref) (given .out) means in
+        (both .0, both .1 ∙ ap (timesBuffer given) (both .0))
+
+pub times-written : Promised writeTimes
+times-written = promised timesWrittenComputed
