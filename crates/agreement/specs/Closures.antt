@@ -14,7 +14,7 @@ use Rattle.closure.specs.declared.Closure.the-variants.{Complete, Refused}
 use Rattle.closure.specs.Closures.{isLayer, closureOf}
 use Rattle.closure.specs.Meaning.{Names, RestsOn, itself, by, Missing, WholeClosure, Answers, no-such-layer, absent, complete}
 use Rattle.agreement.specs.Meaning.{NoSet, no-such-layer as eleven, embedded-layer-absent as twelve}
-use Rattle.closure.specs.Laws.{meets, nothing-else, given-complete}
+use Rattle.closure.proofs.Meant.{closure-meant, closure-only, given-complete}
 
 pub record PartOf (few all : Layers) : Type 0 where
   pub in-all : (i : ℕ) → isLayer few i ≡ true → isLayer all i ≡ true
@@ -69,7 +69,7 @@ module _ (few all : Layers) (part : PartOf few all) (target : ℕ) where
         })
 
     pub same-closure : closureOf few target ≡ closureOf all target
-    same-closure = sym (nothing-else few target (answers-few (meets all target)))
+    same-closure = sym (closure-only few target (answers-few (closure-meant all target)))
 
   -- WHERE FEW HAS A COMPLETE CLOSURE, it has every layer that the target rests on among all.
   module _ (set : ℕ) (is-complete : closureOf few target ≡ Complete set) where
@@ -90,7 +90,7 @@ pub data Found (layers : Layers) (target : ℕ) : Type 0 where
   not-found : (refusal : Refusal) → NoSet refusal → closureOf layers target ≡ Refused refusal → Found layers target
 
 pub find : (layers : Layers) (target : ℕ) → Found layers target
-find layers target = go (meets layers target) refl
+find layers target = go (closure-meant layers target) refl
   where
     go : {answer : Closure} → Answers layers target answer → closureOf layers target ≡ answer → Found layers target
     go (no-such-layer h) e = not-found NoSuchLayer eleven e

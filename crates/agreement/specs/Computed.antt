@@ -20,7 +20,7 @@ use Rattle.closure.specs.declared.Closure.the-variants.{Complete, Refused as No
 use Rattle.closure.specs.Closures.{isLayer, closureOf}
 use Rattle.closure.specs.Meaning.{RestsOn}
 use Rattle.closure.specs.Meaning as Target
-use Rattle.closure.specs.Laws.{meets, nothing-else, given-complete}
+use Rattle.closure.proofs.Meant.{closure-meant, closure-only, given-complete}
 use Rattle.loop_layers.specs.Closures.{closureFor, loopClosure}
 use Rattle.loop_layers.specs.Layers.{layersOf}
 use Rattle.joining.specs.declared.answer.Joined.{Joined}
@@ -130,7 +130,7 @@ module _ (bytes : List ℕ) (is-accepted : IsAccepted Edition2015 bytes) (target
 
   complete-too : (set : ℕ) → closureOf few target ≡ Complete set → Target.Answers all target (Complete set)
   complete-too set e =
-      subst (Target.Answers all target) (sym (same-closure few all part target (kept (every-2009 set e))) ∙ e) (meets all target)
+      subst (Target.Answers all target) (sym (same-closure few all part target (kept (every-2009 set e))) ∙ e) (closure-meant all target)
 
   not-otherwise : (set : ℕ) → closureOf few target ≡ Complete set → Otherwise (entriesIn Edition2015 bytes) all target → ⊥
   not-otherwise set e (another-type other) = other (every-2009 set e)
@@ -163,4 +163,4 @@ module _ (bytes : List ℕ) (is-accepted : IsAccepted Edition2015 bytes) (target
       go (found set e) f = inl (every-2009 set e)
       go (not-found refusal is e) (found set f) =
           inr (another-type (λ every. unlike (sym e ∙ same-closure few all part target (kept every) ∙ f)))
-      go (not-found refusal is e) (not-found later was f) = inr (no-complete-set (λ set a. unlike (sym f ∙ sym (nothing-else all target a))))
+      go (not-found refusal is e) (not-found later was f) = inr (no-complete-set (λ set a. unlike (sym f ∙ sym (closure-only all target a))))

@@ -14,7 +14,7 @@ use Rattle.closure.specs.declared.Layers.{Layers}
 use Rattle.combinators.specs.Gathering.{Gathered, gathered-same}
 use Rattle.combinators.specs.Below.{seek-first}
 use Rattle.sets.specs.Sets.{has, without, below, lowest}
-use Rattle.sets.specs.Laws.{has-without, has-below, lowest-least}
+use Rattle.sets.proofs.Laws.{has-without, has-below, lowest-least}
 use Rattle.assembling.specs.Assemblies.{upperOf, lowerOf, joins, isEdge, Next}
 
 skip : (test : ℕ → Bool) (size d n count : ℕ) (array : List ℕ) → Gathered test size n count array → n + d ≤ size

@@ -8,6 +8,7 @@ ghost use Rattle.rows.specs.Table.{table};
 ghost use Rattle.assembling.specs.Index.{Sorted, Rising, Climbing, Reached, Ready};
 ghost use Rattle.assembling.specs.Assemblies.{upperOf, lowerOf, joins, Next, edgesOf, membersOf, rowAt, pairedRow, assembled};
 use closure::Layers;
+use rows::MOST_ROWS;
 
 // The edges of a closure, as many as `count`, in `list`.
 pub struct Edges {
@@ -102,7 +103,7 @@ pub fn members_of(closure: u64) -> Members
 // The first place of a layer's rows, from `first` on and before `end`, whose row lies at least `far` ahead of `origin`.
 fn first_as_far(
     decodings: &[u64],
-    order: &[usize; 512],
+    order: &[usize; MOST_ROWS],
     origin: u64,
     far: u64,
     first: usize,
@@ -130,12 +131,14 @@ fn row_sought(
     indices: &[u8],
     decodings: &[u64],
     starts: &[usize; 65],
-    order: &[usize; 512],
+    order: &[usize; MOST_ROWS],
     layer: usize,
     time: u64,
     next: &mut [usize; 64],
 ) -> usize
-    requires { ⌜ Sorted (now indices) (now decodings) (now starts) (now order) × (layer < 64) × Rising (table (now indices) (now decodings) []) layer ⌝ }
+    requires { ⌜ Sorted (now indices) (now decodings) (now starts) (now order)
+        × (layer < 64)
+        × Rising (table (now indices) (now decodings) []) layer ⌝ }
     ensures { λ r. ⌜ r ≡ rowAt (table (now (indices .entry)) (now (decodings .entry)) []) layer time ⌝ }
 {
     let none = indices.len();
@@ -180,12 +183,14 @@ fn row_at(
     indices: &[u8],
     decodings: &[u64],
     starts: &[usize; 65],
-    order: &[usize; 512],
+    order: &[usize; MOST_ROWS],
     layer: usize,
     time: u64,
     next: &mut [usize; 64],
 ) -> usize
-    requires { ⌜ Sorted (now indices) (now decodings) (now starts) (now order) × (layer < 64) × Rising (table (now indices) (now decodings) []) layer ⌝ }
+    requires { ⌜ Sorted (now indices) (now decodings) (now starts) (now order)
+        × (layer < 64)
+        × Rising (table (now indices) (now decodings) []) layer ⌝ }
     ensures { λ r. ⌜ r ≡ rowAt (table (now (indices .entry)) (now (decodings .entry)) []) layer time ⌝ }
 {
     let guess = guess_of(starts[layer], next[layer]);
@@ -204,13 +209,15 @@ fn paired_row(
     indices: &[u8],
     decodings: &[u64],
     starts: &[usize; 65],
-    order: &[usize; 512],
+    order: &[usize; MOST_ROWS],
     row: usize,
     layer: usize,
     time: u64,
     next: &mut [usize; 64],
 ) -> usize
-    requires { ⌜ Sorted (now indices) (now decodings) (now starts) (now order) × (layer < 64) × Rising (table (now indices) (now decodings) []) layer ⌝ }
+    requires { ⌜ Sorted (now indices) (now decodings) (now starts) (now order)
+        × (layer < 64)
+        × Rising (table (now indices) (now decodings) []) layer ⌝ }
     ensures { λ r. ⌜ r ≡ pairedRow (table (now (indices .entry)) (now (decodings .entry)) []) row layer time ⌝ }
 {
     if row < indices.len() {
@@ -229,7 +236,7 @@ pub fn assemble(
     decodings: &[u64],
     matches: &[u64],
     starts: &[usize; 65],
-    order: &[usize; 512],
+    order: &[usize; MOST_ROWS],
     edges: &[u16],
     top: usize,
     head: usize,
@@ -237,8 +244,10 @@ pub fn assemble(
     rows: &mut [usize; 64],
 ) -> bool
     requires { ⌜ Ready (table (now indices) (now decodings) (now matches)) (now starts) (now order) (now edges) × (top < 64) ⌝ }
-    ensures complete { λ r. ⌜ r ≡ assembled (table (now (indices .entry)) (now (decodings .entry)) (now (matches .entry))) (now (edges .entry)) top head .complete ⌝ }
-    ensures content { λ _. ⌜ now (rows .exit) ≡ assembled (table (now (indices .entry)) (now (decodings .entry)) (now (matches .entry))) (now (edges .entry)) top head .rows ⌝ }
+    ensures complete { λ r. ⌜ r
+        ≡ assembled (table (now (indices .entry)) (now (decodings .entry)) (now (matches .entry))) (now (edges .entry)) top head .complete ⌝ }
+    ensures content { λ _. ⌜ now (rows .exit)
+        ≡ assembled (table (now (indices .entry)) (now (decodings .entry)) (now (matches .entry))) (now (edges .entry)) top head .rows ⌝ }
 {
     let none = indices.len();
     *rows = [none; 64];

@@ -1,4 +1,5 @@
 -- What is right, in the words of document 01, with no word of how it is found.
+-- proofs/Meant.antt has the laws that join this to what is computed: the computed answer has this meaning, and no other answer has it.
 -- Assumes nothing.
 use Prim.Native.Nat.{ℕ, _<_, _≤_}
 use mathlib.Core.Bool.{true, false}
@@ -14,7 +15,7 @@ use Rattle.closure.specs.declared.Closure.the-variants.{Complete, Refuse
 use Rattle.closure.specs.Closures.{isLayer}
 
 -- Layer i names j: the loop has a layer i, and j is one of its embedded indices, below its own. (In an accepted loop every embedded index
--- is below its layer's own, by refusal 9, so that this loses nothing: `below-its-own` of Laws.)
+-- is below its layer's own, by refusal 9, so that this loses nothing: `below-its-own` of proofs/Meant.antt.)
 pub record Names (layers : Layers) (i j : ℕ) : Type 0 where
   pub in-loop : isLayer layers i ≡ true
   pub embedded : has (getD (layers .embedded) i 0) j ≡ true

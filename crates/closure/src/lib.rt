@@ -1,6 +1,6 @@
 // What a target layer rests on: its closure, or the refusal 11 or 12 of document 01.
 // specs/Closures.antt has the answer as a definition that computes, specs/Meaning.antt what is right in the document's words, and
-// specs/Laws.antt the proof that the two are one.
+// proofs/Meant.antt the proof that the two are one.
 ghost use mathlib.Core.Path.{_≡_};
 ghost use Prim.Native.Nat.{_<_};
 ghost use Rattle.sets.specs.Sets.{has};

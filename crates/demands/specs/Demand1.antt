@@ -3,7 +3,8 @@
 --
 -- One statement for all calls that refuse, the seven functions for C among them: each keeps the promise of Calls for whatever it is handed. Not
 -- among them are the calls that refuse nothing, whose contracts are single equalities: `vocabulary`'s words, the tests of `judging`, the `clock`,
--- `loop_layers::layers_of` and `table_of`, the text of `listing`, and `thq_version`.
+-- `loop_layers::layers_of` and `table_of`, the text of `listing`, and `thq_version`. `joining::join_table` asks for the target's closure, and keeps
+-- the promise wherever it is handed that.
 -- Assumes nothing.
 use Rattle.promised.specs.Calls.{Promised}
 use Rattle.promised.specs.Readers.{readLoop, loop-read, closureOfTarget, closure-found, closureOfLoop, loop-closure-found, readTimes, times-read}

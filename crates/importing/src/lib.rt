@@ -22,9 +22,15 @@ pub fn import(
     numbers: &mut [u64],
     lags: &mut [i64],
 ) -> Joined
-    ensures answer { λ r. ⌜ r ≡ importOf reading (now (bytes .entry)) target (table (now (indices .entry)) (now (decodings .entry)) (now (matches .entry))) (length (now (numbers .entry))) (length (now (lags .entry))) ⌝ }
-    ensures content { λ r. ⌜ now (numbers .exit) ≡ importedNumbers reading (now (bytes .entry)) target (table (now (indices .entry)) (now (decodings .entry)) (now (matches .entry))) r (now (numbers .entry)) ⌝ }
-    ensures beside { λ r. ⌜ now (lags .exit) ≡ importedLags reading (now (bytes .entry)) target (table (now (indices .entry)) (now (decodings .entry)) (now (matches .entry))) r (now (lags .entry)) ⌝ }
+    ensures answer { λ r. ⌜ r
+        ≡ importOf reading (now (bytes .entry)) target (table (now (indices .entry)) (now (decodings .entry)) (now (matches .entry)))
+        (length (now (numbers .entry))) (length (now (lags .entry))) ⌝ }
+    ensures content { λ r. ⌜ now (numbers .exit)
+        ≡ importedNumbers reading (now (bytes .entry)) target (table (now (indices .entry)) (now (decodings .entry)) (now (matches .entry))) r
+        (now (numbers .entry)) ⌝ }
+    ensures beside { λ r. ⌜ now (lags .exit)
+        ≡ importedLags reading (now (bytes .entry)) target (table (now (indices .entry)) (now (decodings .entry)) (now (matches .entry))) r
+        (now (lags .entry)) ⌝ }
 {
     let read = es_loop::read_loop(reading, bytes);
     let outcome = read.outcome;

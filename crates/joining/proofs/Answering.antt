@@ -19,7 +19,7 @@ use Rattle.vocabulary.specs.declared.refusal.Refusal.the-variants.{OutOfRange, 
 use Rattle.joining.specs.declared.answer.Joined.{Joined}
 use Rattle.joining.specs.declared.answer.Joined.the-variants.{Units, Refused}
 use Rattle.joining.specs.declared.units.Judged.{Judged}
-use Rattle.rows.specs.Table.{Table, rowsIn, layerOf, wrongShape, firstOutOfRange, firstBroken}
+use Rattle.rows.specs.Table.{Table, rowsIn, layerOf, wrongShape, firstOutOfRange, firstBroken, mostRows}
 use Rattle.joining.specs.Units.{Frame, isTarget, unpaired, firstUnpaired, firstShared, unitsIn, rowsBelow, lagsBelow, leftOut, isLeftOut, frameOf}
 use Rattle.joining.specs.Judging.{Whole, Judges}
 use Rattle.buffers.specs.Buffers.{over}
@@ -53,9 +53,9 @@ module _ (t : Table) (closure : ℕ) (f : Frame) (numberRoom lagRoom : ℕ) (jud
       places-is = ap (λ (n : ℕ). n * length (f .members)) (found .counted none-unpaired)
 
       -- the product fits
-      pub places-fit : rowsIn t ≤ 512 → length (f .members) ≤ 64 → judged .units * length (f .members) ≤ 32768
+      pub places-fit : rowsIn t ≤ mostRows → length (f .members) ≤ 64 → judged .units * length (f .members) ≤ 32768
       places-fit short narrow =
-          let few : judged .units ≤ 512 = omega (arith, found .counted none-unpaired, count-short (isTarget t f) (rowsIn t)) in
+          let few : judged .units ≤ mostRows = omega (arith, found .counted none-unpaired, count-short (isTarget t f) (rowsIn t)) in
           mul-le-mul few narrow
 
       -- 17
@@ -73,12 +73,12 @@ module _ (t : Table) (closure : ℕ) (f : Frame) (numberRoom lagRoom : ℕ) (jud
 
         module _ (lag-room : judged .units * length (f .members) ≤ lagRoom) where
           -- the units
-          spare-is : rowsIn t ≤ 512 → count (isSpare closure (t .indices) (judged .used)) (rowsIn t) ≡ leftOut t closure f
+          spare-is : rowsIn t ≤ mostRows → count (isSpare closure (t .indices) (judged .used)) (rowsIn t) ≡ leftOut t closure f
           spare-is short =
               count-alike (isSpare closure (t .indices) (judged .used)) (isLeftOut t closure (rowsBelow t f (rowsIn t))) (rowsIn t)
               (λ k h. ap (λ (b : Bool). has closure (layerOf t k) && not b) (found .marks none-unpaired .at k (omega arith)))
 
-          pub are-units : rowsIn t ≤ 512 → (left : ℕ) → left ≡ count (isSpare closure (t .indices) (judged .used)) (rowsIn t)
+          pub are-units : rowsIn t ≤ mostRows → (left : ℕ) → left ≡ count (isSpare closure (t .indices) (judged .used)) (rowsIn t)
               → Units closure (judged .units) left ≡ unitsJoined t closure f numberRoom lagRoom
           are-units short left e =
               ap₂ (Units closure) (found .counted none-unpaired) (e ∙ spare-is short)

@@ -17,7 +17,7 @@ use Rattle.combinators.specs.Lists.{any, any-same, gather, gather-append}
 use Rattle.combinators.specs.Members.{member, member-last}
 use Rattle.combinators.specs.Those.{those, those-more, those-same}
 use Rattle.joining.specs.declared.units.Judged.{Judged}
-use Rattle.rows.specs.Table.{Table, rowsIn}
+use Rattle.rows.specs.Table.{Table, rowsIn, mostRows}
 use Rattle.joining.specs.Units.{Frame, isTarget, assemblyOf, unitFrom, unitOf, rowsBelow, unpaired, shares, firstUnpaired, firstSharing}
 use Rattle.joining.specs.Judging.{Placed, Whole, marked, MarkedAt, Judges}
 
@@ -69,17 +69,17 @@ module _ (test : ℕ → Bool) (n : ℕ) where
 
 -- ---- the marks
 
-marks-start : MarkedAt [] (replicate 512 false)
-marks-start = record { long = length-replicate 512 false; at = λ k h. getD-replicate 512 k false false h }
+marks-start : MarkedAt [] (replicate mostRows false)
+marks-start = record { long = length-replicate mostRows false; at = λ k h. getD-replicate mostRows k false false h }
 
-mark-one : (rows : List ℕ) (marks : List Bool) (row : ℕ) → MarkedAt rows marks → row < 512 → MarkedAt (rows ++ row ∷ []) (set marks row true)
+mark-one : (rows : List ℕ) (marks : List Bool) (row : ℕ) → MarkedAt rows marks → row < mostRows → MarkedAt (rows ++ row ∷ []) (set marks row true)
 mark-one rows marks row known small =
     record {
       long = length-set marks row true ∙ known .long;
       at = λ k h. go k h (ℕ-discrete k row) ∙ sym (member-last k row rows);
     }
   where
-    go : (k : ℕ) → k < 512 → Dec (k ≡ row) → getD (set marks row true) k false ≡ member k rows || eqb k row
+    go : (k : ℕ) → k < mostRows → Dec (k ≡ row) → getD (set marks row true) k false ≡ member k rows || eqb k row
     go k h (yes e) =
         rw (e, eq-eqb row row refl)
         (getD-set-same marks row true false (omega (arith, known .long)) ∙ sym (mathlib.Core.Bool.or-true (member row rows)))
@@ -87,7 +87,7 @@ mark-one rows marks row known small =
         getD-set-other marks row k true false e ∙ known .at k h
         ∙ sym (ap (λ (b : Bool). member k rows || b) (ne-eqb k row e) ∙ mathlib.Core.Bool.or-false (member k rows))
 
-mark-all : (unit rows : List ℕ) (marks : List Bool) → MarkedAt rows marks → ((p : ℕ) → p < length unit → getD unit p 0 < 512)
+mark-all : (unit rows : List ℕ) (marks : List Bool) → MarkedAt rows marks → ((p : ℕ) → p < length unit → getD unit p 0 < mostRows)
     → MarkedAt (rows ++ unit) (marked unit marks)
 mark-all [] rows marks known small = subst (λ (l : List ℕ). MarkedAt l marks) (sym (append-nil rows)) known
 mark-all (row ∷ unit) rows marks known small =
@@ -104,7 +104,7 @@ pub record Walked (t : Table) (f : Frame) (k shared units : ℕ) (used : List Bo
   pub counted : units ≡ count (isTarget t f) k
   pub marks : MarkedAt (rowsBelow t f k) used
 
-pub walked-start : (t : Table) (f : Frame) → Walked t f 0 (rowsIn t) 0 (replicate 512 false)
+pub walked-start : (t : Table) (f : Frame) → Walked t f 0 (rowsIn t) 0 (replicate mostRows false)
 walked-start t f =
     record {
       within = omega arith;
@@ -142,19 +142,19 @@ module _ (t : Table) (f : Frame) (k shared units : ℕ) (used : List Bool) (know
         seek-here (unpaired t f) (rowsIn t) k inside (known .paired) (ap₂ (λ (a b : Bool). a && not b) m e)
 
     -- a target row with one
-    module _ (whole : Whole t f) (short : rowsIn t ≤ 512) (e : assemblyOf t f k .complete ≡ true) where
-      pub chosen : Placed (f .members) (assemblyOf t f k .rows) 512
+    module _ (whole : Whole t f) (short : rowsIn t ≤ mostRows) (e : assemblyOf t f k .complete ≡ true) where
+      pub chosen : Placed (f .members) (assemblyOf t f k .rows) mostRows
       chosen =
           record {
             index = whole .index;
             row = λ p h. (let r = whole .row k p inside e h in omega arith);
           }
 
-      unit-small : (p : ℕ) → p < length (unitOf t f k) → getD (unitOf t f k) p 0 < 512
+      unit-small : (p : ℕ) → p < length (unitOf t f k) → getD (unitOf t f k) p 0 < mostRows
       unit-small p h = go (rw (length-map (f .members) (λ layer. getD (assemblyOf t f k .rows) layer 0)) at h)
         where
-          go : p < length (f .members) → getD (unitOf t f k) p 0 < 512
-          go l = subst (λ (x : ℕ). x < 512) (sym (unit-at (f .members) (assemblyOf t f k .rows) p l)) (chosen .row p l)
+          go : p < length (f .members) → getD (unitOf t f k) p 0 < mostRows
+          go l = subst (λ (x : ℕ). x < mostRows) (sym (unit-at (f .members) (assemblyOf t f k .rows) p l)) (chosen .row p l)
 
       -- what the marks say is what the definition asks
       shares-is : any (λ row. getD used row false) (unitOf t f k) ≡ shares t f k

@@ -12,7 +12,7 @@ use lib.ListN.{length, getD}
 use Rattle.closure.specs.declared.Layers.{Layers}
 use Rattle.closure.specs.Closures.{isLayer}
 use Rattle.closure.specs.Meaning.{Names, RestsOn, itself, by, WholeClosure}
-use Rattle.closure.specs.Laws.{below-64}
+use Rattle.closure.proofs.Meant.{below-64}
 use Rattle.combinators.specs.Bools.{both-left, both-right}
 use Rattle.combinators.specs.Those.{those-at, those-which, those-earlier}
 use Rattle.sets.specs.Sets.{has}
@@ -41,7 +41,7 @@ higher-first e d h l k = omega arith
 
 module _ (layers : Layers) (target closure : ℕ) (here : isLayer layers target ≡ true) (whole : WholeClosure layers target closure) where
   pub target-below : target < 64
-  target-below = Rattle.closure.specs.Reached.layer-below-64 layers target here
+  target-below = Rattle.closure.proofs.Reached.layer-below-64 layers target here
 
   pub rests-below : (layer : ℕ) → RestsOn layers target layer → layer < 64
   rests-below layer r = below-64 layers target here layer r

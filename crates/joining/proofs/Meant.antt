@@ -18,7 +18,7 @@ use Rattle.closure.specs.declared.Closure.{Closure}
 use Rattle.closure.specs.declared.Closure.the-variants.{Complete, Refused as NoClosure}
 use Rattle.closure.specs.Closures.{isLayer, closureOf}
 use Rattle.closure.specs.Meaning.{RestsOn, LowestMissing, no-such-layer, absent, Answers as ClosureAnswers}
-use Rattle.closure.specs.Laws.{meets as closure-meets, nothing-else as closure-nothing-else}
+use Rattle.closure.proofs.Meant.{closure-meant, closure-only}
 use Rattle.combinators.specs.Below.{seek-first}
 use Rattle.combinators.specs.Bools.{either-left, either-right}
 use Rattle.combinators.specs.Those.{length-those}
@@ -26,7 +26,7 @@ use Rattle.vocabulary.specs.declared.LayerIndex.{LayerIndex}
 use Rattle.vocabulary.specs.declared.refusal.Refusal.the-variants.{LoopTooLong, DoesNotFit, RepeatedPid, WrongLength, SecondRecord, TypeNotAllowed, WrongFlags, RepeatedLayerIndex, WrongEmbeddedIndex, TooManyEmbedded, NotVideoHeader, NoPts, FieldsDoNotFit, WrongMarker, PtsBeforeDts, TooWide, NoSuchLayer, EmbeddedLayerAbsent, OutOfRange, TimeOrderBroken, Unpaired, UsedTwice, NoRoom}
 use Rattle.joining.specs.declared.answer.Joined.{Joined}
 use Rattle.joining.specs.declared.answer.Joined.the-variants.{Units, Refused}
-use Rattle.rows.specs.Table.{Table, rowsIn, layerOf, decodingOf, matchOf, wrongShape, outOfRange, firstOutOfRange, breaksOrder, firstBroken}
+use Rattle.rows.specs.Table.{Table, rowsIn, layerOf, decodingOf, matchOf, wrongShape, outOfRange, firstOutOfRange, breaksOrder, firstBroken, mostRows}
 use Rattle.assembling.specs.Assemblies.{membersOf}
 use Rattle.joining.specs.Units.{Frame, isTarget, unpaired, shares, firstUnpaired, firstShared, frameOf}
 use Rattle.joining.specs.Orderly.{Closed, Orderly}
@@ -48,20 +48,20 @@ module _ (t : Table) where
   shape-means e = go (eqb (length (t .decodings)) (rowsIn t)) refl (eqb (length (t .matches)) (rowsIn t)) refl e
     where
       go : (d : Bool) → eqb (length (t .decodings)) (rowsIn t) ≡ d → (m : Bool) → eqb (length (t .matches)) (rowsIn t) ≡ m
-          → (not d || (not m || ltb 512 (rowsIn t))) ≡ true → WrongShape t
+          → (not d || (not m || ltb mostRows (rowsIn t))) ≡ true → WrongShape t
       go false p m q e = unequal-decodings (eqb-false (length (t .decodings)) (rowsIn t) p)
       go true p false q e = unequal-matches (eqb-false (length (t .matches)) (rowsIn t) q)
-      go true p true q e = too-many-rows (ltb-true 512 (rowsIn t) e)
+      go true p true q e = too-many-rows (ltb-true mostRows (rowsIn t) e)
 
   means-shape : WrongShape t → wrongShape t ≡ true
   means-shape (unequal-decodings n) =
-      ap (λ (b : Bool). not b || (not (eqb (length (t .matches)) (rowsIn t)) || ltb 512 (rowsIn t))) (ne-eqb (length (t .decodings)) (rowsIn t) n)
+      ap (λ (b : Bool). not b || (not (eqb (length (t .matches)) (rowsIn t)) || ltb mostRows (rowsIn t))) (ne-eqb (length (t .decodings)) (rowsIn t) n)
   means-shape (unequal-matches n) =
-      either-right (not (eqb (length (t .decodings)) (rowsIn t))) (not (eqb (length (t .matches)) (rowsIn t)) || ltb 512 (rowsIn t))
-      (ap (λ (b : Bool). not b || ltb 512 (rowsIn t)) (ne-eqb (length (t .matches)) (rowsIn t) n))
+      either-right (not (eqb (length (t .decodings)) (rowsIn t))) (not (eqb (length (t .matches)) (rowsIn t)) || ltb mostRows (rowsIn t))
+      (ap (λ (b : Bool). not b || ltb mostRows (rowsIn t)) (ne-eqb (length (t .matches)) (rowsIn t) n))
   means-shape (too-many-rows h) =
-      either-right (not (eqb (length (t .decodings)) (rowsIn t))) (not (eqb (length (t .matches)) (rowsIn t)) || ltb 512 (rowsIn t))
-      (either-right (not (eqb (length (t .matches)) (rowsIn t))) (ltb 512 (rowsIn t)) (lt-ltb 512 (rowsIn t) h))
+      either-right (not (eqb (length (t .decodings)) (rowsIn t))) (not (eqb (length (t .matches)) (rowsIn t)) || ltb mostRows (rowsIn t))
+      (either-right (not (eqb (length (t .matches)) (rowsIn t))) (ltb mostRows (rowsIn t)) (lt-ltb mostRows (rowsIn t) h))
 
   right-shape : (WrongShape t → ⊥) → wrongShape t ≡ false
   right-shape n = go (wrongShape t) refl
@@ -402,10 +402,10 @@ module _ (layers : Layers) (target : ℕ) (t : Table) (numbers : List ℕ) (lags
       go : (c : Closure) → closureOf layers target ≡ c → Right answerOf
       go (Complete closure) e =
           subst Right (sym (ap (joinedIn layers target t (length numbers) (length lags)) e))
-          (over-right closure (subst (ClosureAnswers layers target) e (closure-meets layers target)) (closed layers target closure e))
+          (over-right closure (subst (ClosureAnswers layers target) e (closure-meant layers target)) (closed layers target closure e))
       go (NoClosure refusal) e =
           subst Right (sym (ap (joinedIn layers target t (length numbers) (length lags)) e))
-          (no-closure (subst (ClosureAnswers layers target) e (closure-meets layers target)))
+          (no-closure (subst (ClosureAnswers layers target) e (closure-meant layers target)))
 
   -- and nothing else is.
   pub record Computed (answer : Joined) (numbers₂ : List ℕ) (lags₂ : List ℤ) : Type 0 where
@@ -417,12 +417,12 @@ module _ (layers : Layers) (target : ℕ) (t : Table) (numbers : List ℕ) (lags
       → Computed answer numbers₂ lags₂
   joined-only (no-closure c) =
       record {
-        is-answer = ap (joinedIn layers target t (length numbers) (length lags)) (closure-nothing-else layers target c);
+        is-answer = ap (joinedIn layers target t (length numbers) (length lags)) (closure-only layers target c);
         is-numbers = refl;
         is-lags = refl;
       }
   joined-only (over-closure {closure = closure} {answer = answer} c a) =
-      let found = closure-nothing-else layers target c in
+      let found = closure-only layers target c in
       let only = table-only layers target closure (closed layers target closure (sym found)) t numbers lags a in
       record {
         is-answer = only .is-answer ∙ ap (joinedIn layers target t (length numbers) (length lags)) found;
@@ -572,4 +572,4 @@ module _ (layers : Layers) (target : ℕ) (t : Table) (numbers : List ℕ) (lags
       → (layer : ℕ) → RestsOn layers target layer → choice layer ≡ other layer
   at-most-one-assembly closure c o =
       one-assembly layers target closure t
-      (orderly-of layers target closure t (closed layers target closure (sym (closure-nothing-else layers target c))) o)
+      (orderly-of layers target closure t (closed layers target closure (sym (closure-only layers target c))) o)

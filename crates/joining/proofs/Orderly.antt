@@ -11,7 +11,7 @@ use Rattle.closure.specs.declared.Closure.{Closure}
 use Rattle.closure.specs.declared.Closure.the-variants.{Complete}
 use Rattle.closure.specs.Closures.{closureOf}
 use Rattle.closure.specs.Meaning.{by, WholeClosure, Answers, no-such-layer, absent, complete}
-use Rattle.closure.specs.Laws.{meets}
+use Rattle.closure.proofs.Meant.{closure-meant}
 use Rattle.sets.specs.Sets.{has}
 use Rattle.rows.specs.Table.{Table, rowsIn}
 use Rattle.assembling.specs.Index.{Starts, Order, Rising, Ready}
@@ -21,7 +21,7 @@ use Rattle.joining.proofs.Frames.{edge-names}
 use Rattle.joining.proofs.Ordering.{farther}
 
 pub closed : (layers : Layers) (target closure : ℕ) → closureOf layers target ≡ Complete closure → Closed layers target closure
-closed layers target closure e = go (meets layers target) e
+closed layers target closure e = go (closure-meant layers target) e
   where
     go : {answer : Closure} → Answers layers target answer → answer ≡ Complete closure → Closed layers target closure
     go (no-such-layer h) p = let z : _≡_ {A = ℕ} 0 1 = cc in absurd (omega arith)

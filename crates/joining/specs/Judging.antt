@@ -7,7 +7,7 @@ use mathlib.Core.Path.{_≡_}
 use lib.ListN.{length, getD, set}
 use Rattle.combinators.specs.Members.{member}
 use Rattle.joining.specs.declared.units.Judged.{Judged}
-use Rattle.rows.specs.Table.{Table, rowsIn}
+use Rattle.rows.specs.Table.{Table, rowsIn, mostRows}
 use Rattle.joining.specs.Units.{Frame, assemblyOf, rowsBelow, firstUnpaired, firstShared, unitsIn}
 
 -- a row number for each member, below a bound
@@ -29,8 +29,8 @@ marked (row ∷ rows) marks = marked rows (set marks row true)
 
 -- marks that stand at the members of a list and nowhere else
 pub record MarkedAt (rows : List ℕ) (marks : List Bool) : Type 0 where
-  pub long : length marks ≡ 512
-  pub at : (k : ℕ) → k < 512 → getD marks k false ≡ member k rows
+  pub long : length marks ≡ mostRows
+  pub at : (k : ℕ) → k < mostRows → getD marks k false ≡ member k rows
 
 -- The answer: the first target row with no assembly; and where there is none, the first that shares a row with an earlier one, how many
 -- target rows there are, and which rows stand in their units.

@@ -16,7 +16,7 @@ use Rattle.vocabulary.specs.declared.refusal.Refusal.{Refusal}
 use Rattle.vocabulary.specs.declared.refusal.Refusal.the-variants.{OutOfRange, TimeOrderBroken, Unpaired, UsedTwice, NoRoom}
 use Rattle.joining.specs.declared.answer.Joined.{Joined}
 use Rattle.joining.specs.declared.answer.Joined.the-variants.{Units, Refused}
-use Rattle.rows.specs.Table.{Table, rowsIn, layerOf, decodingOf, matchOf}
+use Rattle.rows.specs.Table.{Table, rowsIn, layerOf, decodingOf, matchOf, mostRows}
 use Rattle.combinators.specs.Ascending.{Ascending}
 
 -- the earliest row of the table of which something holds; and that it holds of no row
@@ -34,7 +34,7 @@ NoRow t P = (k : ℕ) → k < rowsIn t → P k → ⊥
 pub data WrongShape (t : Table) : Type 0 where
   unequal-decodings : (length (t .decodings) ≡ rowsIn t → ⊥) → WrongShape t
   unequal-matches : (length (t .matches) ≡ rowsIn t → ⊥) → WrongShape t
-  too-many-rows : 512 < rowsIn t → WrongShape t
+  too-many-rows : mostRows < rowsIn t → WrongShape t
 
 -- 'or a row out of range': 'A row is out of range when its index is above 63 or either time is 2^33 or more.'
 pub data RowOutOfRange (t : Table) (k : ℕ) : Type 0 where

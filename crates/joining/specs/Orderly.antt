@@ -7,7 +7,7 @@ use lib.ListN.{length}
 use Rattle.closure.specs.declared.Layers.{Layers}
 use Rattle.closure.specs.Closures.{isLayer}
 use Rattle.closure.specs.Meaning.{WholeClosure}
-use Rattle.rows.specs.Table.{Table, rowsIn, breaksOrder}
+use Rattle.rows.specs.Table.{Table, rowsIn, breaksOrder, mostRows}
 use Rattle.assembling.specs.Index.{Within}
 
 -- the target is a layer of the loop, and the set its whole closure
@@ -19,6 +19,6 @@ pub record Orderly (layers : Layers) (target closure : ℕ) (t : Table) : Type 0
   pub closed-over : Closed layers target closure
   pub decoded : length (t .decodings) ≡ rowsIn t
   pub matched : length (t .matches) ≡ rowsIn t
-  pub short : rowsIn t ≤ 512
+  pub short : rowsIn t ≤ mostRows
   pub within : Within (t .indices)
   pub unbroken : (k : ℕ) → k < rowsIn t → breaksOrder t closure k ≡ false

@@ -3,7 +3,7 @@ ghost use mathlib.Core.Path.{_≡_};
 ghost use Prim.Native.Nat.{_≤_};
 ghost use lib.ListN.{length};
 ghost use Rattle.combinators.specs.Below.{count};
-ghost use Rattle.rows.specs.Table.{table};
+ghost use Rattle.rows.specs.Table.{table, mostRows};
 ghost use Rattle.assembling.specs.Index.{Ready};
 ghost use Rattle.joining.specs.Units.{frame, frameOf};
 ghost use Rattle.joining.specs.Judging.{Whole};
@@ -17,6 +17,7 @@ use assembling::order_of;
 use assembling::starts_of;
 use closure::Closure;
 use closure::Layers;
+use rows::MOST_ROWS;
 use rows::Verdict;
 use vocabulary::Refusal;
 
@@ -32,8 +33,8 @@ pub enum Joined {
 }
 
 // How many rows of closure layers bear no mark.
-fn count_left_out(closure: u64, indices: &[u8], used: &[bool; 512]) -> usize
-    requires { ⌜ length (now indices) ≤ 512 ⌝ }
+fn count_left_out(closure: u64, indices: &[u8], used: &[bool; MOST_ROWS]) -> usize
+    requires { ⌜ length (now indices) ≤ mostRows ⌝ }
     ensures { λ r. ⌜ r ≡ count (isSpare closure (now (indices .entry)) (now (used .entry))) (length (now (indices .entry))) ⌝ }
 {
     let mut left = 0;
@@ -54,17 +55,25 @@ fn join_framed(
     decodings: &[u64],
     matches: &[u64],
     starts: &[usize; 65],
-    order: &[usize; 512],
+    order: &[usize; MOST_ROWS],
     edges: &[u16],
     members: &[u8],
     target: usize,
     numbers: &mut [u64],
     lags: &mut [i64],
 ) -> Joined
-    requires { ⌜ Ready (table (now indices) (now decodings) (now matches)) (now starts) (now order) (now edges) × Whole (table (now indices) (now decodings) (now matches)) (frame target (now members) (now edges)) × (length (now members) ≤ 64) ⌝ }
-    ensures answer { λ r. ⌜ r ≡ unitsJoined (table (now (indices .entry)) (now (decodings .entry)) (now (matches .entry))) closure (frame target (now (members .entry)) (now (edges .entry))) (length (now (numbers .entry))) (length (now (lags .entry))) ⌝ }
-    ensures content { λ r. ⌜ now (numbers .exit) ≡ framedNumbers (table (now (indices .entry)) (now (decodings .entry)) (now (matches .entry))) (frame target (now (members .entry)) (now (edges .entry))) r (now (numbers .entry)) ⌝ }
-    ensures beside { λ r. ⌜ now (lags .exit) ≡ framedLags (table (now (indices .entry)) (now (decodings .entry)) (now (matches .entry))) (frame target (now (members .entry)) (now (edges .entry))) r (now (lags .entry)) ⌝ }
+    requires { ⌜ Ready (table (now indices) (now decodings) (now matches)) (now starts) (now order) (now edges)
+        × Whole (table (now indices) (now decodings) (now matches)) (frame target (now members) (now edges))
+        × (length (now members) ≤ 64) ⌝ }
+    ensures answer { λ r. ⌜ r
+        ≡ unitsJoined (table (now (indices .entry)) (now (decodings .entry)) (now (matches .entry))) closure
+        (frame target (now (members .entry)) (now (edges .entry))) (length (now (numbers .entry))) (length (now (lags .entry))) ⌝ }
+    ensures content { λ r. ⌜ now (numbers .exit)
+        ≡ framedNumbers (table (now (indices .entry)) (now (decodings .entry)) (now (matches .entry)))
+        (frame target (now (members .entry)) (now (edges .entry))) r (now (numbers .entry)) ⌝ }
+    ensures beside { λ r. ⌜ now (lags .exit)
+        ≡ framedLags (table (now (indices .entry)) (now (decodings .entry)) (now (matches .entry)))
+        (frame target (now (members .entry)) (now (edges .entry))) r (now (lags .entry)) ⌝ }
 {
     let none = indices.len();
     let judged = judge(
@@ -122,9 +131,15 @@ fn join_ordered(
     lags: &mut [i64],
 ) -> Joined
     requires { ⌜ Orderly layers target closure (table (now indices) (now decodings) (now matches)) ⌝ }
-    ensures answer { λ r. ⌜ r ≡ unitsJoined (table (now (indices .entry)) (now (decodings .entry)) (now (matches .entry))) closure (frameOf layers closure target) (length (now (numbers .entry))) (length (now (lags .entry))) ⌝ }
-    ensures content { λ r. ⌜ now (numbers .exit) ≡ framedNumbers (table (now (indices .entry)) (now (decodings .entry)) (now (matches .entry))) (frameOf layers closure target) r (now (numbers .entry)) ⌝ }
-    ensures beside { λ r. ⌜ now (lags .exit) ≡ framedLags (table (now (indices .entry)) (now (decodings .entry)) (now (matches .entry))) (frameOf layers closure target) r (now (lags .entry)) ⌝ }
+    ensures answer { λ r. ⌜ r
+        ≡ unitsJoined (table (now (indices .entry)) (now (decodings .entry)) (now (matches .entry))) closure (frameOf layers closure target)
+        (length (now (numbers .entry))) (length (now (lags .entry))) ⌝ }
+    ensures content { λ r. ⌜ now (numbers .exit)
+        ≡ framedNumbers (table (now (indices .entry)) (now (decodings .entry)) (now (matches .entry))) (frameOf layers closure target) r
+        (now (numbers .entry)) ⌝ }
+    ensures beside { λ r. ⌜ now (lags .exit)
+        ≡ framedLags (table (now (indices .entry)) (now (decodings .entry)) (now (matches .entry))) (frameOf layers closure target) r
+        (now (lags .entry)) ⌝ }
 {
     let starts = starts_of(indices);
     let order = order_of(indices, starts);
@@ -162,9 +177,15 @@ pub fn join_table(
     lags: &mut [i64],
 ) -> Joined
     requires { ⌜ Closed layers target closure ⌝ }
-    ensures answer { λ r. ⌜ r ≡ tableJoined layers target (table (now (indices .entry)) (now (decodings .entry)) (now (matches .entry))) closure (length (now (numbers .entry))) (length (now (lags .entry))) ⌝ }
-    ensures content { λ r. ⌜ now (numbers .exit) ≡ framedNumbers (table (now (indices .entry)) (now (decodings .entry)) (now (matches .entry))) (frameOf layers closure target) r (now (numbers .entry)) ⌝ }
-    ensures beside { λ r. ⌜ now (lags .exit) ≡ framedLags (table (now (indices .entry)) (now (decodings .entry)) (now (matches .entry))) (frameOf layers closure target) r (now (lags .entry)) ⌝ }
+    ensures answer { λ r. ⌜ r
+        ≡ tableJoined layers target (table (now (indices .entry)) (now (decodings .entry)) (now (matches .entry))) closure
+        (length (now (numbers .entry))) (length (now (lags .entry))) ⌝ }
+    ensures content { λ r. ⌜ now (numbers .exit)
+        ≡ framedNumbers (table (now (indices .entry)) (now (decodings .entry)) (now (matches .entry))) (frameOf layers closure target) r
+        (now (numbers .entry)) ⌝ }
+    ensures beside { λ r. ⌜ now (lags .exit)
+        ≡ framedLags (table (now (indices .entry)) (now (decodings .entry)) (now (matches .entry))) (frameOf layers closure target) r
+        (now (lags .entry)) ⌝ }
 {
     let verdict = rows::judge(closure, indices, decodings, matches);
     match verdict {
@@ -194,9 +215,13 @@ pub fn join(
     numbers: &mut [u64],
     lags: &mut [i64],
 ) -> Joined
-    ensures answer { λ r. ⌜ r ≡ joinedOf layers target (table (now (indices .entry)) (now (decodings .entry)) (now (matches .entry))) (length (now (numbers .entry))) (length (now (lags .entry))) ⌝ }
-    ensures content { λ r. ⌜ now (numbers .exit) ≡ numbersAfter layers target (table (now (indices .entry)) (now (decodings .entry)) (now (matches .entry))) r (now (numbers .entry)) ⌝ }
-    ensures beside { λ r. ⌜ now (lags .exit) ≡ lagsAfter layers target (table (now (indices .entry)) (now (decodings .entry)) (now (matches .entry))) r (now (lags .entry)) ⌝ }
+    ensures answer { λ r. ⌜ r
+        ≡ joinedOf layers target (table (now (indices .entry)) (now (decodings .entry)) (now (matches .entry))) (length (now (numbers .entry)))
+        (length (now (lags .entry))) ⌝ }
+    ensures content { λ r. ⌜ now (numbers .exit)
+        ≡ numbersAfter layers target (table (now (indices .entry)) (now (decodings .entry)) (now (matches .entry))) r (now (numbers .entry)) ⌝ }
+    ensures beside { λ r. ⌜ now (lags .exit)
+        ≡ lagsAfter layers target (table (now (indices .entry)) (now (decodings .entry)) (now (matches .entry))) r (now (lags .entry)) ⌝ }
 {
     let found = closure::closure_of(layers, target);
     match found {

@@ -4,11 +4,12 @@ ghost use mathlib.Core.Path.{_≡_};
 ghost use Prim.Native.Nat.{_≤_, _<_};
 ghost use lib.ListN.{length, getD, replicate};
 ghost use Rattle.combinators.specs.Lists.{any};
-ghost use Rattle.rows.specs.Table.{table};
+ghost use Rattle.rows.specs.Table.{table, mostRows};
 ghost use Rattle.assembling.specs.Index.{Ready};
 ghost use Rattle.joining.specs.Units.{frame, unitFrom, firstSharing};
 ghost use Rattle.joining.specs.Judging.{Placed, Whole, marked, Judges};
 use assembling::assemble;
+use rows::MOST_ROWS;
 
 // What was found of the target rows: the first with no assembly and the first that shares a row, each the number of rows where there is
 // none, how many there are, and a mark for each row that stands in a unit.
@@ -16,12 +17,12 @@ pub struct Judged {
     pub unpaired: usize,
     pub shared: usize,
     pub units: usize,
-    pub used: [bool; 512],
+    pub used: [bool; MOST_ROWS],
 }
 
 // Whether a row of the unit is marked as used.
-fn any_used(rows: &[usize; 64], members: &[u8], used: &[bool; 512]) -> bool
-    requires { ⌜ Placed (now members) (now rows) 512 ⌝ }
+fn any_used(rows: &[usize; 64], members: &[u8], used: &[bool; MOST_ROWS]) -> bool
+    requires { ⌜ Placed (now members) (now rows) mostRows ⌝ }
     ensures { λ r. ⌜ r ≡ any (λ row. getD (now (used .entry)) row false) (unitFrom (now (members .entry)) (now (rows .entry))) ⌝ }
 {
     let mut at = 0;
@@ -36,8 +37,8 @@ fn any_used(rows: &[usize; 64], members: &[u8], used: &[bool; 512]) -> bool
 }
 
 // Marks each row of the unit as used.
-fn mark(rows: &[usize; 64], members: &[u8], used: &mut [bool; 512])
-    requires { ⌜ Placed (now members) (now rows) 512 ⌝ }
+fn mark(rows: &[usize; 64], members: &[u8], used: &mut [bool; MOST_ROWS])
+    requires { ⌜ Placed (now members) (now rows) mostRows ⌝ }
     ensures { λ _. ⌜ now (used .exit) ≡ marked (unitFrom (now (members .entry)) (now (rows .entry))) (now (used .entry)) ⌝ }
 {
     let mut at = 0;
@@ -50,8 +51,8 @@ fn mark(rows: &[usize; 64], members: &[u8], used: &mut [bool; 512])
 }
 
 // Marks each row of the unit as used, and answers whether one of them was marked before.
-fn claim(rows: &[usize; 64], members: &[u8], used: &mut [bool; 512]) -> bool
-    requires { ⌜ Placed (now members) (now rows) 512 ⌝ }
+fn claim(rows: &[usize; 64], members: &[u8], used: &mut [bool; MOST_ROWS]) -> bool
+    requires { ⌜ Placed (now members) (now rows) mostRows ⌝ }
     ensures shared { λ r. ⌜ r ≡ any (λ row. getD (now (used .entry)) row false) (unitFrom (now (members .entry)) (now (rows .entry))) ⌝ }
     ensures marks { λ _. ⌜ now (used .exit) ≡ marked (unitFrom (now (members .entry)) (now (rows .entry))) (now (used .entry)) ⌝ }
 {
@@ -78,18 +79,20 @@ pub fn judge(
     decodings: &[u64],
     matches: &[u64],
     starts: &[usize; 65],
-    order: &[usize; 512],
+    order: &[usize; MOST_ROWS],
     edges: &[u16],
     members: &[u8],
     target: usize,
 ) -> Judged
-    requires { ⌜ Ready (table (now indices) (now decodings) (now matches)) (now starts) (now order) (now edges) × Whole (table (now indices) (now decodings) (now matches)) (frame target (now members) (now edges)) ⌝ }
-    ensures { λ r. ⌜ Judges (table (now (indices .entry)) (now (decodings .entry)) (now (matches .entry))) (frame target (now (members .entry)) (now (edges .entry))) r ⌝ }
+    requires { ⌜ Ready (table (now indices) (now decodings) (now matches)) (now starts) (now order) (now edges)
+        × Whole (table (now indices) (now decodings) (now matches)) (frame target (now members) (now edges)) ⌝ }
+    ensures { λ r. ⌜ Judges (table (now (indices .entry)) (now (decodings .entry)) (now (matches .entry)))
+        (frame target (now (members .entry)) (now (edges .entry))) r ⌝ }
 {
     let none = indices.len();
     let mut next = [0usize; 64];
     let mut rows = [none; 64];
-    let mut used = [false; 512];
+    let mut used = [false; MOST_ROWS];
     let mut shared = none;
     let mut units = 0;
     let mut row = 0;

@@ -10,6 +10,7 @@ ghost use Rattle.joining.specs.Units.{frame, unitFrom, lagsFrom, rowsBel
 ghost use Rattle.joining.specs.Judging.{Placed};
 ghost use Rattle.joining.specs.Writing.{Writable};
 use assembling::assemble;
+use rows::MOST_ROWS;
 
 // Writes the rows of one unit, and the lag of each, from place `at` on.
 fn write_unit(
@@ -21,9 +22,12 @@ fn write_unit(
     numbers: &mut [u64],
     lags: &mut [i64],
 )
-    requires { ⌜ Placed (now members) (now rows) (length (now decodings)) × (at + length (now members) ≤ length (now numbers)) × (at + length (now members) ≤ length (now lags)) ⌝ }
+    requires { ⌜ Placed (now members) (now rows) (length (now decodings))
+        × (at + length (now members) ≤ length (now numbers))
+        × (at + length (now members) ≤ length (now lags)) ⌝ }
     ensures content { λ _. ⌜ now (numbers .exit) ≡ sets (now (numbers .entry)) at (unitFrom (now (members .entry)) (now (rows .entry))) ⌝ }
-    ensures beside { λ _. ⌜ now (lags .exit) ≡ sets (now (lags .entry)) at (lagsFrom (table [] (now (decodings .entry)) []) time (unitFrom (now (members .entry)) (now (rows .entry)))) ⌝ }
+    ensures beside { λ _. ⌜ now (lags .exit)
+        ≡ sets (now (lags .entry)) at (lagsFrom (table [] (now (decodings .entry)) []) time (unitFrom (now (members .entry)) (now (rows .entry)))) ⌝ }
 {
     let mut next = 0;
     while next < members.len() {
@@ -41,16 +45,21 @@ pub fn write_units(
     decodings: &[u64],
     matches: &[u64],
     starts: &[usize; 65],
-    order: &[usize; 512],
+    order: &[usize; MOST_ROWS],
     edges: &[u16],
     members: &[u8],
     target: usize,
     numbers: &mut [u64],
     lags: &mut [i64],
 )
-    requires { ⌜ Ready (table (now indices) (now decodings) (now matches)) (now starts) (now order) (now edges) × Writable (table (now indices) (now decodings) (now matches)) (frame target (now members) (now edges)) (now numbers) (now lags) ⌝ }
-    ensures content { λ _. ⌜ now (numbers .exit) ≡ sets (now (numbers .entry)) 0 (rowsBelow (table (now (indices .entry)) (now (decodings .entry)) (now (matches .entry))) (frame target (now (members .entry)) (now (edges .entry))) (length (now (indices .entry)))) ⌝ }
-    ensures beside { λ _. ⌜ now (lags .exit) ≡ sets (now (lags .entry)) 0 (lagsBelow (table (now (indices .entry)) (now (decodings .entry)) (now (matches .entry))) (frame target (now (members .entry)) (now (edges .entry))) (length (now (indices .entry)))) ⌝ }
+    requires { ⌜ Ready (table (now indices) (now decodings) (now matches)) (now starts) (now order) (now edges)
+        × Writable (table (now indices) (now decodings) (now matches)) (frame target (now members) (now edges)) (now numbers) (now lags) ⌝ }
+    ensures content { λ _. ⌜ now (numbers .exit)
+        ≡ sets (now (numbers .entry)) 0
+        (rowsBelow (table (now (indices .entry)) (now (decodings .entry)) (now (matches .entry))) (frame target (now (members .entry)) (now (edges .entry))) (length (now (indices .entry)))) ⌝ }
+    ensures beside { λ _. ⌜ now (lags .exit)
+        ≡ sets (now (lags .entry)) 0
+        (lagsBelow (table (now (indices .entry)) (now (decodings .entry)) (now (matches .entry))) (frame target (now (members .entry)) (now (edges .entry))) (length (now (indices .entry)))) ⌝ }
 {
     let mut next = [0usize; 64];
     let mut rows = [0usize; 64];

@@ -13,7 +13,7 @@ use Rattle.combinators.specs.Bools.{neither-left}
 use Rattle.combinators.specs.Below.{none-at}
 use Rattle.combinators.specs.Members.{member}
 use Rattle.sets.specs.Sets.{has, added}
-use Rattle.sets.specs.Laws.{has-none, has-added, added-within, same-members-within}
+use Rattle.sets.proofs.Laws.{has-none, has-added, added-within, same-members-within}
 use Rattle.vocabulary.specs.declared.LayerIndex.{LayerIndex}
 use Rattle.descriptors.specs.declared.«record».Record.{Record}
 use Rattle.descriptors.specs.Records.{indexOf, named, withIndices, namesOf}

@@ -12,7 +12,7 @@ use lib.Seq.{ext-getD, take-at}
 use Rattle.combinators.specs.Bools.{either-right, same-test, both-ways}
 use Rattle.combinators.specs.Members.{member, nth-member, member-nth}
 use Rattle.sets.specs.Sets.{has}
-use Rattle.sets.specs.Laws.{has-none, has-within, same-members}
+use Rattle.sets.proofs.Laws.{has-none, has-within, same-members}
 use Rattle.vocabulary.specs.declared.stream_types.Reading.{Reading}
 use Rattle.vocabulary.specs.declared.refusal.Refusal.{Refusal}
 use Rattle.descriptors.specs.Records.{named, channelOf}
@@ -29,7 +29,7 @@ use Rattle.es_loop.proofs.Meant.{answer-meant, answer-only}
 use Rattle.closure.specs.declared.Layers.{Layers}
 use Rattle.closure.specs.declared.Closure.{Closure}
 use Rattle.closure.specs.Closures.{closureOf}
-use Rattle.closure.specs.Laws.{meets, nothing-else}
+use Rattle.closure.proofs.Meant.{closure-meant, closure-only}
 use Rattle.loop_layers.specs.declared.LayerTable.{LayerTable}
 use Rattle.loop_layers.specs.Layers.{placeOf, presentIn, columnOf, embeddedIn, layersOf, tableOf}
 use Rattle.loop_layers.specs.Closures.{entriesRead, closureIn, loopClosure}
@@ -143,13 +143,13 @@ module _ (reading : Reading) (bytes : List ℕ) (target : ℕ) where
       go read a (is-accepted streams e) =
           subst (λ (r : LoopRead). Answers reading bytes target (closureIn r target)) (sym e)
           (subst (λ (l : List Entry). Answers reading bytes target (closureOf (layersOf l) target)) (sym (entries-read streams))
-          (loop-accepted streams (subst (Loop.Answers reading bytes) e a) (layers-meant (map entryOf streams)) (meets (layersOf (map entryOf streams)) target)))
+          (loop-accepted streams (subst (Loop.Answers reading bytes) e a) (layers-meant (map entryOf streams)) (closure-meant (layersOf (map entryOf streams)) target)))
 
   -- and nothing else is.
   pub loop-answer-only : {answer : Closure} → Answers reading bytes target answer → answer ≡ loopClosure reading bytes target
   loop-answer-only (loop-refused a) = ap (λ (r : LoopRead). closureIn r target) (answer-only mostEmbedded reading bytes a)
   loop-answer-only (loop-accepted streams {layers} a m t) =
-      nothing-else layers target t
+      closure-only layers target t
       ∙ ap (λ (l : Layers). closureOf l target) (layers-only (map entryOf streams) m)
       ∙ ap (λ (l : List Entry). closureOf (layersOf l) target) (sym (entries-read streams))
       ∙ ap (λ (r : LoopRead). closureIn r target) (answer-only mostEmbedded reading bytes a)

@@ -26,7 +26,7 @@ use Rattle.closure.specs.Closures.{closureOf}
 use Rattle.closure.proofs.closure_of.Kinds as closure-of-kinds
 use Rattle.closure.proofs.closure_of.Reads as closure-of
 use Rattle.closure.specs.Meaning as Target
-use Rattle.closure.specs.Laws as target
+use Rattle.closure.proofs.Meant as target
 use Rattle.loop_layers.specs.Closures.{loopClosure}
 use Rattle.loop_layers.proofs.closure_of_loop.Kinds as closure-of-loop-kinds
 use Rattle.loop_layers.proofs.closure_of_loop.Reads as closure-of-loop
@@ -142,9 +142,9 @@ closureComputed =
     record {
       asks-nothing = λ run. tt;
       ensured = λ run e. (e, refl);
-      right = λ given. target.meets (given .layers) (given .target);
-      nothing-else = λ given means. (target.nothing-else (given .layers) (given .target) means, refl);
-      listed = λ given. target-listed (target.meets (given .layers) (given .target));
+      right = λ given. target.closure-meant (given .layers) (given .target);
+      nothing-else = λ given means. (target.closure-only (given .layers) (given .target) means, refl);
+      listed = λ given. target-listed (target.closure-meant (given .layers) (given .target));
       untouched = λ given number e. refl;
     }
 

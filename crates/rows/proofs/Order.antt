@@ -15,7 +15,7 @@ use lib.Seq.{getD-set-same, getD-set-other}
 use Rattle.clock.specs.Clock.{half, distanceOf}
 use Rattle.combinators.specs.Below.{none-at, seek-here, seek-end}
 use Rattle.sets.specs.Sets.{has}
-use Rattle.sets.specs.Laws.{has-within}
+use Rattle.sets.proofs.Laws.{has-within}
 use Rattle.rows.specs.Table.{Table, rowsIn, layerOf, decodingOf, firstRow, firstTime, ahead, passed, breaksOrder, firstBroken}
 
 -- What is known after k rows, none of which breaks the order: `least` of a closure layer is past every distance of its rows, and not

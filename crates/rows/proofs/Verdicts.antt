@@ -10,7 +10,7 @@ use lib.ListN.{length}
 use Rattle.combinators.specs.Bools.{neither-left, neither-right}
 use Rattle.rows.specs.declared.Verdict.{Verdict}
 use Rattle.rows.specs.declared.Verdict.the-variants.{InOrder, OutOfRange, OrderBroken}
-use Rattle.rows.specs.Table.{Table, rowsIn, wrongShape, firstOutOfRange, firstBroken}
+use Rattle.rows.specs.Table.{Table, rowsIn, wrongShape, firstOutOfRange, firstBroken, mostRows}
 use Rattle.rows.specs.Verdicts.{verdictOf}
 
 -- ---- which tests lead to each verdict
@@ -56,22 +56,22 @@ module _ (t : Table) (closure : ℕ) where
 
 -- what a right shape means
 module _ (t : Table) (shape : wrongShape t ≡ false) where
-  shape-rest : (not (eqb (length (t .matches)) (rowsIn t)) || ltb 512 (rowsIn t)) ≡ false
+  shape-rest : (not (eqb (length (t .matches)) (rowsIn t)) || ltb mostRows (rowsIn t)) ≡ false
   shape-rest =
-      neither-right (not (eqb (length (t .decodings)) (rowsIn t))) (not (eqb (length (t .matches)) (rowsIn t)) || ltb 512 (rowsIn t)) shape
+      neither-right (not (eqb (length (t .decodings)) (rowsIn t))) (not (eqb (length (t .matches)) (rowsIn t)) || ltb mostRows (rowsIn t)) shape
 
   pub shape-decoded : length (t .decodings) ≡ rowsIn t
   shape-decoded =
       eqb-true (length (t .decodings)) (rowsIn t) (not-false (eqb (length (t .decodings)) (rowsIn t))
-      (neither-left (not (eqb (length (t .decodings)) (rowsIn t))) (not (eqb (length (t .matches)) (rowsIn t)) || ltb 512 (rowsIn t)) shape))
+      (neither-left (not (eqb (length (t .decodings)) (rowsIn t))) (not (eqb (length (t .matches)) (rowsIn t)) || ltb mostRows (rowsIn t)) shape))
 
   pub shape-matched : length (t .matches) ≡ rowsIn t
   shape-matched =
       eqb-true (length (t .matches)) (rowsIn t) (not-false (eqb (length (t .matches)) (rowsIn t))
-      (neither-left (not (eqb (length (t .matches)) (rowsIn t))) (ltb 512 (rowsIn t)) shape-rest))
+      (neither-left (not (eqb (length (t .matches)) (rowsIn t))) (ltb mostRows (rowsIn t)) shape-rest))
 
-  pub shape-short : rowsIn t ≤ 512
-  shape-short = ltb-false 512 (rowsIn t) (neither-right (not (eqb (length (t .matches)) (rowsIn t))) (ltb 512 (rowsIn t)) shape-rest)
+  pub shape-short : rowsIn t ≤ mostRows
+  shape-short = ltb-false mostRows (rowsIn t) (neither-right (not (eqb (length (t .matches)) (rowsIn t))) (ltb mostRows (rowsIn t)) shape-rest)
 
 pub record Sound (t : Table) (closure : ℕ) : Type 0 where
   pub shape : wrongShape t ≡ false

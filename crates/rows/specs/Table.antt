@@ -31,10 +31,14 @@ decodingOf t k = getD (t .decodings) k 0
 abbrev pub matchOf : Table → ℕ → ℕ
 matchOf t k = getD (t .matches) k 0
 
+-- the rows that a table may have
+abbrev pub mostRows : ℕ
+mostRows = 512
+
 -- 13: 'row columns of unequal length, more than 512 rows (place 0)'
 abbrev pub wrongShape : Table → Bool
 wrongShape t =
-    not (eqb (length (t .decodings)) (rowsIn t)) || (not (eqb (length (t .matches)) (rowsIn t)) || ltb 512 (rowsIn t))
+    not (eqb (length (t .decodings)) (rowsIn t)) || (not (eqb (length (t .matches)) (rowsIn t)) || ltb mostRows (rowsIn t))
 
 -- 'or a row out of range': 'A row is out of range when its index is above 63 or either time is 2^33 or more.'
 abbrev pub outside : ℕ → ℕ → ℕ → Bool

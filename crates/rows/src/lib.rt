@@ -7,6 +7,11 @@ ghost use Prim.Native.Nat.{_≤_};
 ghost use lib.ListN.{length};
 ghost use Rattle.rows.specs.Table.{table, wrongShape, outside, firstOutOfRange, firstTime, firstBroken};
 ghost use Rattle.rows.specs.Verdicts.{verdictOf};
+use clock::HALF;
+use clock::TICKS;
+
+// The rows that a table may have.
+pub const MOST_ROWS: usize = 512;
 
 // The verdict on a table: in range and in order, or the first row that is not. A table of the wrong shape is out of range at row 0.
 pub enum Verdict {
@@ -25,7 +30,7 @@ fn wrong_shape(indices: &[u8], decodings: &[u64], matches: &[u64]) -> bool
     if matches.len() != indices.len() {
         return true;
     }
-    512 < indices.len()
+    MOST_ROWS < indices.len()
 }
 
 // Whether an index is above 63 or one of the times is 2^33 or more.
@@ -35,10 +40,10 @@ fn out_of_range(index: u8, decoding: u64, matching: u64) -> bool
     if 63 < index {
         return true;
     }
-    if 8589934592 <= decoding {
+    if TICKS <= decoding {
         return true;
     }
-    8589934592 <= matching
+    TICKS <= matching
 }
 
 // The first row that is out of range, or the number of rows.
@@ -84,7 +89,7 @@ fn first_broken(closure: u64, indices: &[u8], decodings: &[u64]) -> usize
             if far < least[layer] {
                 return row;
             }
-            if 4294967296 <= far {
+            if HALF <= far {
                 return row;
             }
             firsts[layer] = first;

@@ -1,5 +1,5 @@
 -- A set of small numbers, such as layer indices, held in one number: i is a member when bit i is 1.
--- The membership, and what each function of this crate answers. What these mean is proved in Laws.
+-- The membership, and what each function of this crate answers. What these mean is proved in proofs/Laws.antt.
 -- Assumes nothing.
 use Prim.Native.Nat.{ℕ, _/_, _%_, _^_}
 use mathlib.Core.Bool.{Bool, cond}

@@ -1,5 +1,5 @@
 // Sets of numbers below 64, such as layer indices, each held in one u64: i is a member when bit i is 1.
-// specs/Sets.antt says what each function answers, specs/Laws.antt what that means.
+// specs/Sets.antt says what each function answers, proofs/Laws.antt what that means.
 ghost use mathlib.Core.Path.{_≡_};
 ghost use Rattle.sets.specs.Sets.{has, added, without as withoutOf, below as belowOf, lowest as lowestOf, size as sizeOf};
 

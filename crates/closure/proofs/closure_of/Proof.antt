@@ -5,7 +5,7 @@ use mathlib.Core.Path.{_≡_, sym, _∙_}
 use borrow.Author.Needs.{needs}
 use borrow.Author.Tests.{not-true, not-false}
 use Rattle.closure.specs.Closures.{isLayer}
-use Rattle.closure.specs.Scan.{is-layer, above-63, no-layer, none-missing, one-missing, empty-none-missing, some-missing, lowest-missing}
+use Rattle.closure.proofs.Scan.{is-layer, above-63, no-layer, none-missing, one-missing, empty-none-missing, some-missing, lowest-missing}
 use Rattle.closure.proofs.closure_of.Statement.{statement}
 use Rattle.closure.proofs.closure_of.Tie as tie
 

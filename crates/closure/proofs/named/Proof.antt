@@ -4,7 +4,7 @@ use mathlib.Core.Path.{sym, _∙_}
 use borrow.Author.Needs.{needs}
 use borrow.Author.Tests.{not-true, not-false}
 use Rattle.sets.specs.Sets.{has}
-use Rattle.closure.specs.Scan.{names-nothing, names-lower}
+use Rattle.closure.proofs.Scan.{names-nothing, names-lower}
 use Rattle.closure.proofs.named.Statement.{statement}
 use Rattle.closure.proofs.named.Tie as tie
 

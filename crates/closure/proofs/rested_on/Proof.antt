@@ -5,7 +5,7 @@ use mathlib.Core.Path.{_≡_, sym, _∙_}
 use native.Mathlib.Omega.{arith}
 use borrow.Author.Needs.{needs}
 use Rattle.closure.specs.Closures.{followedBelow, restedOn}
-use Rattle.closure.specs.Scan.{start, end, at-member, at-other}
+use Rattle.closure.proofs.Scan.{start, end, at-member, at-other}
 use Rattle.closure.proofs.rested_on.Statement.{statement}
 use Rattle.closure.proofs.rested_on.Tie as tie
 

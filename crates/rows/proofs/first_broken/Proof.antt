@@ -7,7 +7,7 @@ use mathlib.Core.Path.{_≡_, sym, _∙_}
 use native.Mathlib.Omega.{arith}
 use borrow.Author.Needs.{needs}
 use lib.ListN.{length, getD}
-use Rattle.sets.specs.Laws.{has-within}
+use Rattle.sets.proofs.Laws.{has-within}
 use Rattle.rows.specs.Table.{table}
 use Rattle.rows.proofs.Order.{Ordered, ordered-start, ordered-other, broken-no-farther, broken-too-far, ordered-more, ordered-end}
 use Rattle.rows.proofs.first_broken.Statement.{statement}

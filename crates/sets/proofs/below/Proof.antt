@@ -5,7 +5,7 @@ use mathlib.Core.Path.{ap, sym, subst}
 use native.Mathlib.Nat.{mod-eq-of-lt, lt-of-lt-of-le}
 use borrow.Author.Needs.{needs}
 use lib.Pow.{pow-mono, pow-pos}
-use Rattle.sets.specs.Laws.{one-shifted}
+use Rattle.sets.proofs.Laws.{one-shifted}
 use Rattle.sets.proofs.below.Statement.{statement}
 use Rattle.sets.proofs.below.Tie as tie
 

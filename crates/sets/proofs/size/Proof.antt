@@ -2,7 +2,7 @@
 -- Assumes nothing.
 use native.Mathlib.Omega.{arith}
 use lib.Count.{ones-le}
-use Rattle.sets.specs.Laws.{ones-size}
+use Rattle.sets.proofs.Laws.{ones-size}
 use Rattle.sets.proofs.size.Statement.{statement}
 use Rattle.sets.proofs.size.Tie as tie
 

@@ -4,7 +4,7 @@ use mathlib.Core.Path.{ap}
 use borrow.Author.Needs.{needs}
 use borrow.Author.Tests.{le-ltb, lt-ltb}
 use lib.Bits.{bitOr}
-use Rattle.sets.specs.Laws.{one-shifted}
+use Rattle.sets.proofs.Laws.{one-shifted}
 use Rattle.sets.proofs.with.Statement.{statement}
 use Rattle.sets.proofs.with.Tie as tie
 

@@ -11,7 +11,7 @@ use borrow.Author.Tests.{eq-eqb, ne-eqb, not-true, not-false}
 use lib.ListN.{length, getD}
 use Rattle.combinators.specs.Below.{count-short}
 use Rattle.combinators.specs.Lists.{any}
-use Rattle.rows.specs.Table.{table}
+use Rattle.rows.specs.Table.{table, mostRows}
 use Rattle.joining.specs.Units.{frame, isTarget, unitFrom}
 use Rattle.joining.specs.Judging.{Placed, marked}
 use Rattle.joining.proofs.Claiming.{Walked, walked-start, walked-other, no-assembly, chosen, walked-target, stopped, walked-end}
@@ -54,7 +54,7 @@ claim-requires c κs =
     let begin = c .before .before .before .before .before .before .before .before .before .before .before .before .before .before .before in
     let loop = c .before .before .before .before .before .before .before .before .before .loop in
     let inside = c .before .before .before .before .before .before .before .before .loop-test .taken in
-    subst (λ (rows : List ℕ). Placed (begin .args .members .now) rows 512) (sym (c .before .before .before .assemble .ensures .1))
+    subst (λ (rows : List ℕ). Placed (begin .args .members .now) rows mostRows) (sym (c .before .before .before .assemble .ensures .1))
     (chosen _ _ _ _ _ _ (loop .inv) inside (eq-eqb _ _ (c .before .before .before .before .before .before .if1 .taken)) (begin .pre .1) (begin .pre .0 .sorted .short)
     (sym (c .before .before .before .assemble .ensures .0) ∙ not-false _ (c .before .before .if2 .left)))
 

@@ -10,7 +10,7 @@ use lib.Dec.{ltb}
 use lib.ListN.{getD}
 use Rattle.combinators.specs.Bools.{both-left, both-right, either-left, either-right, either-which}
 use Rattle.sets.specs.Sets.{has, joined, only}
-use Rattle.sets.specs.Laws.{has-none, has-joined, has-only, has-below}
+use Rattle.sets.proofs.Laws.{has-none, has-joined, has-only, has-below}
 use Rattle.closure.specs.declared.Layers.{Layers}
 use Rattle.closure.specs.Closures.{isLayer, namedBy, named, following, followedBelow, restedOn}
 use Rattle.closure.specs.Meaning.{Names, RestsOn, itself, by}

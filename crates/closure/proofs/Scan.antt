@@ -10,7 +10,7 @@ use borrow.Author.Tests.{lt-ltb, le-ltb}
 use lib.ListN.{getD}
 use Rattle.combinators.specs.Below.{some, seek, at-none, some-at, seek-first, first-seek}
 use Rattle.sets.specs.Sets.{has, joined, without, below, lowest}
-use Rattle.sets.specs.Laws.{one-shifted, has-none, has-within, has-without, lowest-member, without-within}
+use Rattle.sets.proofs.Laws.{one-shifted, has-none, has-within, has-without, lowest-member, without-within}
 use Rattle.vocabulary.specs.declared.refusal.Refusal.the-variants.{NoSuchLayer, EmbeddedLayerAbsent}
 use Rattle.closure.specs.declared.Layers.{Layers}
 use Rattle.closure.specs.declared.Closure.the-variants.{Complete, Refused}

@@ -1,4 +1,4 @@
--- What Closures computes is what Meaning says, and nothing else is: `meets` and `nothing-else`.
+-- What Closures computes is what Meaning says, and nothing else is: `closure-meant` and `closure-only`.
 -- Assumes nothing.
 use Prim.Native.Nat.{ℕ, _^_, _≤_, _<_}
 use mathlib.Core.Bool.{Bool, true, false, not, _&&_, true≢false}
@@ -12,7 +12,7 @@ use lib.ListN.{getD}
 use Rattle.combinators.specs.Bools.{both-left, both-right, same-test}
 use Rattle.combinators.specs.Below.{some, seek, some-at, none-at, at-none, seek-first, seek-inside, first-seek}
 use Rattle.sets.specs.Sets.{has}
-use Rattle.sets.specs.Laws.{same-members, has-within}
+use Rattle.sets.proofs.Laws.{same-members, has-within}
 use Rattle.vocabulary.specs.declared.LayerIndex.{LayerIndex}
 use Rattle.vocabulary.specs.declared.refusal.Refusal.the-variants.{NoSuchLayer, EmbeddedLayerAbsent}
 use Rattle.closure.specs.declared.Layers.{Layers}
@@ -20,8 +20,8 @@ use Rattle.closure.specs.declared.Closure.{Closure}
 use Rattle.closure.specs.declared.Closure.the-variants.{Complete, Refused}
 use Rattle.closure.specs.Closures.{isLayer, restedOn, lacks, closureOf}
 use Rattle.closure.specs.Meaning.{Names, RestsOn, itself, by, Missing, LowestMissing, WholeClosure, Answers, no-such-layer, absent, complete}
-use Rattle.closure.specs.Reached.{layer-below-64, member-rests-on, rests-on-member, rests-on-at-most}
-use Rattle.closure.specs.Scan.{no-layer, none-missing, one-missing}
+use Rattle.closure.proofs.Reached.{layer-below-64, member-rests-on, rests-on-member, rests-on-at-most}
+use Rattle.closure.proofs.Scan.{no-layer, none-missing, one-missing}
 
 -- the definition's test for a missing index
 abbrev missingAt : Layers → ℕ → ℕ → Bool
@@ -112,44 +112,44 @@ module _ (layers : Layers) where
           ∙ none-missing layers target (restedOn layers target) here refl (no-missing (w .in-loop))
 
   -- THE ANSWER: what is computed is right,
-  pub meets : (target : ℕ) → Answers layers target (closureOf layers target)
-  meets target = go (isLayer layers target) refl
+  pub closure-meant : (target : ℕ) → Answers layers target (closureOf layers target)
+  closure-meant target = go (isLayer layers target) refl
     where
       go : (b : Bool) → isLayer layers target ≡ b → Answers layers target (closureOf layers target)
       go true h = meets-here target h (some (missingAt layers target) 64) refl
       go false h = subst (Answers layers target) (no-layer layers target h) (no-such-layer h)
 
   -- and nothing else is.
-  pub nothing-else : (target : ℕ) {answer : Closure} → Answers layers target answer → answer ≡ closureOf layers target
-  nothing-else target (no-such-layer h) = no-layer layers target h
-  nothing-else target (absent {index = i} here m) = only-absent target here i m
-  nothing-else target (complete {set = s} here w) = only-complete target here s w
+  pub closure-only : (target : ℕ) {answer : Closure} → Answers layers target answer → answer ≡ closureOf layers target
+  closure-only target (no-such-layer h) = no-layer layers target h
+  closure-only target (absent {index = i} here m) = only-absent target here i m
+  closure-only target (complete {set = s} here w) = only-complete target here s w
 
   -- One answer only.
   pub one-answer : (target : ℕ) {a b : Closure} → Answers layers target a → Answers layers target b → a ≡ b
-  one-answer target p q = nothing-else target p ∙ sym (nothing-else target q)
+  one-answer target p q = closure-only target p ∙ sym (closure-only target q)
 
   -- ---- the same by number: each is given exactly when document 01 says
 
   module _ (target : ℕ) where
     meant : (answer : Closure) → closureOf layers target ≡ answer → Answers layers target answer
-    meant answer e = subst (Answers layers target) e (meets target)
+    meant answer e = subst (Answers layers target) e (closure-meant target)
 
     pub given-11 : (closureOf layers target ≡ Refused NoSuchLayer) ↔ (isLayer layers target ≡ false)
-    given-11 = (λ e. go (meant (Refused NoSuchLayer) e), λ h. sym (nothing-else target (no-such-layer h)))
+    given-11 = (λ e. go (meant (Refused NoSuchLayer) e), λ h. sym (closure-only target (no-such-layer h)))
       where
         go : Answers layers target (Refused NoSuchLayer) → isLayer layers target ≡ false
         go (no-such-layer h) = h
 
     pub given-12 : (index : LayerIndex)
         → (closureOf layers target ≡ Refused (EmbeddedLayerAbsent index)) ↔ ((isLayer layers target ≡ true) × LowestMissing layers target (index .0))
-    given-12 index = (λ e. go (meant (Refused (EmbeddedLayerAbsent index)) e), λ w. sym (nothing-else target (absent (w .0) (w .1))))
+    given-12 index = (λ e. go (meant (Refused (EmbeddedLayerAbsent index)) e), λ w. sym (closure-only target (absent (w .0) (w .1))))
       where
         go : Answers layers target (Refused (EmbeddedLayerAbsent index)) → (isLayer layers target ≡ true) × LowestMissing layers target (index .0)
         go (absent here m) = (here, m)
 
     pub given-complete : (set : ℕ) → (closureOf layers target ≡ Complete set) ↔ ((isLayer layers target ≡ true) × WholeClosure layers target set)
-    given-complete set = (λ e. go (meant (Complete set) e), λ w. sym (nothing-else target (complete (w .0) (w .1))))
+    given-complete set = (λ e. go (meant (Complete set) e), λ w. sym (closure-only target (complete (w .0) (w .1))))
       where
         go : Answers layers target (Complete set) → (isLayer layers target ≡ true) × WholeClosure layers target set
         go (complete here w) = (here, w)

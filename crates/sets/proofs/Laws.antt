@@ -177,22 +177,6 @@ same-members-within w s t hs ht e = same-members s t (λ i. go i (decLt i w))
     go i (no n) =
         has-beyond w i hs (omega arith) ∙ sym (has-beyond w i ht (omega arith))
 
--- ---- subsets: one set has no member that the other lacks exactly when the set of those is empty
-
-pub subset : (s t : ℕ) → without s t ≡ 0 → (i : ℕ) → has s i ≡ true → has t i ≡ true
-subset s t e i m = go (has t i) (sym (has-without s t i) ∙ ap (λ (n : ℕ). has n i) e ∙ has-none i)
-  where
-    go : (y : Bool) → has s i && not y ≡ false → y ≡ true
-    go true f = refl
-    go false f = absurd (true≢false (sym (ap (λ (x : Bool). x && true) m) ∙ f))
-
-pub none-without : (s t : ℕ) → ((i : ℕ) → has s i ≡ true → has t i ≡ true) → without s t ≡ 0
-none-without s t h = same-members (without s t) 0 (λ i. has-without s t i ∙ go (has s i) (has t i) (h i) ∙ sym (has-none i))
-  where
-    go : (x y : Bool) → (x ≡ true → y ≡ true) → x && not y ≡ false
-    go true y f = ap not (f refl)
-    go false y f = refl
-
 -- ---- sets within a width stay within it
 
 pub joined-within : (w s t : ℕ) → s < 2 ^ w → t < 2 ^ w → joined s t < 2 ^ w

@@ -1,0 +1,4 @@
+pub mod Reached
+pub mod Scan
+pub mod Meant
+pub mod Examples
