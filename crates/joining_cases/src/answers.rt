@@ -1,5 +1,7 @@
 // What is printed: for an accepted table the closure, the number of units and the left-out count, for a refusal its number and place,
 // and after either both lists to their ends.
+use cases::say;
+use cases::say_number;
 use joining::Joined;
 use vocabulary::Refusal;
 
@@ -14,29 +16,6 @@ pub fn no_numbers() -> [u64; 600] {
 
 pub fn no_lags() -> [i64; 600] {
     [NO_LAG; 600]
-}
-
-fn say(text: &[u8]) {
-    io::write_all(1, text);
-}
-
-fn say_number(name: &[u8], value: u64) {
-    say(name);
-    io::print_decimal(1, value);
-}
-
-// A comment, as it stands.
-pub fn copy(line: &[u8]) {
-    say(line);
-    say(b"\n");
-}
-
-pub fn unreadable() {
-    say(b"unreadable\n");
-}
-
-pub fn too_long() {
-    say(b"too long\n");
 }
 
 // The members of a set of layer indices.

@@ -28,13 +28,11 @@
 ghost use Prim.Native.Nat.{_≤_};
 
 mod answers;
-mod cases;
 mod columns;
-mod words;
+mod tables;
 
-use cases::Case;
 use closure::Layers;
-use words::before;
+use tables::Case;
 
 // Lends the columns and the lists to the call, and prints what it answers and what it leaves in the lists.
 fn answer_table(
@@ -107,24 +105,16 @@ fn answer_case(case: Case) {
     );
 }
 
-// A comment or an empty line.
-fn is_comment(line: &[u8]) -> bool {
-    if line.len() == 0 {
-        return true;
-    }
-    line[0] == b'#'
-}
-
 fn answer_line(line: &[u8]) {
-    if is_comment(line) {
-        answers::copy(line);
+    if cases::is_comment(line) {
+        cases::copy(line);
         return;
     }
-    let case = cases::read(line);
+    let case = tables::read(line);
     if case.readable {
         answer_case(case);
     } else {
-        answers::unreadable();
+        cases::unreadable();
     }
 }
 
@@ -132,21 +122,15 @@ fn answer_lines(text: &[u8]) {
     let mut at = 0;
     while at < text.len() {
         let rest = &text[at..];
-        let size = before(b'\n', rest);
+        let line = cases::first_part(b'\n', rest);
+        let size = line.size;
         answer_line(&rest[..size]);
-        if size == rest.len() {
-            return;
-        }
-        at += size + 1;
+        at += line.step;
     }
 }
 
 fn main() {
     let mut buffer = io::large_buffer();
-    let count = io::read_full(0, &mut buffer);
-    if 65535 < count {
-        answers::too_long();
-        return;
-    }
+    let count = cases::read_cases(&mut buffer);
     answer_lines(&buffer[..count]);
 }

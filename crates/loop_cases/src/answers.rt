@@ -1,4 +1,6 @@
 // What is printed: for a refusal its number and place, for an accepted loop every entry with each field of its record.
+use cases::say;
+use cases::say_number;
 use descriptors::ExtensionRecord;
 use descriptors::HierarchyRecord;
 use descriptors::Record;
@@ -7,15 +9,6 @@ use es_loop::LoopRead;
 use es_loop::Outcome;
 use vocabulary::LayerIndex;
 use vocabulary::Refusal;
-
-fn say(text: &[u8]) {
-    io::write_all(1, text);
-}
-
-fn say_number(name: &[u8], value: u64) {
-    say(name);
-    io::print_decimal(1, value);
-}
 
 fn say_place(name: &[u8], value: usize) {
     say_number(name, value as u64);
@@ -31,20 +24,6 @@ fn say_flag(name: &[u8], value: bool) {
     } else {
         say_number(name, 0);
     }
-}
-
-// A comment, as it stands.
-pub fn copy(line: &[u8]) {
-    say(line);
-    say(b"\n");
-}
-
-pub fn unreadable() {
-    say(b"unreadable\n");
-}
-
-pub fn too_long() {
-    say(b"too long\n");
 }
 
 fn print_hierarchy(hierarchy: HierarchyRecord) {

@@ -14,10 +14,8 @@ ghost use Prim.Native.Nat.{_≤_};
 ghost use lib.ListN.{length};
 
 mod answers;
-mod text;
 
-use text::before;
-use text::read_bytes;
+use cases::unreadable;
 use vocabulary::Reading;
 
 // The year that a case begins with.
@@ -48,10 +46,10 @@ fn answer_loop(reading: Reading, count: usize, room: [u8; 2048])
 }
 
 fn answer_case(reading: Reading, words: &[u8]) {
-    let mut room = text::empty_room();
-    let found = read_bytes(words, &mut room);
+    let mut room = cases::empty_room();
+    let found = cases::read_bytes(words, &mut room);
     if !found.readable {
-        answers::unreadable();
+        unreadable();
         return;
     }
     answer_loop(reading, found.count, room);
@@ -67,31 +65,23 @@ fn ends_word(rest: &[u8]) -> bool {
 
 fn answer_year(line: &[u8]) {
     if line.len() < 4 {
-        answers::unreadable();
+        unreadable();
         return;
     }
     let words = &line[4..];
     if !ends_word(words) {
-        answers::unreadable();
+        unreadable();
         return;
     }
     match year_of(line) {
         Year::Known(reading) => answer_case(reading, words),
-        Year::Unknown => answers::unreadable(),
+        Year::Unknown => unreadable(),
     }
-}
-
-// A comment or an empty line.
-fn is_comment(line: &[u8]) -> bool {
-    if line.len() == 0 {
-        return true;
-    }
-    line[0] == b'#'
 }
 
 fn answer_line(line: &[u8]) {
-    if is_comment(line) {
-        answers::copy(line);
+    if cases::is_comment(line) {
+        cases::copy(line);
     } else {
         answer_year(line);
     }
@@ -101,21 +91,15 @@ fn answer_lines(text: &[u8]) {
     let mut at = 0;
     while at < text.len() {
         let rest = &text[at..];
-        let size = before(b'\n', rest);
+        let line = cases::first_part(b'\n', rest);
+        let size = line.size;
         answer_line(&rest[..size]);
-        if size == rest.len() {
-            return;
-        }
-        at += size + 1;
+        at += line.step;
     }
 }
 
 fn main() {
     let mut buffer = io::large_buffer();
-    let count = io::read_full(0, &mut buffer);
-    if 65535 < count {
-        answers::too_long();
-        return;
-    }
+    let count = cases::read_cases(&mut buffer);
     answer_lines(&buffer[..count]);
 }

@@ -9,15 +9,11 @@ use borrow.Author.Tests.{lt-ltb, le-ltb}
 use lib.Dec.{ltb}
 use lib.IntN.{ℤ}
 use lib.ListN.{length}
-use Rattle.vocabulary.specs.declared.stream_types.Reading.{Reading}
 use Rattle.vocabulary.specs.declared.refusal.Refusal.the-variants.{Unpaired, UsedTwice, NoRoom}
 use Rattle.closure.specs.declared.Layers.{Layers}
 use Rattle.closure.specs.declared.Closure.{Closure}
 use Rattle.closure.specs.declared.Closure.the-variants.{Complete, Refused as NoClosure}
 use Rattle.closure.specs.Closures.{closureOf}
-use Rattle.es_loop.specs.declared.reader.Outcome.{Outcome}
-use Rattle.es_loop.specs.declared.reader.Outcome.the-variants.{Accepted, Refused as LoopRefused}
-use Rattle.es_loop.specs.Reading.{loopRead}
 use Rattle.joining.specs.declared.answer.Joined.{Joined}
 use Rattle.joining.specs.declared.answer.Joined.the-variants.{Units, Refused}
 use Rattle.rows.specs.declared.Verdict.{Verdict}
@@ -26,7 +22,6 @@ use Rattle.rows.specs.Verdicts.{verdictOf}
 use Rattle.rows.specs.Table.{Table, rowsIn}
 use Rattle.joining.specs.Units.{Frame, firstUnpaired, firstShared, unitsIn, leftOut, frameOf}
 use Rattle.joining.specs.Joining.{places, unitsJoined, joinedBy, joinedIn, joinedOf, numbersAfter, lagsAfter}
-use Rattle.importing.specs.Importing.{layersRead, importFor, importOf}
 use Rattle.thoquenry.specs.Joins.{withSummary, summaryAfter}
 
 -- what is left of an answer without room for the summary
@@ -88,12 +83,3 @@ module _ (layers : Layers) (target : ℕ) (t : Table) (n l m k : ℕ) where
 
   pub alike-joined : barred (joinedOf layers target t n l) ≡ barred (joinedOf layers target t m k)
   alike-joined = alike-in (closureOf layers target)
-
-  pub alike-import : (o : Outcome) → barred (importFor o layers target t n l) ≡ barred (importFor o layers target t m k)
-  alike-import Accepted = alike-joined
-  alike-import (LoopRefused refusal) = refl
-
-pub alike-imported : (reading : Reading) (bytes : List ℕ) (target : ℕ) (t : Table) (n l m k : ℕ)
-    → barred (importOf reading bytes target t n l) ≡ barred (importOf reading bytes target t m k)
-alike-imported reading bytes target t n l m k =
-    alike-import (layersRead (loopRead reading bytes)) target t n l m k (loopRead reading bytes .outcome)

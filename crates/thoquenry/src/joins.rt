@@ -12,6 +12,7 @@ use super::answers::reading_of;
 use super::answers::refused;
 use closure::Layers;
 use combinators::lesser;
+use es_loop::Outcome;
 use joining::Joined;
 use vocabulary::Reading;
 use vocabulary::Refusal;
@@ -133,7 +134,7 @@ pub extern "C" fn thq_join(
     )
 }
 
-// The whole import under a reading. The summary is met as in `join_over`.
+// The whole import under a reading: the rows joined over the layers of the loop, or the refusal of the loop.
 fn import_under(
     reading: Reading,
     bytes: &[u8],
@@ -150,32 +151,22 @@ fn import_under(
     ensures beside { λ r. ⌜ now (lags .exit) ≡ importAsked (Asked.Known reading) (now (bytes .entry)) target (table (now (indices .entry)) (now (decodings .entry)) (now (matches .entry))) (now (numbers .entry)) (now (lags .entry)) (now (summary .entry)) .lags ⌝ }
     ensures summed { λ r. ⌜ now (summary .exit) ≡ importAsked (Asked.Known reading) (now (bytes .entry)) target (table (now (indices .entry)) (now (decodings .entry)) (now (matches .entry))) (now (numbers .entry)) (now (lags .entry)) (now (summary .entry)) .summary ⌝ }
 {
-    if summary.len() < 3 {
-        let mut own_numbers = [0u64; 1];
-        let mut own_lags = [0i64; 1];
-        let joined = importing::import(
-            reading,
-            bytes,
+    let read = es_loop::read_loop(reading, bytes);
+    let outcome = read.outcome;
+    let entries = read.entries;
+    match outcome {
+        Outcome::Accepted => join_over(
+            loop_layers::layers_of(read.count, entries),
             target,
             indices,
             decodings,
             matches,
-            &mut own_numbers,
-            &mut own_lags,
-        );
-        return without_summary(joined);
+            numbers,
+            lags,
+            summary,
+        ),
+        Outcome::Refused(refusal) => refused(refusal),
     }
-    let joined = importing::import(
-        reading,
-        bytes,
-        target,
-        indices,
-        decodings,
-        matches,
-        numbers,
-        lags,
-    );
-    summarise(joined, summary)
 }
 
 #[no_mangle]

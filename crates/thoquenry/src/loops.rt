@@ -15,12 +15,17 @@ use es_loop::Outcome;
 use loop_writer::Written;
 use vocabulary::Refusal;
 
+// The most entries that a loop has, and the numbers of an entry.
+const ENTRIES: usize = 201;
+
+const ENTRY_NUMBERS: usize = 80;
+
 // The rows of the first `count` entries, laid into the buffer.
-fn lay_entries(count: usize, list: [Entry; 201], entries: &mut [u16]) -> u64
+fn lay_entries(count: usize, list: [Entry; ENTRIES], entries: &mut [u16]) -> u64
     ensures answer { λ r. ⌜ r ≡ entriesLaid count (take count list) (now (entries .entry)) .answer ⌝ }
     ensures content { λ r. ⌜ now (entries .exit) ≡ entriesLaid count (take count list) (now (entries .entry)) .buffer ⌝ }
 {
-    if entries.len() < lesser(count, 201) * 80 {
+    if entries.len() < lesser(count, ENTRIES) * ENTRY_NUMBERS {
         return refused(Refusal::NoRoom);
     }
     entry_rows::put_entries(entries, count, list);

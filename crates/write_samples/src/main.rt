@@ -11,8 +11,13 @@ use entries::two_below;
 use es_loop::Entry;
 use es_loop::blank_entries;
 
-fn write(name: &[u8], count: usize, list: [Entry; 201]) {
-    let mut out = [0u8; 1008];
+// The most bytes and the most entries that a loop has.
+const LOOP_BYTES: usize = 1008;
+
+const ENTRIES: usize = 201;
+
+fn write(name: &[u8], count: usize, list: [Entry; ENTRIES]) {
+    let mut out = [0u8; LOOP_BYTES];
     let written = loop_writer::write_loop(count, list, &mut out);
     shown::show(name, written, &out);
 }

@@ -6,36 +6,26 @@ use mathlib.Core.Path.{sym}
 use Rattle.pes_cases.proofs.write_case.Statement.{statement}
 use Rattle.pes_cases.proofs.write_case.Tie as tie
 
-past-requires : tie.Need-past-requires
-past-requires c κs = search needs
+numbers-of-requires : tie.Need-numbers-of-requires
+numbers-of-requires c κs = search needs
 
-number-at-requires : tie.Need-number-at-requires
-number-at-requires c κs = search needs
+number-or-requires : tie.Need-number-or-requires
+number-or-requires c κs = search needs
 
-past-requires-2 : tie.Need-past-requires-2
-past-requires-2 c κs = search needs
+number-or-requires-2 : tie.Need-number-or-requires-2
+number-or-requires-2 c κs = search needs
 
-number-at-requires-2 : tie.Need-number-at-requires-2
-number-at-requires-2 c κs = search needs
+number-or-requires-3 : tie.Need-number-or-requires-3
+number-or-requires-3 c κs = search needs
 
-past-requires-3 : tie.Need-past-requires-3
-past-requires-3 c κs = search needs
-
-number-at-requires-3 : tie.Need-number-at-requires-3
-number-at-requires-3 c κs = search needs
-
-past-requires-4 : tie.Need-past-requires-4
-past-requires-4 c κs = search needs
-
-number-at-requires-4 : tie.Need-number-at-requires-4
-number-at-requires-4 c κs = search needs
+number-or-requires-4 : tie.Need-number-or-requires-4
+number-or-requires-4 c κs = search needs
 
 array-borrow-prefix-out : tie.Need-array-borrow-prefix-out
 array-borrow-prefix-out c = search needs
 
 slice-aggregate-write : tie.Need-slice-aggregate-write
-slice-aggregate-write c =
-    sym (length-take-le _ _ (search needs))
+slice-aggregate-write c = sym (length-take-le _ _ (search needs))
 
 write-requires : tie.Need-write-requires
 write-requires c κs = search needs
@@ -50,14 +40,11 @@ pub write-case-spec : {M : Type 1} → statement M
 write-case-spec =
     tie.close
     (tie.spec
-    past-requires
-    number-at-requires
-    past-requires-2
-    number-at-requires-2
-    past-requires-3
-    number-at-requires-3
-    past-requires-4
-    number-at-requires-4
+    numbers-of-requires
+    number-or-requires
+    number-or-requires-2
+    number-or-requires-3
+    number-or-requires-4
     array-borrow-prefix-out
     slice-aggregate-write
     write-requires

@@ -1,50 +1,42 @@
--- `joins::import_under` meets its contract: with room for the summary the import itself, without it an import in lists of its own.
+-- `joins::import_under` meets its contract: what reading answered says which of the two cases it is, and an accepted loop's layers are those that
+-- the rows are joined over.
 -- Assumes nothing.
-use mathlib.Core.Path.{sym, _∙_, ap, subst}
-use lib.ListN.{length}
-use Rattle.rows.specs.Table.{table}
-use Rattle.es_loop.specs.Reading.{loopRead}
-use Rattle.importing.specs.Importing.{layersRead, importOf}
-use Rattle.thoquenry.specs.Bounds.{Few, few-imported}
-use Rattle.thoquenry.specs.Rooms.{barred, alike-imported}
-use Rattle.thoquenry.proofs.Joined.{left-short, left-whole}
-use native.Mathlib.Omega.{arith}
+use Prim.Native.Nat.{ℕ}
+use mathlib.Core.List.{List}
+use Prim.Native.Nat.{ℕ}
+use mathlib.Core.List.{List}
+use mathlib.Core.Path.{refl, sym, _∙_, ap}
 use borrow.Author.Needs.{needs}
+use lib.IntN.{ℤ}
+use lib.IntN.{ℤ}
+use lib.ListN.{length}
+use Rattle.closure.specs.declared.Layers.{Layers}
+use Rattle.es_loop.specs.declared.reader.Outcome.{Outcome}
+use Rattle.es_loop.specs.declared.reader.LoopRead.{LoopRead}
+use Rattle.rows.specs.Table.{Table, table}
+use Rattle.importing.specs.Importing.{layersRead, importFor}
+use Rattle.thoquenry.specs.Joins.{withSummary, JoinReply, joinReply, joinOver}
+use Rattle.thoquenry.proofs.Joined.{left-as}
 use Rattle.thoquenry.proofs.joins.import_under.Statement.{statement}
 use Rattle.thoquenry.proofs.joins.import_under.Tie as tie
 
-slice-aggregate-import : tie.Need-slice-aggregate-import
-slice-aggregate-import c = search needs
+read-loop-requires : tie.Need-read-loop-requires
+read-loop-requires c κs = search needs
 
-slice-aggregate-import-2 : tie.Need-slice-aggregate-import-2
-slice-aggregate-import-2 c = search needs
+enum-told : tie.Need-enum-told
+enum-told c = search needs
 
-import-requires : tie.Need-import-requires
-import-requires c κs = search needs
+layers-of-requires : tie.Need-layers-of-requires
+layers-of-requires c κs = search needs
 
-without-summary-requires : tie.Need-without-summary-requires
-without-summary-requires c κs = search needs
+join-over-requires : tie.Need-join-over-requires
+join-over-requires c κs = search needs
 
-returns : tie.Need-returns
-returns c =
-    let a = c .before .before .before .before .before .before .before .before .before .before .before .before .before .args in
-    let t = table (a .indices .now) (a .decodings .now) (a .matches .now) in
-    let other = c .before .before .before .import in
-    left-short (layersRead (loopRead (a .reading) (a .bytes .now))) (a .target) t (a .numbers .now) (a .lags .now) (a .summary .now)
-    (importOf (a .reading) (a .bytes .now) (a .target) t (length (a .numbers .now)) (length (a .lags .now)))
-    (other .result) _ (c .before .before .before .before .before .before .if1 .taken)
-    (alike-imported (a .reading) (a .bytes .now) (a .target) t (length (a .numbers .now)) (length (a .lags .now)) _ _ ∙ sym (ap barred (other .ensures .0)))
-    (c .without-summary .ensures)
+enum-known-outcome : tie.Need-enum-known-outcome
+enum-known-outcome c = search needs
 
-import-requires-2 : tie.Need-import-requires-2
-import-requires-2 c κs = search needs
-
-summarise-requires : tie.Need-summarise-requires
-summarise-requires c κs =
-    let a = c .before .before .before .before .before .before .before .before .before .before .before .before .before .before .args in
-    let t = table (a .indices .now) (a .decodings .now) (a .matches .now) in
-    let joined = c .before .before .before .before .import2 in
-    (c .before .before .before .before .before .before .before .if1 .left, subst Few (sym (joined .ensures .0)) (few-imported (a .reading) (a .bytes .now) (a .target) t (length (a .numbers .now)) (length (a .lags .now))))
+refused-requires : tie.Need-refused-requires
+refused-requires c κs = search needs
 
 same-length : tie.Need-same-length
 same-length c = search needs
@@ -55,28 +47,44 @@ same-length-2 c = search needs
 same-length-3 : tie.Need-same-length-3
 same-length-3 c = search needs
 
+-- what is left when the loop's reading came to an outcome, with its layers
+abbrev leaves : Outcome → Layers → ℕ → Table → List ℕ → List ℤ → List ℕ → JoinReply
+leaves outcome layers target t numbers lags summary =
+    joinReply layers target t (withSummary (length summary) (importFor outcome layers target t (length numbers) (length lags))) numbers lags summary
+
+returns : tie.Need-returns
+returns c =
+    let a = c .before .before .before .before .before .before .before .before .before .before .before .before .before .before .before .before .before .before .before .before .args in
+    let t = table (a .indices .now) (a .decodings .now) (a .matches .now) in
+    let read = c .before .before .before .before .before .before .before .before .before .before .before .before .before .read-loop in
+    left-as
+    (ap (λ (l : Layers). joinOver l (a .target) t (a .numbers .now) (a .lags .now) (a .summary .now)) (c .before .before .before .before .before .before .before .before .before .layers-of .ensures)
+    ∙ sym (ap (λ (o : Outcome). leaves o (layersRead (read .result)) (a .target) t (a .numbers .now) (a .lags .now) (a .summary .now)) (c .before .before .before .before .before .before .before .before .before .before .enum-told .given .1))
+    ∙ ap (λ (r : LoopRead). leaves (r .outcome) (layersRead r) (a .target) t (a .numbers .now) (a .lags .now) (a .summary .now)) (read .ensures))
+    (c .before .before .before .before .before .join-over .ensures)
+
 returns-2 : tie.Need-returns-2
 returns-2 c =
-    let a = c .before .before .before .before .before .before .before .before .before .before .before .before .before .before .before .before .before .args in
+    let a = c .before .before .before .before .before .before .before .before .before .before .before .before .args in
     let t = table (a .indices .now) (a .decodings .now) (a .matches .now) in
-    let joined = c .before .before .before .before .before .before .before .import2 in
-    let summed = c .before .before .summarise in
-    left-whole (layersRead (loopRead (a .reading) (a .bytes .now))) (a .target) t (a .numbers .now) (a .lags .now) (a .summary .now)
-    (importOf (a .reading) (a .bytes .now) (a .target) t (length (a .numbers .now)) (length (a .lags .now)))
-    (joined .result) _ _ _ _ (c .before .before .before .before .before .before .before .before .before .before .if1 .left) (joined .ensures .0) (summed .ensures .0) (joined .ensures .1 .0) (joined .ensures .1 .1) (summed .ensures .1)
+    let read = c .before .before .before .before .before .read-loop in
+    left-as
+    (sym (ap (λ (o : Outcome). leaves o (layersRead (read .result)) (a .target) t (a .numbers .now) (a .lags .now) (a .summary .now)) (c .before .before .outcome .given .1))
+    ∙ ap (λ (r : LoopRead). leaves (r .outcome) (layersRead r) (a .target) t (a .numbers .now) (a .lags .now) (a .summary .now)) (read .ensures))
+    (c .refused .ensures, (refl, (refl, refl)))
 
 pub import-under-spec : {M : Type 1} → statement M
 import-under-spec =
     tie.close
     (tie.spec
-    slice-aggregate-import
-    slice-aggregate-import-2
-    import-requires
-    without-summary-requires
-    returns
-    import-requires-2
-    summarise-requires
+    read-loop-requires
+    enum-told
+    layers-of-requires
+    join-over-requires
+    enum-known-outcome
+    refused-requires
     same-length
     same-length-2
     same-length-3
+    returns
     returns-2)
