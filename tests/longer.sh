@@ -1,5 +1,6 @@
 #!/bin/sh
-# longer.sh [COUNT]: the longer run, by hand. The linked tests first; then every call is compared with the independent implementation on
+# longer.sh [COUNT]: the longer run, by hand. The linked tests first; then the programs that are wrong in several crates are tried, five minutes of
+# processor time (tests/wrong-programs); then every call is compared with the independent implementation on
 # COUNT generated inputs (500,000 where it is not said) for each of several seeds, and again with each buffer beside pages that cannot be
 # touched; under valgrind too where the machine is x86-64; the parts that Debian has a peer for are compared with that peer: libbitstream-dev
 # (PTS, DTS, the hierarchy descriptor) and libdvbpsi-dev (the hierarchy descriptor); and the packages are tried (tests/packages.sh), and how fast
@@ -13,6 +14,7 @@ seeds="2 3 4 5"
 guarded_seeds="6 7"
 
 sh tests/linked.sh
+tests/wrong-programs
 scripts/install-tools libbitstream-dev libdvbpsi-dev gcc libc6-dev
 out=$PWD/target/longer
 mkdir -p "$out"

@@ -23,7 +23,7 @@ use Rattle.loop_writer.specs.declared.writer.Written.{Written}
 use Rattle.loop_writer.specs.declared.writer.Written.the-variants as Written
 use Rattle.loop_writer.specs.Writing.{answer, content}
 use Rattle.record_pins.specs.Records.{hierarchyPayload, hierarchy, extensionPayload, extension}
-use Rattle.listing.specs.Lines.{members, layerLine, lineAt, layersText, acceptedText, loopText}
+use Rattle.listing.specs.Lines.{members, layerLine, lineAt, layersText, acceptedText, refusedText, loopText}
 
 pub record Case : Type 0 where
   pub reading : Reading
@@ -221,6 +221,10 @@ writes =
     ∷ write (plainEntry 300 ∷ []) 1 4 (Written.Refused NoRoom)
     ∷ []
 
+-- a base layer of index 0, on PID 256
+abbrev pub base : List ℕ
+base = 0x1B ∷ 0xE1 ∷ 0x00 ∷ 0xF0 ∷ 0x06 ∷ 0x04 ∷ 0x04 ∷ 0xFF ∷ 0xC0 ∷ 0xFF ∷ 0xC0 ∷ []
+
 pub record LoopsPinned : Type 0 where
   pub outcomes : map (λ (c : Case). loopRead (c .reading) (c .bytes) .outcome) loops ≡ map (λ (c : Case). c .outcome) loops
   pub read : take 3 (loopRead Edition2015 distinct .entries) ≡ distinctEntries
@@ -231,7 +235,13 @@ pub record LoopsPinned : Type 0 where
       ≡ ascii "accepted 3\nlayer 7 pid 298 type 27 channel 21 closure 7\nlayer 9 pid 300 type 31 channel 42 closure 7 9\nlayer 12 pid 301 type 41 channel 47 closure 7 9 12\n"
   pub listed-in-2009 : loopText Edition2009 distinct
       ≡ ascii "accepted 2\nlayer 7 pid 298 type 27 channel 21 closure 7\nlayer 9 pid 300 type 31 channel 42 closure 7 9\n"
+  -- layer 2 rests on layer 1, which is not in the loop
+  pub listed-absent : loopText Edition2015 (base ++ (0x1F ∷ 0xE1 ∷ 0x02 ∷ 0xF0 ∷ 0x06 ∷ 0x04 ∷ 0x04 ∷ 0xE2 ∷ 0xC2 ∷ 0x41 ∷ 0xC5 ∷ []))
+      ≡ ascii "accepted 2\nlayer 0 pid 256 type 27 channel 0 closure 0\nlayer 2 pid 258 type 31 channel 5 closure absent\n"
+  -- layer 1 rests on itself
+  pub listed-refusal : loopText Edition2015 (base ++ (0x1F ∷ 0xE1 ∷ 0x01 ∷ 0xF0 ∷ 0x06 ∷ 0x04 ∷ 0x04 ∷ 0xD1 ∷ 0xC1 ∷ 0x41 ∷ 0xC1 ∷ []))
+      ≡ ascii "refused 9 entry 1\n"
 
 pub loops-pinned : LoopsPinned
-unfolding loopText size acceptedText layersText lineAt layerLine members texts decimal decimalWidth
-loops-pinned = record { outcomes = refl; read = refl; answers = refl; written = (refl, refl); closures = (refl, refl); listed = refl; listed-in-2009 = refl }
+unfolding loopText size acceptedText refusedText layersText lineAt layerLine members texts decimal decimalWidth
+loops-pinned = record { outcomes = refl; read = refl; answers = refl; written = (refl, refl); closures = (refl, refl); listed = refl; listed-in-2009 = refl; listed-absent = refl; listed-refusal = refl }

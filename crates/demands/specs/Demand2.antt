@@ -10,13 +10,14 @@ use Prim.Native.Nat.{ℕ, _≤_}
 use mathlib.Core.Bool.{Bool}
 use mathlib.Core.List.{List, [], map}
 use mathlib.Core.Logic.{_↔_}
-use mathlib.Core.Path.{_≡_, sym, _∙_}
+use mathlib.Core.Path.{_≡_, sym, _∙_, ap, ap₂}
 use lib.IntN.{ℤ}
 use lib.ListN.{length, take}
 use Rattle.buffers.specs.Buffers.{over}
 use Rattle.combinators.specs.Padding.{padTo}
 use Rattle.syntax.specs.Table.{AreBytes}
 use Rattle.vocabulary.specs.declared.refusal.Refusal.the-variants.{Unpaired, UsedTwice}
+use Rattle.vocabulary.specs.declared.stream_types.Reading.{Reading}
 use Rattle.vocabulary.specs.declared.stream_types.Reading.the-variants.{Edition2015}
 use Rattle.es_loop.specs.declared.entries.Entry.{Entry}
 use Rattle.es_loop.specs.declared.entries.Stream.{Stream}
@@ -24,9 +25,11 @@ use Rattle.es_loop.specs.declared.reader.Outcome.the-variants.{Accepted as Loop
 use Rattle.es_loop.specs.Entries.{blankEntry, entryOf}
 use Rattle.es_loop.specs.Reading.{loopRead, accepted}
 use Rattle.es_loop.specs.Meaning as LoopMeaning
+use Rattle.es_loop.specs.declared.reader.LoopRead.{LoopRead}
+use Rattle.loop_writer.specs.declared.writer.Written.{Written}
 use Rattle.loop_writer.specs.declared.writer.Written.the-variants as Loop
 use Rattle.loop_writer.specs.Layout.{loopBytes}
-use Rattle.loop_writer.specs.Writing.{answer}
+use Rattle.loop_writer.specs.Writing.{answer, contentAfter}
 use Rattle.loop_round_trip.specs.ReadBack.{normal, Typed}
 use Rattle.loop_round_trip.specs.RoundTrip as loops
 use Rattle.loop_round_trip.specs.OwnShape.{OwnShape}
@@ -51,9 +54,34 @@ use Rattle.joining.specs.Meaning as Joining
 use Rattle.joining.proofs.Meant as joining
 use Rattle.importing.specs.Meaning as Import
 use Rattle.promised.specs.Calls.{Promised}
-use Rattle.promised.specs.Readers.{readLoop, loop-read, readTimes, times-read}
-use Rattle.promised.specs.Writers.{writeLoop, loop-written, writeTimes, times-written}
+use Rattle.promised.specs.Readers.{LoopGiven, readLoop, loopReadComputed, loop-read, readTimes, times-read}
+use Rattle.promised.specs.Writers.{EntriesGiven, writeLoop, loopWrittenComputed, loop-written, writeTimes, times-written}
 use Rattle.promised.specs.Joiners.{Lists, RowsGiven, joinRows, rowsJoinedComputed, rows-joined, ImportGiven, importLoop, loop-imported}
+
+-- the entries that a writer is given, and what reading them answers: each as it was given, but for what its record does not have (`normal`)
+abbrev pub entriesOf : EntriesGiven → List Entry
+entriesOf given = take (given .count) (given .array)
+
+abbrev pub asGiven : List Entry → LoopRead
+asGiven entries = record { outcome = LoopAccepted; count = length entries; entries = padTo 201 blankEntry (map normal entries) }
+
+-- Whatever the writer accepts, a reading of the bytes that it left in its buffer gives back.
+abbrev pub LoopReadBack : Type 0
+LoopReadBack =
+    (wrote : writeLoop .Ran) → writeLoop .Ensures wrote → (n : ℕ) → writeLoop .answer wrote ≡ Loop.Bytes n → Typed (entriesOf (writeLoop .given wrote))
+    → (read : readLoop .Ran) → readLoop .Ensures read
+    → readLoop .given read ≡ record { reading = Edition2015; bytes = take n (writeLoop .after wrote) }
+    → readLoop .answer read ≡ asGiven (entriesOf (writeLoop .given wrote))
+
+-- Whatever is read from a loop in the writer's own shape, a writing of that gives the same bytes, where there is room.
+abbrev pub LoopRewritten : Type 0
+LoopRewritten =
+    (read : readLoop .Ran) → readLoop .Ensures read → readLoop .given read .reading ≡ Edition2015
+    → AreBytes (readLoop .given read .bytes) → OwnShape (readLoop .given read .bytes) → readLoop .answer read .outcome ≡ LoopAccepted
+    → (wrote : writeLoop .Ran) → writeLoop .Ensures wrote → writeLoop .given wrote .count ≡ readLoop .answer read .count
+    → writeLoop .given wrote .array ≡ readLoop .answer read .entries → length (readLoop .given read .bytes) ≤ length (writeLoop .given wrote .out)
+    → (writeLoop .answer wrote ≡ Loop.Bytes (length (readLoop .given read .bytes)))
+    × (writeLoop .after wrote ≡ over (readLoop .given read .bytes) (writeLoop .given wrote .out))
 
 -- 'read and written as H.222.0 and its layered-video amendments lay them out': each call's answer has its meaning, and nothing else has; and
 -- the round trips of document 01, 'reading what a writer wrote gives back what was given, and rewriting gives the same bytes for headers
@@ -63,13 +91,8 @@ pub record ReadAndWritten : Type 0 where
   pub loops-written : Promised writeLoop
   pub times-are-read : Promised readTimes
   pub times-are-written : Promised writeTimes
-  pub loop-read-back : (room count : ℕ) (array : List Entry) → Typed (take count array) → {n : ℕ} → answer room count array ≡ Loop.Bytes n
-      → loopRead Edition2015 (loopBytes (take count array))
-      ≡ record { outcome = LoopAccepted; count = length (take count array); entries = padTo 201 blankEntry (map normal (take count array)) }
-  pub loop-rewritten : (loop : List ℕ) → AreBytes loop → OwnShape loop → (loopRead Edition2015 loop) .outcome ≡ LoopAccepted
-      → (room : ℕ) → length loop ≤ room
-      → (answer room ((loopRead Edition2015 loop) .count) ((loopRead Edition2015 loop) .entries) ≡ Loop.Bytes (length loop))
-      × (loopBytes (take ((loopRead Edition2015 loop) .count) ((loopRead Edition2015 loop) .entries)) ≡ loop)
+  pub loop-read-back : LoopReadBack
+  pub loop-rewritten : LoopRewritten
   pub times-read-back : (times : Times) (withTref : Bool) (out : List ℕ) {size : ℕ} → writeOf times withTref (length out) ≡ Header.Bytes size
       → readOf (bufferOf (Header.Bytes size) (headerOf times withTref) out) ≡ Answer.Read (record { times = times; «tref_sent» = withTref; end = size })
   pub times-rewritten : {bytes : List ℕ} {times : Times} {withTref : Bool} → OwnHeader bytes times withTref → (header : HeaderRead)
@@ -128,6 +151,32 @@ pub record Demand-2 : Type 0 where
   pub read-and-written : ReadAndWritten
   pub joins : Joins
 
+-- the round trips of loops, from what the two functions ensure
+read-back : LoopReadBack
+read-back wrote written n is-bytes typed read ensured same =
+    let g = writeLoop .given wrote in
+    let w = loopWrittenComputed .ensured wrote written in
+    let accepted : answer (length (g .out)) (g .count) (g .array) ≡ Loop.Bytes n = sym (w .0) ∙ is-bytes in
+    loopReadComputed .ensured read ensured .0
+    ∙ ap (λ (l : LoopGiven). loopRead (l .reading) (l .bytes)) same
+    ∙ ap (loopRead Edition2015) (ap (take n) (w .1) ∙ loops.buffer-holds (g .count) (g .array) (g .out) accepted)
+    ∙ loops.read-back (length (g .out)) (g .count) (g .array) typed accepted
+
+rewritten : LoopRewritten
+rewritten read ensured in-2015 bytes own is-accepted wrote written same-count same-array large =
+    let loop = readLoop .given read .bytes in
+    let out = writeLoop .given wrote .out in
+    let as-read : readLoop .answer read ≡ loopRead Edition2015 loop =
+    loopReadComputed .ensured read ensured .0 ∙ ap (λ (r : Reading). loopRead r loop) in-2015 in
+    let count = same-count ∙ ap (λ (a : LoopRead). a .count) as-read in
+    let array = same-array ∙ ap (λ (a : LoopRead). a .entries) as-read in
+    let w = loopWrittenComputed .ensured wrote written in
+    let both = loops-again.rewrite loop bytes own (sym (ap (λ (a : LoopRead). a .outcome) as-read) ∙ is-accepted) (length out) large in
+    let answered = ap₂ (λ (c : ℕ) (a : List Entry). answer (length out) c a) count array ∙ both .0 in (
+      w .0 ∙ answered,
+      w .1 ∙ ap₂ (λ (a : Written) (b : List ℕ). contentAfter a b out) answered (ap₂ (λ (c : ℕ) (a : List Entry). loopBytes (take c a)) count array ∙ both .1),
+    )
+
 -- what the meaning says of units
 one-unit-each : {given : RowsGiven} {after : Lists} {closure units left : ℕ} → joinRows .Means given (Units closure units left) after
     → OneUnitEach given closure units left after
@@ -162,8 +211,8 @@ demand-2 =
         loops-written = loop-written;
         times-are-read = times-read;
         times-are-written = times-written;
-        loop-read-back = λ room count array typed e. loops.read-back room count array typed e;
-        loop-rewritten = λ loop bytes own accepted room large. loops-again.rewrite loop bytes own accepted room large;
+        loop-read-back = read-back;
+        loop-rewritten = rewritten;
         times-read-back = times.reading-what-was-written;
         times-rewritten = λ own header read out room. times.rewritten own header read out room;
       };

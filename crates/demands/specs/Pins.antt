@@ -3,16 +3,16 @@
 -- `call_pins`, and the functions for C here, by the numbers that they answer.
 -- Assumes nothing.
 use Prim.Native.Nat.{ℕ, _+_, _*_}
-use mathlib.Core.List.{List, [], _∷_, map}
+use mathlib.Core.List.{List, [], _∷_, _++_}
 use mathlib.Core.Path.{_≡_, refl}
 use lib.IntN.{ℤ, pos, negsuc}
 use lib.ListN.{take, drop, replicate}
 use Rattle.sets.specs.Sets.{size}
 use Rattle.assembling.specs.Assemblies.{edgesOf, membersOf}
 use Rattle.rows.specs.Table.{Table, table}
-use Rattle.entry_rows.specs.Rows.{headOf, tailOf}
+use Rattle.entry_rows.specs.Rows.{headOf, tailOf, rowTooWide, entryIn}
 use Rattle.thoquenry.specs.Answers.{Reply, reply}
-use Rattle.thoquenry.specs.Loops.{readLoop, closureCall}
+use Rattle.thoquenry.specs.Loops.{readLoop, writeLoop, closureCall}
 use Rattle.thoquenry.specs.Times.{readTimes}
 use Rattle.thoquenry.specs.Joins.{JoinReply, joinCall, importCall}
 use Rattle.word_pins.specs.Words.{WordsPinned, words-pinned}
@@ -43,6 +43,9 @@ pub record ForCPinned : Type 0 where
       ≡ 31 ∷ 300 ∷ 1 ∷ 1 ∷ 1 ∷ 0 ∷ 1 ∷ 1 ∷ 9 ∷ 0 ∷ 7 ∷ 42 ∷ 0 ∷ 0 ∷ 0 ∷ 0 ∷ 0 ∷ []
   pub extension-row : take 19 (drop 160 (readLoop 2015 distinct (replicate 240 5) .buffer))
       ≡ 41 ∷ 301 ∷ 2 ∷ 0 ∷ 0 ∷ 0 ∷ 0 ∷ 0 ∷ 12 ∷ 1 ∷ 0 ∷ 47 ∷ 0xABCD ∷ 6 ∷ 33 ∷ 2 ∷ 9 ∷ 7 ∷ 0 ∷ []
+  -- the same numbers written, and a `record` above 2
+  pub entries-written : writeLoop (readLoop 2015 distinct (replicate 240 5) .buffer) (replicate 40 5) ≡ reply (0 + 256 * 38) (distinct ++ 5 ∷ 5 ∷ [])
+  pub record-too-wide : writeLoop (15 ∷ 300 ∷ 3 ∷ replicate 77 0) (5 ∷ []) ≡ reply (25 + 256 * 0) (5 ∷ [])
   -- PTS, decoding time and match time, a TREF that stood there, and the end of the header
   pub times : readTimes
       (0x00 ∷ 0x00 ∷ 0x01 ∷ 0xE0 ∷ 0x00 ∷ 0x00 ∷ 0x84 ∷ 0xC1 ∷ 0x12 ∷ 0x31 ∷ 0x00 ∷ 0x01 ∷ 0x07 ∷ 0x09 ∷ 0x11 ∷ 0x00 ∷ 0x01 ∷ 0x04 ∷ 0xB1 ∷ 0x0F ∷ 0x86 ∷ 0xFE ∷ 0xF1 ∷ 0x00 ∷ 0x01 ∷ 0x02 ∷ 0x59 ∷ [])
@@ -64,7 +67,7 @@ pub record Pinned : Type 0 where
   pub for-c : ForCPinned
 
 for-c-pinned : ForCPinned
-unfolding size edgesOf membersOf headOf tailOf
+unfolding size edgesOf membersOf headOf tailOf rowTooWide entryIn
 for-c-pinned =
     record {
       closure = refl;
@@ -74,6 +77,8 @@ for-c-pinned =
       entries-read = refl;
       hierarchy-row = refl;
       extension-row = refl;
+      entries-written = refl;
+      record-too-wide = refl;
       times = refl;
       imported = refl;
       joined = refl;
