@@ -1,14 +1,17 @@
 -- DEMAND 1. 'Every loop, packet header, row table and output buffer gets an answer that ends, whether the bytes are sound or damaged. The refusal
 -- is one of the listed numbers, given exactly under its listed condition, and the output buffers then hold what they held before.'
 --
--- One statement for all calls that refuse: each keeps the promise of Calls for whatever it is handed. Not among them are the calls that
--- refuse nothing, whose contracts are single equalities: `vocabulary`'s words, the tests of `judging`, the `clock`, `loop_layers::layers_of`
--- and `table_of`, and the text of `listing`.
+-- One statement for all calls that refuse, the seven functions for C among them: each keeps the promise of Calls for whatever it is handed. Not
+-- among them are the calls that refuse nothing, whose contracts are single equalities: `vocabulary`'s words, the tests of `judging`, the `clock`,
+-- `loop_layers::layers_of` and `table_of`, the text of `listing`, and `thq_version`.
 -- Assumes nothing.
-use Rattle.demands.specs.Calls.{Promised}
-use Rattle.demands.specs.Readers.{readLoop, loop-read, closureOfTarget, closure-found, closureOfLoop, loop-closure-found, readTimes, times-read}
-use Rattle.demands.specs.Writers.{writeLoop, loop-written, writeTimes, times-written}
-use Rattle.demands.specs.Joiners.{joinRows, rows-joined, importLoop, loop-imported}
+use Rattle.promised.specs.Calls.{Promised}
+use Rattle.promised.specs.Readers.{readLoop, loop-read, closureOfTarget, closure-found, closureOfLoop, loop-closure-found, readTimes, times-read}
+use Rattle.promised.specs.Writers.{writeLoop, loop-written, writeTimes, times-written}
+use Rattle.promised.specs.Joiners.{joinRows, rows-joined, importLoop, loop-imported}
+use Rattle.demands.specs.Told.{forC}
+use Rattle.demands.specs.ForC.{thqReadLoop, thqWriteLoop, thqClosure, thqReadTimes, thqWriteTimes, thqJoin, thqImport}
+use Rattle.demands.specs.ForCShown.{thq-loop-read, thq-loop-written, thq-closure-found, thq-times-read, thq-times-written, thq-rows-joined, thq-loop-imported}
 
 pub record Demand-1 : Type 0 where
   -- 1 to 10
@@ -27,6 +30,20 @@ pub record Demand-1 : Type 0 where
   pub joining-rows : Promised joinRows
   -- 1 to 17
   pub importing : Promised importLoop
+  -- 1 to 10, 17, 255
+  pub thq-read-loop : Promised (forC thqReadLoop)
+  -- 1, 3, 6 to 10, 17, 25
+  pub thq-write-loop : Promised (forC thqWriteLoop)
+  -- 1 to 12, 17, 255
+  pub thq-closure : Promised (forC thqClosure)
+  -- 17, 20 to 24
+  pub thq-read-times : Promised (forC thqReadTimes)
+  -- 17, 24, 25
+  pub thq-write-times : Promised (forC thqWriteTimes)
+  -- 11 to 17
+  pub thq-join : Promised (forC thqJoin)
+  -- 1 to 17, 255
+  pub thq-import : Promised (forC thqImport)
 
 pub demand-1 : Demand-1
 demand-1 =
@@ -39,4 +56,11 @@ demand-1 =
       writing-times = times-written;
       joining-rows = rows-joined;
       importing = loop-imported;
+      thq-read-loop = thq-loop-read;
+      thq-write-loop = thq-loop-written;
+      thq-closure = thq-closure-found;
+      thq-read-times = thq-times-read;
+      thq-write-times = thq-times-written;
+      thq-join = thq-rows-joined;
+      thq-import = thq-loop-imported;
     }

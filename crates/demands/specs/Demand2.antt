@@ -9,7 +9,7 @@
 use Prim.Native.Nat.{ℕ, _≤_}
 use mathlib.Core.List.{List, [], map}
 use mathlib.Core.Logic.{_↔_}
-use mathlib.Core.Path.{_≡_, sym}
+use mathlib.Core.Path.{_≡_, sym, _∙_}
 use lib.IntN.{ℤ}
 use lib.ListN.{length, take}
 use Rattle.combinators.specs.Padding.{padTo}
@@ -41,15 +41,14 @@ use Rattle.loop_layers.specs.Meaning.{LayersOf}
 use Rattle.joining.specs.declared.answer.Joined.{Joined}
 use Rattle.joining.specs.declared.answer.Joined.the-variants.{Units, Refused}
 use Rattle.rows.specs.Table.{Table}
-use Rattle.joining.specs.Joining.{joinedOf}
 use Rattle.joining.specs.Meaning.{FirstRow, NoRow, InOrder, Assembles, NoAssembly, SharesRow, TargetRow, Accepted}
 use Rattle.joining.specs.Meaning as Joining
 use Rattle.joining.proofs.Meant as joining
 use Rattle.importing.specs.Meaning as Import
-use Rattle.demands.specs.Calls.{Promised}
-use Rattle.demands.specs.Readers.{readLoop, loop-read, readTimes, times-read}
-use Rattle.demands.specs.Writers.{writeLoop, loop-written, writeTimes, times-written}
-use Rattle.demands.specs.Joiners.{Lists, RowsGiven, joinRows, rows-joined, ImportGiven, importLoop, loop-imported}
+use Rattle.promised.specs.Calls.{Promised}
+use Rattle.promised.specs.Readers.{readLoop, loop-read, readTimes, times-read}
+use Rattle.promised.specs.Writers.{writeLoop, loop-written, writeTimes, times-written}
+use Rattle.promised.specs.Joiners.{Lists, RowsGiven, joinRows, rowsJoinedComputed, rows-joined, ImportGiven, importLoop, loop-imported}
 
 -- 'read and written as H.222.0 and its layered-video amendments lay them out': each call's answer has its meaning, and nothing else has; and
 -- the round trips of document 01, 'reading what a writer wrote gives back what was given, and rewriting gives the same bytes for headers
@@ -72,10 +71,10 @@ pub record ReadAndWritten : Type 0 where
       → readOf bytes ≡ Times.Times pts decoding matching → headerOf pts decoding matching ≡ bytes
 
 -- THE UNITS of an accepted table, and what the two lists then hold: over a closure, a table in range and in order, and no row in two units
-pub record OneUnitEach (layers : Layers) (target : ℕ) (rows : Table) (before : Lists) (closure units left : ℕ) (after : Lists) : Type 0 where
-  pub in-order : InOrder layers target closure rows
-  pub in-one-unit : NoRow rows (SharesRow layers target rows)
-  pub accepted : Accepted layers target rows (before .numbers) (before .lags) units left (after .numbers) (after .lags)
+pub record OneUnitEach (given : RowsGiven) (closure units left : ℕ) (after : Lists) : Type 0 where
+  pub in-order : InOrder (given .layers) (given .target) closure (given .rows)
+  pub in-one-unit : NoRow (given .rows) (SharesRow (given .layers) (given .target) (given .rows))
+  pub accepted : Accepted (given .layers) (given .target) (given .rows) (given .lists .numbers) (given .lists .lags) units left (after .numbers) (after .lags)
 
 -- the same from the bytes of a loop: in the layers of its entries
 pub record OneUnitEachOfLoop (given : ImportGiven) (closure units left : ℕ) (after : Lists) : Type 0 where
@@ -83,33 +82,33 @@ pub record OneUnitEachOfLoop (given : ImportGiven) (closure units left : ℕ) (a
   pub layers : Layers
   pub loop-accepted : LoopMeaning.Answers (given .reading) (given .bytes) (accepted streams)
   pub layers-of-loop : LayersOf (map entryOf streams) layers
-  pub one-unit-each : OneUnitEach layers (given .target) (given .rows) (given .lists) closure units left after
+  pub one-unit-each : OneUnitEach (record { layers = layers; target = given .target; rows = given .rows; lists = given .lists }) closure units left after
 
 -- 'unpaired exactly when some unit has no such choice': at the first target row that has none
-pub record FirstUnpaired (layers : Layers) (target : ℕ) (rows : Table) (row : ℕ) : Type 0 where
+pub record FirstUnpaired (given : RowsGiven) (row : ℕ) : Type 0 where
   pub closure : ℕ
-  pub in-order : InOrder layers target closure rows
-  pub first : FirstRow rows (NoAssembly layers target rows) row
+  pub in-order : InOrder (given .layers) (given .target) closure (given .rows)
+  pub first : FirstRow (given .rows) (NoAssembly (given .layers) (given .target) (given .rows)) row
 
 -- 'otherwise as used twice exactly when two units would share a component': at the first target row whose unit shares one with an earlier
-pub record FirstSharing (layers : Layers) (target : ℕ) (rows : Table) (row : ℕ) : Type 0 where
+pub record FirstSharing (given : RowsGiven) (row : ℕ) : Type 0 where
   pub closure : ℕ
-  pub in-order : InOrder layers target closure rows
-  pub all-paired : NoRow rows (NoAssembly layers target rows)
-  pub first : FirstRow rows (SharesRow layers target rows) row
+  pub in-order : InOrder (given .layers) (given .target) closure (given .rows)
+  pub all-paired : NoRow (given .rows) (NoAssembly (given .layers) (given .target) (given .rows))
+  pub first : FirstRow (given .rows) (SharesRow (given .layers) (given .target) (given .rows)) row
 
+-- Of every run of the functions that join, by their contracts:
 pub record Joins : Type 0 where
   -- answered and written: neither alone is enough
-  pub units : (given : RowsGiven) (closure units left : ℕ) (after : Lists)
-      → ((joinRows .answer given ≡ Units closure units left) × (joinRows .after given ≡ after))
-      ↔ OneUnitEach (given .layers) (given .target) (given .rows) (given .lists) closure units left after
-  pub units-of-loop : (given : ImportGiven) (closure units left : ℕ) (after : Lists)
-      → ((importLoop .answer given ≡ Units closure units left) × (importLoop .after given ≡ after))
-      ↔ OneUnitEachOfLoop given closure units left after
-  pub unpaired : (layers : Layers) (target : ℕ) (rows : Table) (numbers : List ℕ) (lags : List ℤ) (row : ℕ)
-      → (joinedOf layers target rows (length numbers) (length lags) ≡ Refused (Unpaired row)) ↔ FirstUnpaired layers target rows row
-  pub used-twice : (layers : Layers) (target : ℕ) (rows : Table) (numbers : List ℕ) (lags : List ℤ) (row : ℕ)
-      → (joinedOf layers target rows (length numbers) (length lags) ≡ Refused (UsedTwice row)) ↔ FirstSharing layers target rows row
+  pub units : (run : joinRows .Ran) → joinRows .Ensures run → (closure units left : ℕ) (after : Lists)
+      → ((joinRows .answer run ≡ Units closure units left) × (joinRows .after run ≡ after)) ↔ OneUnitEach (joinRows .given run) closure units left after
+  pub units-of-loop : (run : importLoop .Ran) → importLoop .Ensures run → (closure units left : ℕ) (after : Lists)
+      → ((importLoop .answer run ≡ Units closure units left) × (importLoop .after run ≡ after))
+      ↔ OneUnitEachOfLoop (importLoop .given run) closure units left after
+  pub unpaired : (run : joinRows .Ran) → joinRows .Ensures run → (row : ℕ)
+      → (joinRows .answer run ≡ Refused (Unpaired row)) ↔ FirstUnpaired (joinRows .given run) row
+  pub used-twice : (run : joinRows .Ran) → joinRows .Ensures run → (row : ℕ)
+      → (joinRows .answer run ≡ Refused (UsedTwice row)) ↔ FirstSharing (joinRows .given run) row
   -- a target row has no two assemblies
   pub one-choice : (layers : Layers) (target closure : ℕ) (rows : Table) → InOrder layers target closure rows → (head : ℕ) → TargetRow target rows head
       → (choice other : ℕ → ℕ) → Assembles layers target rows head choice → Assembles layers target rows head other
@@ -120,15 +119,13 @@ pub record Demand-2 : Type 0 where
   pub joins : Joins
 
 -- what the meaning says of units
-one-unit-each : {layers : Layers} {target : ℕ} {rows : Table} {before after : Lists} {closure units left : ℕ}
-    → Joining.Answers layers target rows (before .numbers) (before .lags) (Units closure units left) (after .numbers) (after .lags)
-    → OneUnitEach layers target rows before closure units left after
+one-unit-each : {given : RowsGiven} {after : Lists} {closure units left : ℕ} → joinRows .Means given (Units closure units left) after
+    → OneUnitEach given closure units left after
 one-unit-each (Joining.joined o s a) = record { in-order = o; in-one-unit = s; accepted = a }
 
 units-meant : {given : RowsGiven} {answer : Joined} {lists after : Lists} {closure units left : ℕ} → joinRows .Means given answer lists
-    → answer ≡ Units closure units left → lists ≡ after
-    → OneUnitEach (given .layers) (given .target) (given .rows) (given .lists) closure units left after
-units-meant {given} means is-answer is-after = one-unit-each (rw (is-answer, is-after) at means)
+    → answer ≡ Units closure units left → lists ≡ after → OneUnitEach given closure units left after
+units-meant {given} means is-answer is-after = one-unit-each {given = given} (rw (is-answer, is-after) at means)
 
 imported-meant : {given : ImportGiven} {answer : Joined} {lists after : Lists} {closure units left : ℕ} → importLoop .Means given answer lists
     → answer ≡ Units closure units left → lists ≡ after → OneUnitEachOfLoop given closure units left after
@@ -139,7 +136,13 @@ imported-meant {given} means is-answer is-after = go (rw (is-answer, is-after) a
         (Units closure units left) (after .numbers) (after .lags)
         → OneUnitEachOfLoop given closure units left after
     go (Import.loop-accepted streams {layers} a m j) =
-        record { streams = streams; layers = layers; loop-accepted = a; layers-of-loop = m; one-unit-each = one-unit-each j }
+        record {
+          streams = streams;
+          layers = layers;
+          loop-accepted = a;
+          layers-of-loop = m;
+          one-unit-each = one-unit-each {given = record { layers = layers; target = given .target; rows = given .rows; lists = given .lists }} j;
+        }
 
 pub demand-2 : Demand-2
 demand-2 =
@@ -155,28 +158,27 @@ demand-2 =
         times-rewritten = λ own pts decoding matching read. times.rewriting-what-was-read own pts decoding matching read;
       };
       joins = record {
-        units = λ given closure units left after. (
-          λ e. units-meant (rows-joined .right given) (e .0) (e .1),
-          λ u. (let only = rows-joined .nothing-else given {after = after} (Joining.joined (u .in-order) (u .in-one-unit) (u .accepted)) in
-              (sym (only .0), sym (only .1))),
+        units = λ run ensured closure units left after. (
+          λ e. units-meant {given = joinRows .given run} (rows-joined .right run ensured) (e .0) (e .1),
+          λ u. rows-joined .no-other (joinRows .given run) {beside = after} (rows-joined .right run ensured)
+              (Joining.joined (u .in-order) (u .in-one-unit) (u .accepted)),
         );
-        units-of-loop = λ given closure units left after. (
-          λ e. imported-meant (loop-imported .right given) (e .0) (e .1),
+        units-of-loop = λ run ensured closure units left after. (
+          λ e. imported-meant {given = importLoop .given run} (loop-imported .right run ensured) (e .0) (e .1),
           λ u. (let each = u .one-unit-each in
-              let only = loop-imported .nothing-else given {after = after}
+              loop-imported .no-other (importLoop .given run) {beside = after} (loop-imported .right run ensured)
               (Import.loop-accepted (u .streams) (u .loop-accepted) (u .layers-of-loop)
-              (Joining.joined (each .in-order) (each .in-one-unit) (each .accepted))) in
-              (sym (only .0), sym (only .1))),
+              (Joining.joined (each .in-order) (each .in-one-unit) (each .accepted)))),
         );
-        unpaired = λ layers target rows numbers lags row. (
-          λ e. (let w = joining.given-15 layers target rows numbers lags row .0 e in record { closure = w .0; in-order = w .1; first = w .2 }),
-          λ u. joining.given-15 layers target rows numbers lags row .1 (u .closure, u .in-order, u .first),
-        );
-        used-twice = λ layers target rows numbers lags row. (
-          λ e. (let w = joining.given-16 layers target rows numbers lags row .0 e in
+        unpaired = λ run ensured row. (let same = rowsJoinedComputed .ensured run ensured .0 in (
+          λ e. (let w = joining.given-15 (joinRows .given run .layers) (joinRows .given run .target) (joinRows .given run .rows) (joinRows .given run .lists .numbers) (joinRows .given run .lists .lags) row .0 (sym same ∙ e) in record { closure = w .0; in-order = w .1; first = w .2 }),
+          λ u. same ∙ joining.given-15 (joinRows .given run .layers) (joinRows .given run .target) (joinRows .given run .rows) (joinRows .given run .lists .numbers) (joinRows .given run .lists .lags) row .1 (u .closure, u .in-order, u .first),
+        ));
+        used-twice = λ run ensured row. (let same = rowsJoinedComputed .ensured run ensured .0 in (
+          λ e. (let w = joining.given-16 (joinRows .given run .layers) (joinRows .given run .target) (joinRows .given run .rows) (joinRows .given run .lists .numbers) (joinRows .given run .lists .lags) row .0 (sym same ∙ e) in
               record { closure = w .0; in-order = w .1; all-paired = w .2; first = w .3 }),
-          λ u. joining.given-16 layers target rows numbers lags row .1 (u .closure, u .in-order, u .all-paired, u .first),
-        );
+          λ u. same ∙ joining.given-16 (joinRows .given run .layers) (joinRows .given run .target) (joinRows .given run .rows) (joinRows .given run .lists .numbers) (joinRows .given run .lists .lags) row .1 (u .closure, u .in-order, u .all-paired, u .first),
+        ));
         one-choice = λ layers target closure rows ordered head is-target choice other a b layer rests.
             joining.at-most-one-assembly layers target rows [] [] closure ordered head is-target choice other a b layer rests;
       };

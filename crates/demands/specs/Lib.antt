@@ -1,9 +1,9 @@
-pub mod Calls
-pub mod Shown
-pub mod Readers
-pub mod Writers
-pub mod Joiners
+pub mod Told
+pub mod ToldShown
+pub mod ForC
+pub mod ForCShown
 pub mod Demand1
 pub mod Demand2
 pub mod Demand3
 pub mod Starred
+pub mod Pins

@@ -6,7 +6,6 @@ use mathlib.Core.List.{List, [], _∷_, _++_}
 use mathlib.Core.Option.{Option, none, some}
 use mathlib.Core.Path.{_≡_, refl}
 use denote.Ref.{now}
-use Rattle.vocabulary.specs.declared.refusal.Refusal.{Refusal}
 use Rattle.vocabulary.specs.declared.stream_types.Reading.{Reading}
 use Rattle.vocabulary.specs.Refusals.{numberOf}
 use Rattle.es_loop.specs.declared.reader.Outcome.{Outcome}
@@ -37,8 +36,8 @@ use Rattle.pes_reader.proofs.read.Kinds as read-times-kinds
 use Rattle.pes_reader.proofs.read.Reads as read-times
 use Rattle.pes_reader.specs.Meaning as Times
 use Rattle.pes_reader.specs.MeaningLaws as times
-use Rattle.demands.specs.Calls.{Run, Call, isListed, Promised}
-use Rattle.demands.specs.Shown.{promised, listed-first}
+use Rattle.promised.specs.Calls.{Run, Call, isListed, Promised}
+use Rattle.promised.specs.Shown.{Computed, promised, listed-first}
 
 -- ---- `es_loop::read_loop`: 'Loop reading uses 1 to 10'
 
@@ -83,18 +82,19 @@ read-listed (Loop.refuses short cuts (Loop.embedded-wrong a b) lower earlier) = 
 read-listed (Loop.refuses short cuts (Loop.embedded-many a b) lower earlier) = refl
 read-listed (Loop.accepts short cuts no-condition) = refl
 
-pub loop-read : Promised readLoop
-loop-read =
-    promised (record {
-      answerTo = λ given. loopRead (given .reading) (given .bytes);
-      leftBy = λ given. tt;
+pub loopReadComputed : Computed readLoop (λ given. loopRead (given .reading) (given .bytes)) (λ given. tt)
+loopReadComputed =
+    record {
       asks-nothing = λ run. tt;
       ensured = λ run e. (e, refl);
       right = λ given. loop.answer-meant (given .reading) (given .bytes);
       nothing-else = λ given means. (loop.answer-only (given .reading) (given .bytes) means, refl);
       listed = λ given. read-listed (loop.answer-meant (given .reading) (given .bytes));
       untouched = λ given number e. refl;
-    })
+    }
+
+pub loop-read : Promised readLoop
+loop-read = promised loopReadComputed
 
 -- ---- `closure::closure_of`: 'the target 11 and 12'
 
@@ -130,18 +130,19 @@ target-listed (Target.no-such-layer h) = refl
 target-listed (Target.absent here lowest) = refl
 target-listed (Target.complete here closure) = refl
 
-pub closure-found : Promised closureOfTarget
-closure-found =
-    promised (record {
-      answerTo = λ given. closureOf (given .layers) (given .target);
-      leftBy = λ given. tt;
+pub closureComputed : Computed closureOfTarget (λ given. closureOf (given .layers) (given .target)) (λ given. tt)
+closureComputed =
+    record {
       asks-nothing = λ run. tt;
       ensured = λ run e. (e, refl);
       right = λ given. target.meets (given .layers) (given .target);
       nothing-else = λ given means. (target.nothing-else (given .layers) (given .target) means, refl);
       listed = λ given. target-listed (target.meets (given .layers) (given .target));
       untouched = λ given number e. refl;
-    })
+    }
+
+pub closure-found : Promised closureOfTarget
+closure-found = promised closureComputed
 
 -- ---- `loop_layers::closure_of_loop`: 1 to 12
 
@@ -176,18 +177,19 @@ loop-target-listed (LoopTarget.loop-accepted streams a layers (Target.no-such-la
 loop-target-listed (LoopTarget.loop-accepted streams a layers (Target.absent here lowest)) = refl
 loop-target-listed (LoopTarget.loop-accepted streams a layers (Target.complete here closure)) = refl
 
-pub loop-closure-found : Promised closureOfLoop
-loop-closure-found =
-    promised (record {
-      answerTo = λ given. loopClosure (given .reading) (given .bytes) (given .target);
-      leftBy = λ given. tt;
+pub loopClosureComputed : Computed closureOfLoop (λ given. loopClosure (given .reading) (given .bytes) (given .target)) (λ given. tt)
+loopClosureComputed =
+    record {
       asks-nothing = λ run. tt;
       ensured = λ run e. (e, refl);
       right = λ given. loop-target.loop-answer-meant (given .reading) (given .bytes) (given .target);
       nothing-else = λ given means. (loop-target.loop-answer-only (given .reading) (given .bytes) (given .target) means, refl);
       listed = λ given. loop-target-listed (loop-target.loop-answer-meant (given .reading) (given .bytes) (given .target));
       untouched = λ given number e. refl;
-    })
+    }
+
+pub loop-closure-found : Promised closureOfLoop
+loop-closure-found = promised loopClosureComputed
 
 -- ---- `pes::read`: 'The PES reader uses 20 to 24'
 
@@ -221,15 +223,16 @@ times-listed (Times.wrong-marker a b) = refl
 times-listed (Times.pts-before-dts a b c) = refl
 times-listed (Times.times a b c) = refl
 
-pub times-read : Promised readTimes
-times-read =
-    promised (record {
-      answerTo = readOf;
-      leftBy = λ bytes. tt;
+pub timesReadComputed : Computed readTimes (readOf) (λ bytes. tt)
+timesReadComputed =
+    record {
       asks-nothing = λ run. tt;
       ensured = λ run e. (e, refl);
       right = λ bytes. times.answers-is bytes;
       nothing-else = λ bytes means. (times.answers-only bytes means, refl);
       listed = λ bytes. times-listed (times.answers-is bytes);
       untouched = λ bytes number e. refl;
-    })
+    }
+
+pub times-read : Promised readTimes
+times-read = promised timesReadComputed

@@ -4,7 +4,7 @@ use Prim.Native.Nat.{ℕ}
 use mathlib.Core.Bool.{true}
 use mathlib.Core.List.{List, [], _∷_}
 use mathlib.Core.Option.{Option, none, some}
-use mathlib.Core.Path.{_≡_, refl, sym, _∙_, ap}
+use mathlib.Core.Path.{_≡_, refl, _∙_, ap}
 use lib.ListN.{length, take}
 use denote.Ref.{now}
 use Rattle.vocabulary.specs.Refusals.{numberOf}
@@ -24,8 +24,8 @@ use Rattle.pes_writer.proofs.write.Kinds as write-times-kinds
 use Rattle.pes_writer.proofs.write.Reads as write-times
 use Rattle.pes_writer.specs.OwnShape as Times
 use Rattle.pes_writer.specs.OwnShapeLaws as times
-use Rattle.demands.specs.Calls.{Run, Call, isListed, Promised}
-use Rattle.demands.specs.Shown.{promised, not-refused}
+use Rattle.promised.specs.Calls.{Run, Call, isListed, Promised}
+use Rattle.promised.specs.Shown.{Computed, promised, not-refused}
 
 -- ---- `loop_writer::write_loop`: 'The loop writer .. uses 1, 3, 6 to 10 .., 17, 25'
 
@@ -81,11 +81,9 @@ written-untouched : (written : Written) (bytes out : List ℕ) (number : ℕ) �
 written-untouched (Written.Bytes n) bytes out number e = not-refused e
 written-untouched (Written.Refused r) bytes out number e = refl
 
-pub loop-written : Promised writeLoop
-loop-written =
-    promised (record {
-      answerTo = λ given. answer (length (given .out)) (given .count) (given .array);
-      leftBy = λ given. content (given .count) (given .array) (given .out);
+pub loopWrittenComputed : Computed writeLoop (λ given. answer (length (given .out)) (given .count) (given .array)) (λ given. content (given .count) (given .array) (given .out))
+loopWrittenComputed =
+    record {
       asks-nothing = λ run. tt;
       ensured = λ run e. e;
       right = λ given. record { answers = loop.answer-meant (length (given .out)) (given .count) (given .array); holds = refl };
@@ -93,13 +91,16 @@ loop-written =
       listed = λ given. written-listed (loop.answer-meant (length (given .out)) (given .count) (given .array));
       untouched = λ given number e. written-untouched (answer (length (given .out)) (given .count) (given .array))
           (loopBytes (take (given .count) (given .array))) (given .out) number e;
-    })
+    }
   where
     only : (given : EntriesGiven) {written : Written} {after : List ℕ} → WritesLoop given written after
         → (written ≡ answer (length (given .out)) (given .count) (given .array)) × (after ≡ content (given .count) (given .array) (given .out))
     only given means =
         let same = loop.answer-only (length (given .out)) (given .count) (given .array) (means .answers) in
         (same, means .holds ∙ ap (λ (w : Written). contentAfter w (loopBytes (take (given .count) (given .array))) (given .out)) same)
+
+pub loop-written : Promised writeLoop
+loop-written = promised loopWrittenComputed
 
 -- ---- `pes::write`: 'its writer 24, 25, 17'
 
@@ -149,21 +150,22 @@ times-untouched : (written : TimesWritten) (bytes out : List ℕ) (number : ℕ)
 times-untouched (TimesWritten.Bytes n) bytes out number e = not-refused e
 times-untouched (TimesWritten.Refused r) bytes out number e = refl
 
-pub times-written : Promised writeTimes
-times-written =
-    promised (record {
-      answerTo = timesAnswer;
-      leftBy = λ given. timesBuffer given (timesAnswer given);
+pub timesWrittenComputed : Computed writeTimes (timesAnswer) (λ given. timesBuffer given (timesAnswer given))
+timesWrittenComputed =
+    record {
       asks-nothing = λ run. tt;
       ensured = λ run e. (e .0, e .1 ∙ ap (timesBuffer (writeTimes .given run)) (e .0));
       right = λ given. times.writes-is (given .pts) (given .decoding) (given .matching) (given .out);
       nothing-else = λ given means. only given means;
       listed = λ given. times-written-listed (times.writes-is (given .pts) (given .decoding) (given .matching) (given .out));
       untouched = λ given number e. times-untouched (timesAnswer given) (headerOf (given .pts) (given .decoding) (given .matching)) (given .out) number e;
-    })
+    }
   where
     only : (given : TimesGiven) {written : TimesWritten} {after : List ℕ} → Times.Writes (given .pts) (given .decoding) (given .matching) (given .out) written after
         → (written ≡ timesAnswer given) × (after ≡ timesBuffer given (timesAnswer given))
     only given means =
         let both = times.writes-only (given .pts) (given .decoding) (given .matching) (given .out) means in
         (both .0, both .1 ∙ ap (timesBuffer given) (both .0))
+
+pub times-written : Promised writeTimes
+times-written = promised timesWrittenComputed

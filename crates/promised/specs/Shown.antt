@@ -7,12 +7,10 @@ use mathlib.Core.Option.{Option, none, some, Option·some-ne-none}
 use mathlib.Core.Path.{_≡_, refl, sym, _∙_, ap, subst₂}
 use Rattle.combinators.specs.Bools.{either-left, either-right}
 use Rattle.combinators.specs.Members.{member, member-append}
-use Rattle.demands.specs.Calls.{Call, isListed, Promised}
+use Rattle.promised.specs.Calls.{Call, isListed, Promised}
 
 -- By a definition that computes the answer, and one for the buffers, which are the function's by its contract.
-pub record Computed (call : Call) : Type 0 where
-  pub answerTo : call .Given → call .Answer
-  pub leftBy : call .Given → call .Buffers
+pub record Computed (call : Call) (answerTo : call .Given → call .Answer) (leftBy : call .Given → call .Buffers) : Type 0 where
   pub asks-nothing : (run : call .Ran) → call .Asks run
   pub ensured : (run : call .Ran) → call .Ensures run → (call .answer run ≡ answerTo (call .given run)) × (call .after run ≡ leftBy (call .given run))
   pub right : (given : call .Given) → call .Means given (answerTo given) (leftBy given)
@@ -21,19 +19,20 @@ pub record Computed (call : Call) : Type 0 where
   pub listed : (given : call .Given) → isListed (call .numbers) (call .numberIn (answerTo given)) ≡ true
   pub untouched : (given : call .Given) (number : ℕ) → call .numberIn (answerTo given) ≡ some number → leftBy given ≡ call .before given
 
-pub promised : {call : Call} → Computed call → Promised call
-promised {call} c =
+pub promised : {call : Call} {answerTo : call .Given → call .Answer} {leftBy : call .Given → call .Buffers} → Computed call answerTo leftBy
+    → Promised call
+promised {call} {answerTo} {leftBy} c =
     record {
       asks-nothing = c .asks-nothing;
       right = λ run e. along run e (c .right (call .given run));
-      one = λ given. record { answer = c .answerTo given; after = c .leftBy given; means = c .right given };
+      one = λ given. record { answer = answerTo given; after = leftBy given; means = c .right given };
       no-other = λ given means others. same given means others;
       listed = λ run e. ap (λ (answer : call .Answer). isListed (call .numbers) (call .numberIn answer)) (c .ensured run e .0) ∙ c .listed (call .given run);
       untouched = λ run e number refused. c .ensured run e .1
           ∙ c .untouched (call .given run) number (sym (ap (call .numberIn) (c .ensured run e .0)) ∙ refused);
     }
   where
-    along : (run : call .Ran) → call .Ensures run → call .Means (call .given run) (c .answerTo (call .given run)) (c .leftBy (call .given run))
+    along : (run : call .Ran) → call .Ensures run → call .Means (call .given run) (answerTo (call .given run)) (leftBy (call .given run))
         → call .Means (call .given run) (call .answer run) (call .after run)
     along run e means = subst₂ (call .Means (call .given run)) (sym (c .ensured run e .0)) (sym (c .ensured run e .1)) means
 

@@ -4,7 +4,7 @@ use Prim.Native.Nat.{ℕ}
 use mathlib.Core.Bool.{true}
 use mathlib.Core.List.{List, [], _∷_, _++_}
 use mathlib.Core.Option.{Option, none, some}
-use mathlib.Core.Path.{_≡_, refl, sym, _∙_, ap, ap₂}
+use mathlib.Core.Path.{_≡_, refl, _∙_, ap, ap₂}
 use lib.IntN.{ℤ}
 use lib.ListN.{length}
 use denote.Ref.{now}
@@ -25,9 +25,9 @@ use Rattle.importing.proofs.import.Kinds as import-kinds
 use Rattle.importing.proofs.import.Reads as import-reads
 use Rattle.importing.specs.Meaning as Import
 use Rattle.importing.proofs.Meant as import
-use Rattle.demands.specs.Calls.{Run, Call, isListed, Promised}
-use Rattle.demands.specs.Shown.{promised, listed-first, listed-second, not-refused}
-use Rattle.demands.specs.Readers.{readLoop, closureOfTarget, read-listed, target-listed}
+use Rattle.promised.specs.Calls.{Run, Call, isListed, Promised}
+use Rattle.promised.specs.Shown.{Computed, promised, listed-first, listed-second, not-refused}
+use Rattle.promised.specs.Readers.{readLoop, closureOfTarget, read-listed, target-listed}
 
 -- the two output lists: row numbers, and a lag beside each
 pub record Lists : Type 0 where
@@ -128,11 +128,9 @@ rowsJoiner =
       lagsBy = λ given. lagsAfter (given .layers) (given .target) (given .rows);
     }
 
-pub rows-joined : Promised joinRows
-rows-joined =
-    promised (record {
-      answerTo = rowsJoiner .joined;
-      leftBy = λ given. after rowsJoiner given (rowsJoiner .joined given);
+pub rowsJoinedComputed : Computed joinRows (rowsJoiner .joined) (λ given. after rowsJoiner given (rowsJoiner .joined given))
+rowsJoinedComputed =
+    record {
       asks-nothing = λ run. tt;
       ensured = λ run e. equals rowsJoiner (joinRows .given run) (record { is-answer = e .0; is-numbers = e .1 .0; is-lags = e .1 .1 });
       right = right;
@@ -140,10 +138,13 @@ rows-joined =
           equals rowsJoiner given (record { is-answer = c .is-answer; is-numbers = c .is-numbers; is-lags = c .is-lags }));
       listed = λ given. joining-listed (right given);
       untouched = λ given. kept rowsJoiner given (record { numbers-kept = λ r. refl; lags-kept = λ r. refl }) (rowsJoiner .joined given);
-    })
+    }
   where
     right : (given : RowsGiven) → joinRows .Means given (rowsJoiner .joined given) (after rowsJoiner given (rowsJoiner .joined given))
     right given = joining.joined-meant (given .layers) (given .target) (given .rows) (given .lists .numbers) (given .lists .lags)
+
+pub rows-joined : Promised joinRows
+rows-joined = promised rowsJoinedComputed
 
 -- ---- `importing::import`: 1 to 17
 
@@ -194,11 +195,9 @@ importJoiner =
       lagsBy = λ given. importedLags (given .reading) (given .bytes) (given .target) (given .rows);
     }
 
-pub loop-imported : Promised importLoop
-loop-imported =
-    promised (record {
-      answerTo = importJoiner .joined;
-      leftBy = λ given. after importJoiner given (importJoiner .joined given);
+pub importComputed : Computed importLoop (importJoiner .joined) (λ given. after importJoiner given (importJoiner .joined given))
+importComputed =
+    record {
       asks-nothing = λ run. tt;
       ensured = λ run e. equals importJoiner (importLoop .given run) (record { is-answer = e .0; is-numbers = e .1 .0; is-lags = e .1 .1 });
       right = right;
@@ -206,9 +205,12 @@ loop-imported =
           equals importJoiner given (record { is-answer = c .is-answer; is-numbers = c .is-numbers; is-lags = c .is-lags }));
       listed = λ given. import-listed (right given);
       untouched = λ given. kept importJoiner given (record { numbers-kept = λ r. refl; lags-kept = λ r. refl }) (importJoiner .joined given);
-    })
+    }
   where
     right : (given : ImportGiven) → importLoop .Means given (importJoiner .joined given) (after importJoiner given (importJoiner .joined given))
     right given =
         import.import-meant (given .reading) (given .bytes) (given .target) (given .rows) (given .lists .numbers) (given .lists .lags)
         (record { is-answer = refl; is-numbers = refl; is-lags = refl })
+
+pub loop-imported : Promised importLoop
+loop-imported = promised importComputed

@@ -1,0 +1,237 @@
+-- LOOPS, pinned: derived by hand from document 01, each number given and narrowly not given; and one loop in which every field differs from every
+-- other, read, listed and written.
+-- Assumes nothing.
+use Prim.Native.Nat.{ℕ}
+use mathlib.Core.Bool.{Bool, true, false}
+use mathlib.Core.List.{List, [], _∷_, _++_, map}
+use mathlib.Core.Path.{_≡_, refl}
+use lib.ListN.{take, replicate}
+use Rattle.vocabulary.specs.declared.stream_types.Reading.{Reading}
+use Rattle.vocabulary.specs.declared.stream_types.Reading.the-variants.{Edition2009, Edition2015}
+use Rattle.vocabulary.specs.declared.refusal.Refusal.the-variants.{DoesNotFit, LoopTooLong, NoRoom, RepeatedLayerIndex, RepeatedPid, SecondRecord, TooManyEmbedded, TooWide, TypeNotAllowed, WrongEmbeddedIndex, WrongFlags, WrongLength}
+use Rattle.combinators.specs.Padding.{padTo}
+use Rattle.sets.specs.Sets.{size}
+use Rattle.text.specs.Text.{ascii, decimal, decimalWidth, texts}
+use Rattle.descriptors.specs.declared.records.Record.the-variants.{NoRecord, Hierarchy, Extension}
+use Rattle.es_loop.specs.declared.entries.Entry.{Entry}
+use Rattle.es_loop.specs.declared.reader.Outcome.{Outcome}
+use Rattle.es_loop.specs.declared.reader.Outcome.the-variants.{Accepted, Refused}
+use Rattle.es_loop.specs.Reading.{loopRead}
+use Rattle.closure.specs.declared.Closure.the-variants.{Complete}
+use Rattle.loop_layers.specs.Closures.{loopClosure}
+use Rattle.loop_writer.specs.declared.Written.{Written}
+use Rattle.loop_writer.specs.declared.Written.the-variants as Written
+use Rattle.loop_writer.specs.Writing.{answer, content}
+use Rattle.record_pins.specs.Records.{hierarchyPayload, hierarchy, extensionPayload, extension}
+use Rattle.listing.specs.Lines.{members, layerLine, lineAt, layersText, acceptedText, loopText}
+
+pub record Case : Type 0 where
+  pub reading : Reading
+  pub bytes : List ℕ
+  pub outcome : Outcome
+
+abbrev pub case : Reading → List ℕ → Outcome → Case
+case reading bytes outcome = record { reading = reading; bytes = bytes; outcome = outcome }
+
+abbrev pub loops : List Case
+loops =
+    -- 1: 1,008 bytes and 1,009
+    case Edition2009 ((0x02 ∷ 0xE1 ∷ 0x00 ∷ 0xF3 ∷ 0xEB ∷ []) ++ replicate 1003 0xFF) Accepted
+    ∷ case Edition2009 ((0x02 ∷ 0xE1 ∷ 0x00 ∷ 0xF3 ∷ 0xEC ∷ []) ++ replicate 1004 0xFF) (Refused LoopTooLong)
+    ∷ case Edition2015 ((0x02 ∷ 0xE1 ∷ 0x00 ∷ 0xF3 ∷ 0xEC ∷ []) ++ replicate 1004 0xFF) (Refused LoopTooLong)
+    -- 2: an entry of one byte too few; all 12 bits of its length count; a descriptor of one byte too few, on a known type alone
+    ∷ case Edition2015 (0x1B ∷ 0xE1 ∷ 0x00 ∷ 0xF0 ∷ 0x00 ∷ 0x1F ∷ 0xE1 ∷ 0x01 ∷ 0xF0 ∷ 0x00 ∷ []) Accepted
+    ∷ case Edition2015 (0x1B ∷ 0xE1 ∷ 0x00 ∷ 0xF0 ∷ 0x00 ∷ 0x1F ∷ 0xE1 ∷ 0x01 ∷ 0xF0 ∷ []) (Refused (DoesNotFit 1))
+    ∷ case Edition2015 (0x1B ∷ 0xE1 ∷ 0x00 ∷ 0xF4 ∷ 0x00 ∷ []) (Refused (DoesNotFit 0))
+    ∷ case Edition2009 (0x1B ∷ 0xE1 ∷ 0x00 ∷ 0xF0 ∷ 0x02 ∷ 0x05 ∷ 0x01 ∷ []) (Refused (DoesNotFit 0))
+    ∷ case Edition2009 (0x1B ∷ 0xE1 ∷ 0x00 ∷ 0xF0 ∷ 0x03 ∷ 0x05 ∷ 0x01 ∷ 0xAA ∷ []) Accepted
+    ∷ case Edition2015 (0x2C ∷ 0xE1 ∷ 0x00 ∷ 0xF0 ∷ 0x01 ∷ 0x04 ∷ []) Accepted
+    ∷ case Edition2009 (0x24 ∷ 0xE1 ∷ 0x00 ∷ 0xF0 ∷ 0x01 ∷ 0x04 ∷ []) Accepted
+    ∷ case Edition2015 (0x24 ∷ 0xE1 ∷ 0x00 ∷ 0xF0 ∷ 0x01 ∷ 0x04 ∷ []) (Refused (DoesNotFit 0))
+    -- 3: a PID twice, on whatever type; 13 bits of it count
+    ∷ case Edition2009 (0x1B ∷ 0xE1 ∷ 0x00 ∷ 0xF0 ∷ 0x00 ∷ 0x0F ∷ 0xE1 ∷ 0x00 ∷ 0xF0 ∷ 0x00 ∷ []) (Refused (RepeatedPid 1))
+    ∷ case Edition2015 (0x1B ∷ 0xE1 ∷ 0x00 ∷ 0xF0 ∷ 0x00 ∷ 0x0F ∷ 0xE1 ∷ 0x01 ∷ 0xF0 ∷ 0x00 ∷ []) Accepted
+    ∷ case Edition2015 (0x0F ∷ 0xE1 ∷ 0x00 ∷ 0xF0 ∷ 0x00 ∷ 0x0F ∷ 0xF1 ∷ 0x00 ∷ 0xF0 ∷ 0x00 ∷ []) Accepted
+    ∷ case Edition2015 (0x02 ∷ 0xE0 ∷ 0x01 ∷ 0xF0 ∷ 0x00 ∷ 0x02 ∷ 0xE0 ∷ 0x02 ∷ 0xF0 ∷ 0x00 ∷ 0x02 ∷ 0xE0 ∷ 0x02 ∷ 0xF0 ∷ 0x00 ∷ 0x02 ∷ 0xE0 ∷ 0x01 ∷ 0xF0 ∷ 0x00 ∷ []) (Refused (RepeatedPid 2))
+    -- 4: a hierarchy descriptor of length 3, 4, 5; an extension of another length than its count demands, and too short to hold its count
+    ∷ case Edition2009 (0x1B ∷ 0xE1 ∷ 0x00 ∷ 0xF0 ∷ 0x05 ∷ 0x04 ∷ 0x03 ∷ 0xFF ∷ 0xC0 ∷ 0xFF ∷ []) (Refused (WrongLength 0))
+    ∷ case Edition2009 (0x1B ∷ 0xE1 ∷ 0x00 ∷ 0xF0 ∷ 0x06 ∷ 0x04 ∷ 0x04 ∷ 0xFF ∷ 0xC0 ∷ 0xFF ∷ 0xC0 ∷ []) Accepted
+    ∷ case Edition2015 (0x1B ∷ 0xE1 ∷ 0x00 ∷ 0xF0 ∷ 0x07 ∷ 0x04 ∷ 0x05 ∷ 0xFF ∷ 0xC0 ∷ 0xFF ∷ 0xC0 ∷ 0x00 ∷ []) (Refused (WrongLength 0))
+    ∷ case Edition2009 (0x0F ∷ 0xE1 ∷ 0x00 ∷ 0xF0 ∷ 0x02 ∷ 0x04 ∷ 0x00 ∷ []) Accepted
+    ∷ case Edition2015 (0x28 ∷ 0xE1 ∷ 0x00 ∷ 0xF0 ∷ 0x02 ∷ 0x3F ∷ 0x00 ∷ []) Accepted
+    ∷ case Edition2015 (0x28 ∷ 0xE1 ∷ 0x00 ∷ 0xF0 ∷ 0x07 ∷ 0x3F ∷ 0x05 ∷ 0x06 ∷ 0x00 ∷ 0x02 ∷ 0x04 ∷ 0x00 ∷ []) (Refused (WrongLength 0))
+    ∷ case Edition2015 (0x28 ∷ 0xE1 ∷ 0x00 ∷ 0xF0 ∷ 0x0A ∷ 0x3F ∷ 0x08 ∷ 0x06 ∷ 0x00 ∷ 0x02 ∷ 0x04 ∷ 0x00 ∷ 0xC1 ∷ 0xC0 ∷ 0xC0 ∷ []) Accepted
+    ∷ case Edition2015 (0x28 ∷ 0xE1 ∷ 0x00 ∷ 0xF0 ∷ 0x0A ∷ 0x3F ∷ 0x08 ∷ 0x06 ∷ 0x00 ∷ 0x02 ∷ 0x04 ∷ 0x00 ∷ 0xC2 ∷ 0xC0 ∷ 0xC0 ∷ []) (Refused (WrongLength 0))
+    ∷ case Edition2009 (0x1B ∷ 0xE1 ∷ 0x00 ∷ 0xF0 ∷ 0x03 ∷ 0x3F ∷ 0x01 ∷ 0x06 ∷ []) Accepted
+    -- 5: two records; the 2009 reading sees one of them
+    ∷ case Edition2015 (0x1B ∷ 0xE1 ∷ 0x00 ∷ 0xF0 ∷ 0x0C ∷ 0x04 ∷ 0x04 ∷ 0xFF ∷ 0xC0 ∷ 0xFF ∷ 0xC0 ∷ 0x04 ∷ 0x04 ∷ 0xFF ∷ 0xC1 ∷ 0xFF ∷ 0xC0 ∷ []) (Refused (SecondRecord 0))
+    ∷ case Edition2015 (0x1B ∷ 0xE1 ∷ 0x00 ∷ 0xF0 ∷ 0x0F ∷ 0x04 ∷ 0x04 ∷ 0xFF ∷ 0xC0 ∷ 0xFF ∷ 0xC0 ∷ 0x3F ∷ 0x07 ∷ 0x06 ∷ 0x00 ∷ 0x00 ∷ 0x04 ∷ 0x00 ∷ 0xC0 ∷ 0xC0 ∷ []) (Refused (SecondRecord 0))
+    ∷ case Edition2009 (0x1B ∷ 0xE1 ∷ 0x00 ∷ 0xF0 ∷ 0x0F ∷ 0x04 ∷ 0x04 ∷ 0xFF ∷ 0xC0 ∷ 0xFF ∷ 0xC0 ∷ 0x3F ∷ 0x07 ∷ 0x06 ∷ 0x00 ∷ 0x00 ∷ 0x04 ∷ 0x00 ∷ 0xC0 ∷ 0xC0 ∷ []) Accepted
+    -- 6: type 9 on 0x1B, and on 0x20; type 15 on 0x1F; an extension on 0x1B, and on 0x28
+    ∷ case Edition2015 (0x1B ∷ 0xE1 ∷ 0x00 ∷ 0xF0 ∷ 0x06 ∷ 0x04 ∷ 0x04 ∷ 0xF9 ∷ 0xC1 ∷ 0x40 ∷ 0xC0 ∷ []) (Refused (TypeNotAllowed 0))
+    ∷ case Edition2015 (0x20 ∷ 0xE1 ∷ 0x00 ∷ 0xF0 ∷ 0x06 ∷ 0x04 ∷ 0x04 ∷ 0xF9 ∷ 0xC1 ∷ 0x40 ∷ 0xC0 ∷ []) Accepted
+    ∷ case Edition2009 (0x1F ∷ 0xE1 ∷ 0x00 ∷ 0xF0 ∷ 0x06 ∷ 0x04 ∷ 0x04 ∷ 0xFF ∷ 0xC1 ∷ 0x40 ∷ 0xC0 ∷ []) (Refused (TypeNotAllowed 0))
+    ∷ case Edition2015 (0x1B ∷ 0xE1 ∷ 0x00 ∷ 0xF0 ∷ 0x09 ∷ 0x3F ∷ 0x07 ∷ 0x06 ∷ 0x00 ∷ 0x02 ∷ 0x04 ∷ 0x00 ∷ 0xC0 ∷ 0xC0 ∷ []) (Refused (TypeNotAllowed 0))
+    ∷ case Edition2009 (0x1B ∷ 0xE1 ∷ 0x00 ∷ 0xF0 ∷ 0x09 ∷ 0x3F ∷ 0x07 ∷ 0x06 ∷ 0x00 ∷ 0x02 ∷ 0x04 ∷ 0x00 ∷ 0xC0 ∷ 0xC0 ∷ []) Accepted
+    ∷ case Edition2015 (0x28 ∷ 0xE1 ∷ 0x00 ∷ 0xF0 ∷ 0x09 ∷ 0x3F ∷ 0x07 ∷ 0x06 ∷ 0x00 ∷ 0x02 ∷ 0x04 ∷ 0x00 ∷ 0xC0 ∷ 0xC0 ∷ []) Accepted
+    -- 7: one flag at 0 and two; no_view counts in 2015 alone; type 8 with all at 0; type 9 with one
+    ∷ case Edition2015 (0x1F ∷ 0xE1 ∷ 0x00 ∷ 0xF0 ∷ 0x06 ∷ 0x04 ∷ 0x04 ∷ 0x71 ∷ 0xC1 ∷ 0x40 ∷ 0xC0 ∷ []) Accepted
+    ∷ case Edition2015 (0x1F ∷ 0xE1 ∷ 0x00 ∷ 0xF0 ∷ 0x06 ∷ 0x04 ∷ 0x04 ∷ 0x31 ∷ 0xC1 ∷ 0x40 ∷ 0xC0 ∷ []) (Refused (WrongFlags 0))
+    ∷ case Edition2009 (0x1F ∷ 0xE1 ∷ 0x00 ∷ 0xF0 ∷ 0x06 ∷ 0x04 ∷ 0x04 ∷ 0x31 ∷ 0xC1 ∷ 0x40 ∷ 0xC0 ∷ []) Accepted
+    ∷ case Edition2009 (0x1F ∷ 0xE1 ∷ 0x00 ∷ 0xF0 ∷ 0x06 ∷ 0x04 ∷ 0x04 ∷ 0x11 ∷ 0xC1 ∷ 0x40 ∷ 0xC0 ∷ []) (Refused (WrongFlags 0))
+    ∷ case Edition2015 (0x1F ∷ 0xE1 ∷ 0x00 ∷ 0xF0 ∷ 0x06 ∷ 0x04 ∷ 0x04 ∷ 0x08 ∷ 0xC1 ∷ 0x40 ∷ 0xC0 ∷ []) Accepted
+    ∷ case Edition2015 (0x20 ∷ 0xE1 ∷ 0x00 ∷ 0xF0 ∷ 0x06 ∷ 0x04 ∷ 0x04 ∷ 0x79 ∷ 0xC1 ∷ 0x40 ∷ 0xC0 ∷ []) (Refused (WrongFlags 0))
+    ∷ case Edition2009 (0x20 ∷ 0xE1 ∷ 0x00 ∷ 0xF0 ∷ 0x06 ∷ 0x04 ∷ 0x04 ∷ 0x79 ∷ 0xC1 ∷ 0x40 ∷ 0xC0 ∷ []) Accepted
+    -- 8: an index held by an earlier layer; channel and nuh_layer_id are no index
+    ∷ case Edition2015 (0x1B ∷ 0xE1 ∷ 0x00 ∷ 0xF0 ∷ 0x06 ∷ 0x04 ∷ 0x04 ∷ 0xFF ∷ 0xC0 ∷ 0xFF ∷ 0xC0 ∷ 0x1F ∷ 0xE1 ∷ 0x01 ∷ 0xF0 ∷ 0x06 ∷ 0x04 ∷ 0x04 ∷ 0xF1 ∷ 0xC1 ∷ 0x40 ∷ 0xC0 ∷ 0x1F ∷ 0xE1 ∷ 0x02 ∷ 0xF0 ∷ 0x06 ∷ 0x04 ∷ 0x04 ∷ 0xF2 ∷ 0xC1 ∷ 0x40 ∷ 0xC0 ∷ []) (Refused (RepeatedLayerIndex 2))
+    ∷ case Edition2009 (0x1B ∷ 0xE1 ∷ 0x00 ∷ 0xF0 ∷ 0x06 ∷ 0x04 ∷ 0x04 ∷ 0xFF ∷ 0xC0 ∷ 0xFF ∷ 0xC0 ∷ 0x1F ∷ 0xE1 ∷ 0x01 ∷ 0xF0 ∷ 0x06 ∷ 0x04 ∷ 0x04 ∷ 0xF1 ∷ 0xC1 ∷ 0x40 ∷ 0xC0 ∷ 0x1F ∷ 0xE1 ∷ 0x02 ∷ 0xF0 ∷ 0x06 ∷ 0x04 ∷ 0x04 ∷ 0xF2 ∷ 0xC2 ∷ 0x40 ∷ 0xC0 ∷ []) Accepted
+    ∷ case Edition2015 (0x24 ∷ 0xE1 ∷ 0x00 ∷ 0xF0 ∷ 0x06 ∷ 0x04 ∷ 0x04 ∷ 0xFF ∷ 0xC0 ∷ 0xFF ∷ 0xC0 ∷ 0x28 ∷ 0xE1 ∷ 0x01 ∷ 0xF0 ∷ 0x0A ∷ 0x3F ∷ 0x08 ∷ 0x06 ∷ 0x00 ∷ 0x01 ∷ 0x04 ∷ 0x02 ∷ 0xC1 ∷ 0xC1 ∷ 0xC0 ∷ 0x2A ∷ 0xE1 ∷ 0x02 ∷ 0xF0 ∷ 0x0A ∷ 0x3F ∷ 0x08 ∷ 0x06 ∷ 0x00 ∷ 0x02 ∷ 0x08 ∷ 0x02 ∷ 0xC1 ∷ 0xC1 ∷ 0xC0 ∷ []) Accepted
+    -- 9: layer 1 on 0 and on 1; a base layer on whatever; an extension that lists a layer twice
+    ∷ case Edition2009 (0x1F ∷ 0xE1 ∷ 0x00 ∷ 0xF0 ∷ 0x06 ∷ 0x04 ∷ 0x04 ∷ 0xF1 ∷ 0xC1 ∷ 0x40 ∷ 0xC0 ∷ []) Accepted
+    ∷ case Edition2009 (0x1F ∷ 0xE1 ∷ 0x00 ∷ 0xF0 ∷ 0x06 ∷ 0x04 ∷ 0x04 ∷ 0xF1 ∷ 0xC1 ∷ 0x41 ∷ 0xC0 ∷ []) (Refused (WrongEmbeddedIndex 0))
+    ∷ case Edition2015 (0x1B ∷ 0xE1 ∷ 0x00 ∷ 0xF0 ∷ 0x06 ∷ 0x04 ∷ 0x04 ∷ 0xFF ∷ 0xC5 ∷ 0x7F ∷ 0xC0 ∷ []) Accepted
+    ∷ case Edition2015 (0x28 ∷ 0xE1 ∷ 0x00 ∷ 0xF0 ∷ 0x0B ∷ 0x3F ∷ 0x09 ∷ 0x06 ∷ 0x00 ∷ 0x01 ∷ 0x0C ∷ 0x02 ∷ 0xC2 ∷ 0xC0 ∷ 0xC1 ∷ 0xC0 ∷ []) Accepted
+    ∷ case Edition2015 (0x28 ∷ 0xE1 ∷ 0x00 ∷ 0xF0 ∷ 0x0B ∷ 0x3F ∷ 0x09 ∷ 0x06 ∷ 0x00 ∷ 0x01 ∷ 0x0C ∷ 0x02 ∷ 0xC2 ∷ 0xC0 ∷ 0xC0 ∷ 0xC0 ∷ []) (Refused (WrongEmbeddedIndex 0))
+    -- 10: 8 embedded layers, and 9
+    ∷ case Edition2015 (0x28 ∷ 0xE1 ∷ 0x00 ∷ 0xF0 ∷ 0x11 ∷ 0x3F ∷ 0x0F ∷ 0x06 ∷ 0x00 ∷ 0x01 ∷ 0x20 ∷ 0x02 ∷ 0xC8 ∷ 0xC0 ∷ 0xC0 ∷ 0xC1 ∷ 0xC2 ∷ 0xC3 ∷ 0xC4 ∷ 0xC5 ∷ 0xC6 ∷ 0xC7 ∷ []) Accepted
+    ∷ case Edition2015 (0x28 ∷ 0xE1 ∷ 0x00 ∷ 0xF0 ∷ 0x12 ∷ 0x3F ∷ 0x10 ∷ 0x06 ∷ 0x00 ∷ 0x01 ∷ 0x24 ∷ 0x02 ∷ 0xC9 ∷ 0xC0 ∷ 0xC0 ∷ 0xC1 ∷ 0xC2 ∷ 0xC3 ∷ 0xC4 ∷ 0xC5 ∷ 0xC6 ∷ 0xC7 ∷ 0xC8 ∷ []) (Refused (TooManyEmbedded 0))
+    ∷ []
+
+-- A loop in which every field differs from every other:
+abbrev pub distinct : List ℕ
+distinct =
+    -- AVC, PID 298: type 15, index 7, TREF, embedded index 63, which names nothing, channel 21
+    (0x1B ∷ 0xE1 ∷ 0x2A ∷ 0xF0 ∷ 0x06 ∷ 0x04 ∷ 0x04 ∷ 0xFF ∷ 0xC7 ∷ 0xFF ∷ 0xD5 ∷ [])
+    -- SVC, PID 300, on layer 7
+    ++ (0x1F ∷ 0xE1 ∷ 0x2C ∷ 0xF0 ∷ 0x06 ∷ 0x04 ∷ 0x04 ∷ []) ++ hierarchyPayload
+    -- HEVC, PID 301, on layers 9 and 7
+    ++ (0x29 ∷ 0xE1 ∷ 0x2D ∷ 0xF0 ∷ 0x0B ∷ 0x3F ∷ 0x09 ∷ []) ++ extensionPayload
+
+abbrev pub distinctEntries : List Entry
+distinctEntries =
+    record {
+      «stream_type» = 27;
+      pid = 298;
+      «record» = Hierarchy (record {
+        «no_view» = true;
+        «no_temporal» = true;
+        «no_spatial» = true;
+        «no_quality» = true;
+        «hierarchy_type» = 15;
+        «layer_index» = record { 0 = 7 };
+        «tref_present_flag» = true;
+        «embedded_layer_index» = record { 0 = 63 };
+        channel = record { 0 = 21 };
+      });
+      embedded = replicate 63 (record { 0 = 0 });
+    }
+    ∷ record {
+      «stream_type» = 31;
+      pid = 300;
+      «record» = Hierarchy hierarchy;
+      embedded = replicate 63 (record { 0 = 0 });
+    }
+    ∷ record {
+      «stream_type» = 41;
+      pid = 301;
+      «record» = Extension extension;
+      embedded = padTo 63 (record { 0 = 0 }) (record { 0 = 9 } ∷ record { 0 = 7 } ∷ []);
+    }
+    ∷ []
+
+-- entries to be written: one without a record; one with a hierarchy record that enhances spatially, and temporally too where the flag is false; one with
+-- an extension that lists the layers from 0 on
+abbrev pub plainEntry : ℕ → Entry
+plainEntry pid = record { «stream_type» = 15; pid = pid; «record» = NoRecord; embedded = replicate 63 (record { 0 = 0 }) }
+
+abbrev pub layer : ℕ → ℕ → ℕ → Bool → ℕ → ℕ → Entry
+layer streamType pid type temporal index embedded =
+    record {
+      «stream_type» = streamType;
+      pid = pid;
+      «record» = Hierarchy (record {
+        «no_view» = true;
+        «no_temporal» = temporal;
+        «no_spatial» = false;
+        «no_quality» = true;
+        «hierarchy_type» = type;
+        «layer_index» = record { 0 = index };
+        «tref_present_flag» = true;
+        «embedded_layer_index» = record { 0 = embedded };
+        channel = record { 0 = 42 };
+      });
+      embedded = replicate 63 (record { 0 = 0 });
+    }
+
+abbrev pub onMany : ℕ → Entry
+onMany count =
+    record {
+      «stream_type» = 40;
+      pid = 301;
+      «record» = Extension (record {
+        «dimension_bits» = 0xABCD;
+        «layer_index» = record { 0 = 12 };
+        «temporal_id» = record { 0 = 6 };
+        «nuh_layer_id» = record { 0 = 33 };
+        «tref_present_flag» = true;
+        «num_embedded_layers» = count;
+        channel = record { 0 = 47 };
+      });
+      embedded = padTo 63 (record { 0 = 0 }) (map (λ (i : ℕ). record { 0 = i }) (0 ∷ 1 ∷ 2 ∷ 3 ∷ 4 ∷ 5 ∷ 6 ∷ 7 ∷ 8 ∷ 9 ∷ []));
+    }
+
+-- entries, how many of them, the places of the buffer, and what is answered
+pub record Write : Type 0 where
+  pub entries : List Entry
+  pub count : ℕ
+  pub room : ℕ
+  pub written : Written
+
+abbrev pub write : List Entry → ℕ → ℕ → Written → Write
+write entries count room written = record { entries = entries; count = count; room = room; written = written }
+
+abbrev pub writes : List Write
+writes =
+    -- 25: a PID of 8191 and 8192; hierarchy_type 16; an index of 64
+    write (plainEntry 8191 ∷ []) 1 5 (Written.Bytes 5)
+    ∷ write (plainEntry 8192 ∷ []) 1 5 (Written.Refused TooWide)
+    ∷ write (layer 27 300 16 true 9 7 ∷ []) 1 11 (Written.Refused TooWide)
+    ∷ write (layer 27 300 1 true 64 7 ∷ []) 1 11 (Written.Refused TooWide)
+    -- 1: 202 entries; 201 of one PID are 1,005 bytes: 3
+    ∷ write (replicate 201 (plainEntry 300)) 202 2000 (Written.Refused LoopTooLong)
+    ∷ write (replicate 201 (plainEntry 300)) 201 2000 (Written.Refused (RepeatedPid 1))
+    -- 3: the same PID, and another
+    ∷ write (plainEntry 300 ∷ plainEntry 300 ∷ []) 2 10 (Written.Refused (RepeatedPid 1))
+    ∷ write (plainEntry 300 ∷ plainEntry 301 ∷ []) 2 10 (Written.Bytes 10)
+    -- 6: type 9 on 0x1B; a record on a type that is not known; type 1 on 0x1F
+    ∷ write (layer 27 300 9 true 9 7 ∷ []) 1 11 (Written.Refused (TypeNotAllowed 0))
+    ∷ write (layer 44 300 1 true 9 7 ∷ []) 1 11 (Written.Refused (TypeNotAllowed 0))
+    ∷ write (layer 31 300 1 true 9 7 ∷ []) 1 11 (Written.Bytes 11)
+    -- 7: a second flag at 0
+    ∷ write (layer 31 300 1 false 9 7 ∷ []) 1 11 (Written.Refused (WrongFlags 0))
+    -- 8: the same index
+    ∷ write (layer 31 300 1 true 9 7 ∷ layer 31 301 1 true 9 7 ∷ []) 2 22 (Written.Refused (RepeatedLayerIndex 1))
+    ∷ write (layer 31 300 1 true 9 7 ∷ layer 31 301 1 true 10 7 ∷ []) 2 22 (Written.Bytes 22)
+    -- 9: on itself
+    ∷ write (layer 31 300 1 true 9 9 ∷ []) 1 11 (Written.Refused (WrongEmbeddedIndex 0))
+    -- 10: on 8 layers, and on 9
+    ∷ write (onMany 8 ∷ []) 1 22 (Written.Bytes 22)
+    ∷ write (onMany 9 ∷ []) 1 23 (Written.Refused (TooManyEmbedded 0))
+    -- 17: one place too few
+    ∷ write (plainEntry 300 ∷ []) 1 4 (Written.Refused NoRoom)
+    ∷ []
+
+pub record LoopsPinned : Type 0 where
+  pub outcomes : map (λ (c : Case). loopRead (c .reading) (c .bytes) .outcome) loops ≡ map (λ (c : Case). c .outcome) loops
+  pub read : take 3 (loopRead Edition2015 distinct .entries) ≡ distinctEntries
+  pub answers : map (λ (w : Write). answer (w .room) (w .count) (w .entries)) writes ≡ map (λ (w : Write). w .written) writes
+  pub written : (answer 38 3 distinctEntries ≡ Written.Bytes 38) × (content 3 distinctEntries (replicate 40 5) ≡ distinct ++ 5 ∷ 5 ∷ [])
+  pub closures : (loopClosure Edition2015 distinct 12 ≡ Complete 0b1001010000000) × (loopClosure Edition2009 distinct 9 ≡ Complete 0b1010000000)
+  pub listed : loopText Edition2015 distinct
+      ≡ ascii "accepted 3\nlayer 7 pid 298 type 27 channel 21 closure 7\nlayer 9 pid 300 type 31 channel 42 closure 7 9\nlayer 12 pid 301 type 41 channel 47 closure 7 9 12\n"
+  pub listed-in-2009 : loopText Edition2009 distinct
+      ≡ ascii "accepted 2\nlayer 7 pid 298 type 27 channel 21 closure 7\nlayer 9 pid 300 type 31 channel 42 closure 7 9\n"
+
+pub loops-pinned : LoopsPinned
+unfolding loopText size acceptedText layersText lineAt layerLine members texts decimal decimalWidth
+loops-pinned = record { outcomes = refl; read = refl; answers = refl; written = (refl, refl); closures = (refl, refl); listed = refl; listed-in-2009 = refl }

@@ -1,0 +1,308 @@
+-- THE SEVEN FUNCTIONS FOR C, each as a call: what include/thoquenry.h says that it tells of a call of the library.
+-- Assumes nothing.
+use Prim.Native.Nat.{ℕ, _*_}
+use mathlib.Core.Bool.{cond}
+use mathlib.Core.List.{List, [], _∷_, _++_}
+use lib.Dec.{ltb}
+use lib.IntN.{ℤ}
+use lib.ListN.{length, take}
+use denote.Ref.{now}
+use Rattle.buffers.specs.Buffers.{over}
+use Rattle.sets.specs.Sets.{size}
+use Rattle.vocabulary.specs.declared.refusal.Refusal.the-variants.{NoRoom, TooWide}
+use Rattle.es_loop.specs.declared.entries.Entry.{Entry}
+use Rattle.es_loop.specs.declared.reader.Outcome.{Outcome}
+use Rattle.es_loop.specs.declared.reader.Outcome.the-variants as Outcome
+use Rattle.es_loop.specs.declared.reader.LoopRead.{LoopRead}
+use Rattle.closure.specs.declared.Closure.{Closure}
+use Rattle.closure.specs.declared.Closure.the-variants as Closure
+use Rattle.loop_writer.specs.declared.Written.{Written}
+use Rattle.loop_writer.specs.declared.Written.the-variants as Written
+use Rattle.pes_reader.specs.declared.Answer.{Answer}
+use Rattle.pes_reader.specs.declared.Answer.the-variants as Answer
+use Rattle.pes_writer.specs.declared.Written.{Written as TimesWritten}
+use Rattle.pes_writer.specs.declared.Written.the-variants as TimesWritten
+use Rattle.joining.specs.declared.answer.Joined.{Joined}
+use Rattle.joining.specs.declared.answer.Joined.the-variants as Joined
+use Rattle.rows.specs.Table.{Table, table}
+use Rattle.entry_rows.specs.Rows.{rowsOf, someTooWide, rowCount, entriesIn}
+use Rattle.thoquenry.specs.Joins.{layersGiven}
+use Rattle.thoquenry.proofs.thq_read_loop.Kinds as read-loop-kinds
+use Rattle.thoquenry.proofs.thq_read_loop.Reads as read-loop
+use Rattle.thoquenry.proofs.thq_write_loop.Kinds as write-loop-kinds
+use Rattle.thoquenry.proofs.thq_write_loop.Reads as write-loop
+use Rattle.thoquenry.proofs.thq_closure.Kinds as closure-kinds
+use Rattle.thoquenry.proofs.thq_closure.Reads as closure
+use Rattle.thoquenry.proofs.thq_read_times.Kinds as read-times-kinds
+use Rattle.thoquenry.proofs.thq_read_times.Reads as read-times
+use Rattle.thoquenry.proofs.thq_write_times.Kinds as write-times-kinds
+use Rattle.thoquenry.proofs.thq_write_times.Reads as write-times
+use Rattle.thoquenry.proofs.thq_join.Kinds as join-kinds
+use Rattle.thoquenry.proofs.thq_join.Reads as join
+use Rattle.thoquenry.proofs.thq_import.Kinds as import-kinds
+use Rattle.thoquenry.proofs.thq_import.Reads as imports
+use Rattle.promised.specs.Calls.{Run}
+use Rattle.demands.specs.Told.{ForC, Told, counts, refuses, not-a-call, Says, Retells, If, ByYear}
+use Rattle.promised.specs.Readers.{readLoop, closureOfLoop, readTimes}
+use Rattle.promised.specs.Writers.{writeLoop, writeTimes}
+use Rattle.promised.specs.Joiners.{Lists, joinRows, importLoop}
+
+-- ---- thq_read_loop
+
+pub record ReadLoopGiven : Type 0 where
+  pub reading : ℕ
+  pub bytes : List ℕ
+  pub entries : List ℕ
+
+-- '`entries` receives 80 numbers for each entry, in loop order. Counts the entries. Refusals: 1 to 10, at an entry; 17 where `entries_length` is
+-- below 80 numbers for each entry.'
+abbrev pub loopTold : Outcome → ℕ → List Entry → List ℕ → Told (List ℕ)
+loopTold (Outcome.Refused refusal) count entries room = refuses refusal
+loopTold Outcome.Accepted count entries room = cond (ltb (length room) (length entries * 80)) (refuses NoRoom) (counts count (over (rowsOf entries) room))
+
+abbrev pub loopReadTold : LoopRead → List ℕ → Told (List ℕ)
+loopReadTold read room = loopTold (read .outcome) (read .count) (take (read .count) (read .entries)) room
+
+abbrev pub thqReadLoop : ForC
+thqReadLoop =
+    record {
+      Ran = Run 2 read-loop-kinds.ps read-loop-kinds.r;
+      Asks = λ run. read-loop.Pre (run .lifetimes) (run .handed);
+      Ensures = λ run. read-loop.Post (run .lifetimes) (run .handed) (run .answer) (run .left);
+      Given = ReadLoopGiven;
+      Buffers = List ℕ;
+      given = λ run. record { reading = run .handed .0; bytes = now (run .handed .1 .0); entries = now (run .handed .1 .1 .0) };
+      answer = λ run. run .answer;
+      before = λ given. given .entries;
+      after = λ run. now (run .left .1 .1 .0);
+      numbers = readLoop .numbers ++ 17 ∷ 255 ∷ [];
+      Means = λ given answer after. ByYear (given .reading)
+          (λ known. Retells readLoop (record { reading = known; bytes = given .bytes }) (λ read nothing. loopReadTold read (given .entries))
+          (given .entries) answer after)
+          (Says not-a-call (given .entries) answer after);
+    }
+
+-- ---- thq_write_loop
+
+pub record WriteLoopGiven : Type 0 where
+  pub entries : List ℕ
+  pub out : List ℕ
+
+-- 'Counts the bytes written to `out`.'
+abbrev pub writtenTold : Written → List ℕ → Told (List ℕ)
+writtenTold (Written.Bytes count) left = counts count left
+writtenTold (Written.Refused refusal) left = refuses refusal
+
+-- 'one entry for each 80 numbers of `entries`'; 'Refusals: 25 first, where a value is too wide for its field, a `record` above 2 and a flag above 1
+-- among them; then 1, which more than 201 entries give too; then 3 and 6 to 10, at an entry; then 17.'
+abbrev pub thqWriteLoop : ForC
+thqWriteLoop =
+    record {
+      Ran = Run 2 write-loop-kinds.ps write-loop-kinds.r;
+      Asks = λ run. write-loop.Pre (run .lifetimes) (run .handed);
+      Ensures = λ run. write-loop.Post (run .lifetimes) (run .handed) (run .answer) (run .left);
+      Given = WriteLoopGiven;
+      Buffers = List ℕ;
+      given = λ run. record { entries = now (run .handed .0); out = now (run .handed .1 .0) };
+      answer = λ run. run .answer;
+      before = λ given. given .out;
+      after = λ run. now (run .left .1 .0);
+      numbers = writeLoop .numbers;
+      Means = λ given answer after. If (someTooWide (given .entries)) (Says (refuses TooWide) (given .out) answer after)
+          (Retells writeLoop (record { count = rowCount (given .entries); array = entriesIn (given .entries); out = given .out }) writtenTold (given .out) answer after);
+    }
+
+-- ---- thq_closure
+
+pub record ClosureGiven : Type 0 where
+  pub reading : ℕ
+  pub bytes : List ℕ
+  pub target : ℕ
+  pub set : List ℕ
+
+-- '`set` receives one number, whose bit i is 1 when layer index i is one of them. Counts the layers. Refusals: 1 to 12; then 17 where `set_length`
+-- is 0.'
+abbrev pub closureTold : Closure → List ℕ → Told (List ℕ)
+closureTold (Closure.Refused refusal) room = refuses refusal
+closureTold (Closure.Complete members) room = cond (ltb (length room) 1) (refuses NoRoom) (counts (size members) (over (members ∷ []) room))
+
+abbrev pub thqClosure : ForC
+thqClosure =
+    record {
+      Ran = Run 2 closure-kinds.ps closure-kinds.r;
+      Asks = λ run. closure.Pre (run .lifetimes) (run .handed);
+      Ensures = λ run. closure.Post (run .lifetimes) (run .handed) (run .answer) (run .left);
+      Given = ClosureGiven;
+      Buffers = List ℕ;
+      given = λ run. record { reading = run .handed .0; bytes = now (run .handed .1 .0); target = run .handed .1 .1 .0; set = now (run .handed .1 .1 .1 .0) };
+      answer = λ run. run .answer;
+      before = λ given. given .set;
+      after = λ run. now (run .left .1 .1 .1 .0);
+      numbers = closureOfLoop .numbers ++ 17 ∷ 255 ∷ [];
+      Means = λ given answer after. ByYear (given .reading)
+          (λ known. Retells closureOfLoop (record { reading = known; bytes = given .bytes; target = given .target })
+          (λ found nothing. closureTold found (given .set)) (given .set) answer after)
+          (Says not-a-call (given .set) answer after);
+    }
+
+-- ---- thq_read_times
+
+pub record ReadTimesGiven : Type 0 where
+  pub bytes : List ℕ
+  pub times : List ℕ
+
+-- '`times` receives three numbers: PTS, decoding time and match time. Counts them, 3.'
+abbrev pub timesTold : Answer → List ℕ → Told (List ℕ)
+timesTold (Answer.Times pts decoding matching) room = counts 3 (over (pts ∷ decoding ∷ matching ∷ []) room)
+timesTold (Answer.Refused refusal) room = refuses refusal
+
+-- 'Refusals: 17 where `times_length` is below 3; then 20 to 24.'
+abbrev pub thqReadTimes : ForC
+thqReadTimes =
+    record {
+      Ran = Run 2 read-times-kinds.ps read-times-kinds.r;
+      Asks = λ run. read-times.Pre (run .lifetimes) (run .handed);
+      Ensures = λ run. read-times.Post (run .lifetimes) (run .handed) (run .answer) (run .left);
+      Given = ReadTimesGiven;
+      Buffers = List ℕ;
+      given = λ run. record { bytes = now (run .handed .0); times = now (run .handed .1 .0) };
+      answer = λ run. run .answer;
+      before = λ given. given .times;
+      after = λ run. now (run .left .1 .0);
+      numbers = 17 ∷ readTimes .numbers;
+      Means = λ given answer after. If (ltb (length (given .times)) 3) (Says (refuses NoRoom) (given .times) answer after)
+          (Retells readTimes (given .bytes) (λ read nothing. timesTold read (given .times)) (given .times) answer after);
+    }
+
+-- ---- thq_write_times
+
+pub record WriteTimesGiven : Type 0 where
+  pub pts : ℕ
+  pub decoding : ℕ
+  pub matching : ℕ
+  pub out : List ℕ
+
+-- 'Counts the bytes written to `out`.'
+abbrev pub timesWrittenTold : TimesWritten → List ℕ → Told (List ℕ)
+timesWrittenTold (TimesWritten.Bytes count) left = counts count left
+timesWrittenTold (TimesWritten.Refused refusal) left = refuses refusal
+
+-- 'Refusals: 25 where a time is 2^33 or more; then 17, 24.'
+abbrev pub thqWriteTimes : ForC
+thqWriteTimes =
+    record {
+      Ran = Run 1 write-times-kinds.ps write-times-kinds.r;
+      Asks = λ run. write-times.Pre (run .lifetimes) (run .handed);
+      Ensures = λ run. write-times.Post (run .lifetimes) (run .handed) (run .answer) (run .left);
+      Given = WriteTimesGiven;
+      Buffers = List ℕ;
+      given = λ run. record { pts = run .handed .0; decoding = run .handed .1 .0; matching = run .handed .1 .1 .0; out = now (run .handed .1 .1 .1 .0) };
+      answer = λ run. run .answer;
+      before = λ given. given .out;
+      after = λ run. now (run .left .1 .1 .1 .0);
+      numbers = writeTimes .numbers;
+      Means = λ given. Retells writeTimes (record { pts = given .pts; decoding = given .decoding; matching = given .matching; out = given .out })
+          timesWrittenTold (given .out);
+    }
+
+-- ---- thq_join and thq_import
+
+-- the three lists
+pub record Three : Type 0 where
+  pub numbers : List ℕ
+  pub lags : List ℤ
+  pub summary : List ℕ
+
+-- '`summary` receives three numbers: the set of the closure's layer indices, the number of units, and the number of closure rows in no unit. `numbers`
+-- receives the row numbers of the units ..; `lags` a lag beside each. Counts the places written to each of the two.' '17 where one of the three
+-- lists is too short.'
+abbrev pub joinedTold : Joined → Lists → List ℕ → Told Three
+joinedTold (Joined.Refused refusal) lists summary = refuses refusal
+joinedTold (Joined.Units set units leftOut) lists summary =
+    cond (ltb (length summary) 3) (refuses NoRoom)
+    (counts (units * size set) (record { numbers = lists .numbers; lags = lists .lags; summary = over (set ∷ units ∷ leftOut ∷ []) summary }))
+
+abbrev pub two : Three → Lists
+two three = record { numbers = three .numbers; lags = three .lags }
+
+pub record JoinGiven : Type 0 where
+  pub present : ℕ
+  pub embedded : List ℕ
+  pub target : ℕ
+  pub rows : Table
+  pub lists : Three
+
+-- 'Refusals: 11, 12; then 13 to 16; then 17'
+abbrev pub thqJoin : ForC
+thqJoin =
+    record {
+      Ran = Run 7 join-kinds.ps join-kinds.r;
+      Asks = λ run. join.Pre (run .lifetimes) (run .handed);
+      Ensures = λ run. join.Post (run .lifetimes) (run .handed) (run .answer) (run .left);
+      Given = JoinGiven;
+      Buffers = Three;
+      given = λ run. record {
+        present = run .handed .0;
+        embedded = now (run .handed .1 .0);
+        target = run .handed .1 .1 .0;
+        rows = table (now (run .handed .1 .1 .1 .0)) (now (run .handed .1 .1 .1 .1 .0)) (now (run .handed .1 .1 .1 .1 .1 .0));
+        lists = record {
+          numbers = now (run .handed .1 .1 .1 .1 .1 .1 .0);
+          lags = now (run .handed .1 .1 .1 .1 .1 .1 .1 .0);
+          summary = now (run .handed .1 .1 .1 .1 .1 .1 .1 .1 .0);
+        };
+      };
+      answer = λ run. run .answer;
+      before = λ given. given .lists;
+      after = λ run. record {
+        numbers = now (run .left .1 .1 .1 .1 .1 .1 .0);
+        lags = now (run .left .1 .1 .1 .1 .1 .1 .1 .0);
+        summary = now (run .left .1 .1 .1 .1 .1 .1 .1 .1 .0);
+      };
+      numbers = joinRows .numbers;
+      Means = λ given. Retells joinRows
+          (record { layers = layersGiven (given .present) (given .embedded); target = given .target; rows = given .rows; lists = two (given .lists) })
+          (λ joined lists. joinedTold joined lists (given .lists .summary)) (given .lists);
+    }
+
+pub record ImportGiven : Type 0 where
+  pub reading : ℕ
+  pub bytes : List ℕ
+  pub target : ℕ
+  pub rows : Table
+  pub lists : Three
+
+-- 'Refusals: 1 to 12; then 13 to 16; then 17'
+abbrev pub thqImport : ForC
+thqImport =
+    record {
+      Ran = Run 7 import-kinds.ps import-kinds.r;
+      Asks = λ run. imports.Pre (run .lifetimes) (run .handed);
+      Ensures = λ run. imports.Post (run .lifetimes) (run .handed) (run .answer) (run .left);
+      Given = ImportGiven;
+      Buffers = Three;
+      given = λ run. record {
+        reading = run .handed .0;
+        bytes = now (run .handed .1 .0);
+        target = run .handed .1 .1 .0;
+        rows = table (now (run .handed .1 .1 .1 .0)) (now (run .handed .1 .1 .1 .1 .0)) (now (run .handed .1 .1 .1 .1 .1 .0));
+        lists = record {
+          numbers = now (run .handed .1 .1 .1 .1 .1 .1 .0);
+          lags = now (run .handed .1 .1 .1 .1 .1 .1 .1 .0);
+          summary = now (run .handed .1 .1 .1 .1 .1 .1 .1 .1 .0);
+        };
+      };
+      answer = λ run. run .answer;
+      before = λ given. given .lists;
+      after = λ run. record {
+        numbers = now (run .left .1 .1 .1 .1 .1 .1 .0);
+        lags = now (run .left .1 .1 .1 .1 .1 .1 .1 .0);
+        summary = now (run .left .1 .1 .1 .1 .1 .1 .1 .1 .0);
+      };
+      numbers = importLoop .numbers ++ 255 ∷ [];
+      Means = λ given answer after. ByYear (given .reading)
+          (λ known. Retells importLoop
+          (record { reading = known; bytes = given .bytes; target = given .target; rows = given .rows; lists = two (given .lists) })
+          (λ joined lists. joinedTold joined lists (given .lists .summary)) (given .lists) answer after)
+          (Says not-a-call (given .lists) answer after);
+    }

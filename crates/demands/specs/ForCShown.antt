@@ -1,0 +1,422 @@
+-- The promises of the seven functions for C.
+-- Assumes nothing.
+use Prim.Native.Nat.{ℕ, _*_, _≤_}
+use mathlib.Core.Bool.{Bool, true, false, cond}
+use mathlib.Core.List.{List, [], _∷_}
+use mathlib.Core.Option.{some}
+use mathlib.Core.Path.{_≡_, refl, _∙_}
+use native.Mathlib.Omega.{arith}
+use lib.Dec.{ltb}
+use lib.ListN.{length, take}
+use Rattle.combinators.specs.Bools.{either-way}
+use Rattle.buffers.specs.Buffers.{over}
+use Rattle.sets.specs.Sets.{size}
+use Rattle.vocabulary.specs.declared.refusal.Refusal.the-variants.{NoRoom, TooWide}
+use Rattle.vocabulary.specs.declared.stream_types.Reading.{Reading}
+use Rattle.vocabulary.specs.Refusals.{numberOf}
+use Rattle.es_loop.specs.declared.entries.Entry.{Entry}
+use Rattle.es_loop.specs.declared.reader.Outcome.{Outcome}
+use Rattle.es_loop.specs.declared.reader.Outcome.the-variants as Outcome
+use Rattle.es_loop.specs.Reading.{loopRead}
+use Rattle.closure.specs.declared.Layers.{Layers}
+use Rattle.closure.specs.declared.Closure.{Closure}
+use Rattle.closure.specs.declared.Closure.the-variants as Closure
+use Rattle.loop_layers.specs.Closures.{loopClosure}
+use Rattle.loop_writer.specs.declared.Written.{Written}
+use Rattle.loop_writer.specs.declared.Written.the-variants as Written
+use Rattle.loop_layout.specs.Layout.{loopBytes}
+use Rattle.loop_writer.specs.Writing as LoopWriting
+use Rattle.pes_reader.specs.declared.Answer.{Answer}
+use Rattle.pes_reader.specs.declared.Answer.the-variants as Answer
+use Rattle.pes_reader.specs.Reading.{readOf}
+use Rattle.pes_writer.specs.declared.Written.{Written as TimesWritten}
+use Rattle.pes_writer.specs.declared.Written.the-variants as TimesWritten
+use Rattle.pes_writer.specs.Writing.{headerOf, writeOf, bufferOf}
+use Rattle.joining.specs.declared.answer.Joined.{Joined}
+use Rattle.joining.specs.declared.answer.Joined.the-variants as Joined
+use Rattle.rows.specs.Table.{Table}
+use Rattle.joining.specs.Joining.{joinedOf, numbersAfter, lagsAfter}
+use Rattle.importing.specs.Importing.{layersRead, importOf}
+use Rattle.entry_rows.specs.Rows.{rowsOf, someTooWide, rowCount, entriesIn}
+use Rattle.thoquenry.specs.declared.answers.Asked.{Asked}
+use Rattle.thoquenry.specs.Answers.{accepted, askedFor, Reply, reply, unchanged}
+use Rattle.thoquenry.specs.Loops.{loopLaid, rowsAsked, readLoop as cReadLoop, loopWritten, writeLoop as cWriteLoop, closureLaid, closureAsked, closureCall}
+use Rattle.thoquenry.specs.Times.{timesRead, readTimes as cReadTimes, bytesWritten}
+use Rattle.thoquenry.specs.Joins.{JoinReply, layersGiven, withSummary, joinReply, joinCall, importAsked}
+use Rattle.thoquenry.specs.Bounds.{SmallTimes, small-read, SmallHeader, small-header, SmallOutcome, small-loop, SmallWritten, small-written, SmallClosure, small-closure, size-short, Few, few-joined, few-imported, few-places}
+use Rattle.promised.specs.Calls.{isListed, Promised}
+use Rattle.promised.specs.Shown.{listed-first, listed-second}
+use Rattle.demands.specs.Told.{Told, counts, refuses, forC}
+use Rattle.demands.specs.ToldShown.{code, leaves, numberTold, Fits, told-promised, if-told, retold, toldByYear, each-year, by-year, asked}
+use Rattle.promised.specs.Readers.{outcomeNumber, readLoop, loopReadComputed, LoopTargetGiven, closureNumber, closureOfLoop, loopClosureComputed, timesNumber, readTimes, timesReadComputed}
+use Rattle.promised.specs.Writers.{EntriesGiven, TimesGiven, writtenNumber, writeLoop, loopWrittenComputed, timesWrittenNumber, writeTimes, timesWrittenComputed}
+use Rattle.promised.specs.Joiners.{Lists, RowsGiven, joinedNumber, joinRows, rowsJoinedComputed, ImportGiven as BaseImportGiven, importLoop, importComputed}
+use Rattle.demands.specs.ForC.{ReadLoopGiven, loopTold, loopReadTold, thqReadLoop, WriteLoopGiven, writtenTold, thqWriteLoop, ClosureGiven, closureTold, thqClosure, ReadTimesGiven, timesTold, thqReadTimes, WriteTimesGiven, timesWrittenTold, thqWriteTimes, Three, two, joinedTold, JoinGiven, thqJoin, ImportGiven, thqImport}
+
+-- ---- one buffer
+
+-- the reply that the function's contract names tells this
+abbrev Tells : Told (List ℕ) → List ℕ → Reply → Type 0
+Tells t before reply = (reply .answer ≡ code t) × (reply .buffer ≡ leaves t before)
+
+tells-either : (test : Bool) (t u : Told (List ℕ)) (before : List ℕ) (r s : Reply) → Tells t before r → Tells u before s
+    → Tells (cond test t u) before (cond test r s)
+tells-either true t u before r s p q = p
+tells-either false t u before r s p q = q
+
+-- ---- thq_read_loop
+
+loop-tells : (outcome : Outcome) (count : ℕ) (entries : List Entry) (room : List ℕ) → Tells (loopTold outcome count entries room) room (loopLaid outcome count entries room)
+loop-tells (Outcome.Refused refusal) count entries room = (refl, refl)
+loop-tells Outcome.Accepted count entries room =
+    tells-either (ltb (length room) (length entries * 80)) (refuses NoRoom) (counts count (over (rowsOf entries) room)) room
+    (unchanged NoRoom room) (reply (accepted count) (over (rowsOf entries) room)) (refl, refl) (refl, refl)
+
+loop-fits : (outcome : Outcome) (count : ℕ) (entries : List Entry) (room : List ℕ) → SmallOutcome outcome → count ≤ 32768 → Fits (loopTold outcome count entries room)
+loop-fits (Outcome.Refused refusal) count entries room h k = h
+loop-fits Outcome.Accepted count entries room h k =
+    either-way Fits (ltb (length room) (length entries * 80)) (refuses NoRoom) (counts count (over (rowsOf entries) room)) (omega arith) k
+
+loop-listed : (outcome : Outcome) (count : ℕ) (entries : List Entry) (room : List ℕ) → isListed (readLoop .numbers) (outcomeNumber outcome) ≡ true
+    → isListed (thqReadLoop .numbers) (numberTold (loopTold outcome count entries room)) ≡ true
+loop-listed (Outcome.Refused refusal) count entries room e = listed-first (readLoop .numbers) (17 ∷ 255 ∷ []) (some (numberOf refusal)) e
+loop-listed Outcome.Accepted count entries room e =
+    either-way (λ (t : Told (List ℕ)). isListed (thqReadLoop .numbers) (numberTold t) ≡ true) (ltb (length room) (length entries * 80)) (refuses NoRoom)
+    (counts count (over (rowsOf entries) room)) refl refl
+
+abbrev readLoopUnder : ReadLoopGiven → Reading → Told (List ℕ)
+readLoopUnder given reading = loopReadTold (loopRead reading (given .bytes)) (given .entries)
+
+abbrev toldReadLoop : ReadLoopGiven → Told (List ℕ)
+toldReadLoop given = toldByYear (given .reading) (readLoopUnder given)
+
+read-loop-replied : (given : ReadLoopGiven) → Tells (toldReadLoop given) (given .entries) (cReadLoop (given .reading) (given .bytes) (given .entries))
+read-loop-replied given =
+    asked (λ (a : Asked) (t : Told (List ℕ)). Tells t (given .entries) (rowsAsked a (given .bytes) (given .entries))) (readLoopUnder given) (given .reading)
+    (λ reading. (let read = loopRead reading (given .bytes) in
+    loop-tells (read .outcome) (read .count) (take (read .count) (read .entries)) (given .entries)))
+    (refl, refl)
+
+pub thq-loop-read : Promised (forC thqReadLoop)
+thq-loop-read =
+    told-promised thqReadLoop toldReadLoop (record {
+      asks-nothing = λ run. tt;
+      ensured = λ run e. (let given = thqReadLoop .given run in let replied = read-loop-replied given in (e .0 ∙ replied .0, e .1 ∙ replied .1));
+      exactly = λ given answer after. by-year (given .reading) (readLoopUnder given) (given .entries) answer after
+          (λ reading. retold loopReadComputed (record { reading = reading; bytes = given .bytes }) (λ read nothing. loopReadTold read (given .entries))
+          (given .entries) answer after);
+      fits = λ given. each-year Fits (given .reading) (readLoopUnder given)
+          (λ reading. (let read = loopRead reading (given .bytes) in let small = small-loop reading (given .bytes) in
+          loop-fits (read .outcome) (read .count) (take (read .count) (read .entries)) (given .entries) (small .0) (small .1)))
+          tt;
+      listed = λ given. each-year (λ (t : Told (List ℕ)). isListed (thqReadLoop .numbers) (numberTold t) ≡ true) (given .reading) (readLoopUnder given)
+          (λ reading. (let read = loopRead reading (given .bytes) in
+          loop-listed (read .outcome) (read .count) (take (read .count) (read .entries)) (given .entries)
+          (loopReadComputed .listed (record { reading = reading; bytes = given .bytes }))))
+          refl;
+      without-0 = refl;
+    })
+
+-- ---- thq_write_loop
+
+abbrev entriesGiven : WriteLoopGiven → EntriesGiven
+entriesGiven given = record { count = rowCount (given .entries); array = entriesIn (given .entries); out = given .out }
+
+abbrev entriesWritten : WriteLoopGiven → Written
+entriesWritten given = LoopWriting.answer (length (given .out)) (rowCount (given .entries)) (entriesIn (given .entries))
+
+abbrev entriesLeft : WriteLoopGiven → List ℕ
+entriesLeft given = LoopWriting.content (rowCount (given .entries)) (entriesIn (given .entries)) (given .out)
+
+abbrev toldWriteLoop : WriteLoopGiven → Told (List ℕ)
+toldWriteLoop given = cond (someTooWide (given .entries)) (refuses TooWide) (writtenTold (entriesWritten given) (entriesLeft given))
+
+written-tells : (written : Written) (bytes out : List ℕ)
+    → Tells (writtenTold written (LoopWriting.contentAfter written bytes out)) out (reply (loopWritten written) (LoopWriting.contentAfter written bytes out))
+written-tells (Written.Bytes count) bytes out = (refl, refl)
+written-tells (Written.Refused refusal) bytes out = (refl, refl)
+
+written-fits : (written : Written) (left : List ℕ) → SmallWritten written → Fits (writtenTold written left)
+written-fits (Written.Bytes count) left h = h
+written-fits (Written.Refused refusal) left h = h
+
+written-listed : (written : Written) (left : List ℕ) → isListed (writeLoop .numbers) (writtenNumber written) ≡ true
+    → isListed (writeLoop .numbers) (numberTold (writtenTold written left)) ≡ true
+written-listed (Written.Bytes count) left e = refl
+written-listed (Written.Refused refusal) left e = e
+
+write-loop-replied : (given : WriteLoopGiven) → Tells (toldWriteLoop given) (given .out) (cWriteLoop (given .entries) (given .out))
+write-loop-replied given =
+    tells-either (someTooWide (given .entries)) (refuses TooWide) (writtenTold (entriesWritten given) (entriesLeft given)) (given .out)
+    (unchanged TooWide (given .out)) (reply (loopWritten (entriesWritten given)) (entriesLeft given)) (refl, refl)
+    (written-tells (entriesWritten given) (loopBytes (take (rowCount (given .entries)) (entriesIn (given .entries)))) (given .out))
+
+pub thq-loop-written : Promised (forC thqWriteLoop)
+thq-loop-written =
+    told-promised thqWriteLoop toldWriteLoop (record {
+      asks-nothing = λ run. tt;
+      ensured = λ run e. (let given = thqWriteLoop .given run in let replied = write-loop-replied given in (e .0 ∙ replied .0, e .1 ∙ replied .1));
+      exactly = λ given answer after. if-told (someTooWide (given .entries)) (refuses TooWide) (writtenTold (entriesWritten given) (entriesLeft given)) (given .out) answer after
+          (λ s. s, λ s. s) (retold loopWrittenComputed (entriesGiven given) writtenTold (given .out) answer after);
+      fits = λ given. either-way Fits (someTooWide (given .entries)) (refuses TooWide) (writtenTold (entriesWritten given) (entriesLeft given)) (omega arith)
+          (written-fits (entriesWritten given) (entriesLeft given) (small-written (length (given .out)) (rowCount (given .entries)) (entriesIn (given .entries))));
+      listed = λ given. either-way (λ (t : Told (List ℕ)). isListed (thqWriteLoop .numbers) (numberTold t) ≡ true) (someTooWide (given .entries)) (refuses TooWide)
+          (writtenTold (entriesWritten given) (entriesLeft given)) refl
+          (written-listed (entriesWritten given) (entriesLeft given) (loopWrittenComputed .listed (entriesGiven given)));
+      without-0 = refl;
+    })
+
+-- ---- thq_closure
+
+closure-tells : (found : Closure) (room : List ℕ) → Tells (closureTold found room) room (closureLaid found room)
+closure-tells (Closure.Refused refusal) room = (refl, refl)
+closure-tells (Closure.Complete members) room =
+    tells-either (ltb (length room) 1) (refuses NoRoom) (counts (size members) (over (members ∷ []) room)) room
+    (unchanged NoRoom room) (reply (accepted (size members)) (over (members ∷ []) room)) (refl, refl) (refl, refl)
+
+closure-fits : (found : Closure) (room : List ℕ) → SmallClosure found → Fits (closureTold found room)
+closure-fits (Closure.Refused refusal) room h = h
+closure-fits (Closure.Complete members) room h =
+    let small : size members ≤ 64 = size-short members in
+    let few : size members ≤ 32768 = omega arith in
+    either-way Fits (ltb (length room) 1) (refuses NoRoom) (counts (size members) (over (members ∷ []) room)) (omega arith) few
+
+closure-listed : (found : Closure) (room : List ℕ) → isListed (closureOfLoop .numbers) (closureNumber found) ≡ true
+    → isListed (thqClosure .numbers) (numberTold (closureTold found room)) ≡ true
+closure-listed (Closure.Refused refusal) room e = listed-first (closureOfLoop .numbers) (17 ∷ 255 ∷ []) (some (numberOf refusal)) e
+closure-listed (Closure.Complete members) room e =
+    either-way (λ (t : Told (List ℕ)). isListed (thqClosure .numbers) (numberTold t) ≡ true) (ltb (length room) 1) (refuses NoRoom)
+    (counts (size members) (over (members ∷ []) room)) refl refl
+
+abbrev targetGiven : ClosureGiven → Reading → LoopTargetGiven
+targetGiven given reading = record { reading = reading; bytes = given .bytes; target = given .target }
+
+abbrev foundUnder : ClosureGiven → Reading → Closure
+foundUnder given reading = loopClosure reading (given .bytes) (given .target)
+
+abbrev closureUnder : ClosureGiven → Reading → Told (List ℕ)
+closureUnder given reading = closureTold (foundUnder given reading) (given .set)
+
+abbrev toldClosure : ClosureGiven → Told (List ℕ)
+toldClosure given = toldByYear (given .reading) (closureUnder given)
+
+closure-replied : (given : ClosureGiven) → Tells (toldClosure given) (given .set) (closureCall (given .reading) (given .bytes) (given .target) (given .set))
+closure-replied given =
+    asked (λ (a : Asked) (t : Told (List ℕ)). Tells t (given .set) (closureAsked a (given .bytes) (given .target) (given .set))) (closureUnder given)
+    (given .reading) (λ reading. closure-tells (foundUnder given reading) (given .set)) (refl, refl)
+
+pub thq-closure-found : Promised (forC thqClosure)
+thq-closure-found =
+    told-promised thqClosure toldClosure (record {
+      asks-nothing = λ run. tt;
+      ensured = λ run e. (let replied = closure-replied (thqClosure .given run) in (e .0 ∙ replied .0, e .1 ∙ replied .1));
+      exactly = λ given answer after. by-year (given .reading) (closureUnder given) (given .set) answer after
+          (λ reading. retold loopClosureComputed (targetGiven given reading) (λ found nothing. closureTold found (given .set)) (given .set) answer after);
+      fits = λ given. each-year Fits (given .reading) (closureUnder given)
+          (λ reading. closure-fits (foundUnder given reading) (given .set) (small-closure reading (given .bytes) (given .target))) tt;
+      listed = λ given. each-year (λ (t : Told (List ℕ)). isListed (thqClosure .numbers) (numberTold t) ≡ true) (given .reading) (closureUnder given)
+          (λ reading. closure-listed (foundUnder given reading) (given .set) (loopClosureComputed .listed (targetGiven given reading))) refl;
+      without-0 = refl;
+    })
+
+-- ---- thq_read_times
+
+times-tells : (read : Answer) (room : List ℕ) → Tells (timesTold read room) room (timesRead read room)
+times-tells (Answer.Times pts decoding matching) room = (refl, refl)
+times-tells (Answer.Refused refusal) room = (refl, refl)
+
+times-fits : (read : Answer) (room : List ℕ) → SmallTimes read → Fits (timesTold read room)
+times-fits (Answer.Times pts decoding matching) room h = omega arith
+times-fits (Answer.Refused refusal) room h = h
+
+times-listed : (read : Answer) (room : List ℕ) → isListed (readTimes .numbers) (timesNumber read) ≡ true
+    → isListed (thqReadTimes .numbers) (numberTold (timesTold read room)) ≡ true
+times-listed (Answer.Times pts decoding matching) room e = refl
+times-listed (Answer.Refused refusal) room e = listed-second (17 ∷ []) (readTimes .numbers) (some (numberOf refusal)) e
+
+abbrev timesSaid : ReadTimesGiven → Told (List ℕ)
+timesSaid given = timesTold (readOf (given .bytes)) (given .times)
+
+abbrev toldReadTimes : ReadTimesGiven → Told (List ℕ)
+toldReadTimes given = cond (ltb (length (given .times)) 3) (refuses NoRoom) (timesSaid given)
+
+read-times-replied : (given : ReadTimesGiven) → Tells (toldReadTimes given) (given .times) (cReadTimes (given .bytes) (given .times))
+read-times-replied given =
+    tells-either (ltb (length (given .times)) 3) (refuses NoRoom) (timesSaid given) (given .times)
+    (unchanged NoRoom (given .times)) (timesRead (readOf (given .bytes)) (given .times)) (refl, refl) (times-tells (readOf (given .bytes)) (given .times))
+
+pub thq-times-read : Promised (forC thqReadTimes)
+thq-times-read =
+    told-promised thqReadTimes toldReadTimes (record {
+      asks-nothing = λ run. tt;
+      ensured = λ run e. (let replied = read-times-replied (thqReadTimes .given run) in (e .0 ∙ replied .0, e .1 ∙ replied .1));
+      exactly = λ given answer after. if-told (ltb (length (given .times)) 3) (refuses NoRoom) (timesSaid given) (given .times) answer after
+          (λ s. s, λ s. s) (retold timesReadComputed (given .bytes) (λ read nothing. timesTold read (given .times)) (given .times) answer after);
+      fits = λ given. either-way Fits (ltb (length (given .times)) 3) (refuses NoRoom) (timesSaid given) (omega arith)
+          (times-fits (readOf (given .bytes)) (given .times) (small-read (given .bytes)));
+      listed = λ given. either-way (λ (t : Told (List ℕ)). isListed (thqReadTimes .numbers) (numberTold t) ≡ true) (ltb (length (given .times)) 3) (refuses NoRoom)
+          (timesSaid given) refl (times-listed (readOf (given .bytes)) (given .times) (timesReadComputed .listed (given .bytes)));
+      without-0 = refl;
+    })
+
+-- ---- thq_write_times
+
+abbrev timesGiven : WriteTimesGiven → TimesGiven
+timesGiven given = record { pts = given .pts; decoding = given .decoding; matching = given .matching; out = given .out }
+
+abbrev headerWritten : WriteTimesGiven → TimesWritten
+headerWritten given = writeOf (given .pts) (given .decoding) (given .matching) (length (given .out))
+
+abbrev headerBy : WriteTimesGiven → TimesWritten → List ℕ
+headerBy given written = bufferOf written (headerOf (given .pts) (given .decoding) (given .matching)) (given .out)
+
+abbrev toldWriteTimes : WriteTimesGiven → Told (List ℕ)
+toldWriteTimes given = timesWrittenTold (headerWritten given) (headerBy given (headerWritten given))
+
+header-tells : (given : WriteTimesGiven) (written : TimesWritten)
+    → Tells (timesWrittenTold written (headerBy given written)) (given .out) (reply (bytesWritten written) (headerBy given written))
+header-tells given (TimesWritten.Bytes count) = (refl, refl)
+header-tells given (TimesWritten.Refused refusal) = (refl, refl)
+
+header-fits : (written : TimesWritten) (left : List ℕ) → SmallHeader written → Fits (timesWrittenTold written left)
+header-fits (TimesWritten.Bytes count) left h = h
+header-fits (TimesWritten.Refused refusal) left h = h
+
+header-listed : (written : TimesWritten) (left : List ℕ) → isListed (writeTimes .numbers) (timesWrittenNumber written) ≡ true
+    → isListed (writeTimes .numbers) (numberTold (timesWrittenTold written left)) ≡ true
+header-listed (TimesWritten.Bytes count) left e = refl
+header-listed (TimesWritten.Refused refusal) left e = e
+
+pub thq-times-written : Promised (forC thqWriteTimes)
+thq-times-written =
+    told-promised thqWriteTimes toldWriteTimes (record {
+      asks-nothing = λ run. tt;
+      ensured = λ run e. (let given = thqWriteTimes .given run in let replied = header-tells given (headerWritten given) in (e .0 ∙ replied .0, e .1 ∙ replied .1));
+      exactly = λ given answer after. retold timesWrittenComputed (timesGiven given) timesWrittenTold (given .out) answer after;
+      fits = λ given. header-fits (headerWritten given) (headerBy given (headerWritten given)) (small-header (given .pts) (given .decoding) (given .matching) (length (given .out)));
+      listed = λ given. header-listed (headerWritten given) (headerBy given (headerWritten given)) (timesWrittenComputed .listed (timesGiven given));
+      without-0 = refl;
+    })
+
+-- ---- thq_join and thq_import
+
+-- the reply that the function's contract names tells this, with its three lists
+abbrev TellsThree : Told Three → Three → JoinReply → Type 0
+TellsThree t before reply =
+    (reply .answer ≡ code t) × (reply .numbers ≡ leaves t before .numbers) × (reply .lags ≡ leaves t before .lags) × (reply .summary ≡ leaves t before .summary)
+
+module _ (layers : Layers) (target : ℕ) (rows : Table) (lists : Three) where
+  abbrev listsBy : Joined → Lists
+  listsBy joined = record { numbers = numbersAfter layers target rows joined (lists .numbers); lags = lagsAfter layers target rows joined (lists .lags) }
+
+  abbrev joinedSaid : Joined → Told Three
+  joinedSaid joined = joinedTold joined (listsBy joined) (lists .summary)
+
+  joined-tells : (joined : Joined)
+      → TellsThree (joinedSaid joined) lists (joinReply layers target rows (withSummary (length (lists .summary)) joined) (lists .numbers) (lists .lags) (lists .summary))
+  joined-tells (Joined.Refused refusal) = (refl, refl, refl, refl)
+  joined-tells (Joined.Units set units leftOut) = by (ltb (length (lists .summary)) 3)
+    where
+      by : (short : Bool) → TellsThree
+          (cond short (refuses NoRoom) (counts (units * size set) (record {
+            numbers = listsBy (Joined.Units set units leftOut) .numbers;
+            lags = listsBy (Joined.Units set units leftOut) .lags;
+            summary = over (set ∷ units ∷ leftOut ∷ []) (lists .summary);
+          }))) lists
+          (joinReply layers target rows (cond short (Joined.Refused NoRoom) (Joined.Units set units leftOut)) (lists .numbers) (lists .lags) (lists .summary))
+      by true = (refl, refl, refl, refl)
+      by false = (refl, refl, refl, refl)
+
+joined-fits : (joined : Joined) (lists : Lists) (summary : List ℕ) → Few joined → Fits (joinedTold joined lists summary)
+joined-fits (Joined.Refused refusal) lists summary h = h
+joined-fits (Joined.Units set units leftOut) lists summary h =
+    either-way Fits (ltb (length summary) 3) (refuses NoRoom) _ (omega arith) (few-places units (size set) h (size-short set))
+
+joined-listed : (numbers : List ℕ) → isListed numbers (some 17) ≡ true → (joined : Joined) (lists : Lists) (summary : List ℕ)
+    → isListed numbers (joinedNumber joined) ≡ true → isListed numbers (numberTold (joinedTold joined lists summary)) ≡ true
+joined-listed numbers no-room (Joined.Refused refusal) lists summary e = e
+joined-listed numbers no-room (Joined.Units set units leftOut) lists summary e =
+    either-way (λ (t : Told Three). isListed numbers (numberTold t) ≡ true) (ltb (length summary) 3) (refuses NoRoom) _ no-room refl
+
+-- what the contract ensures, by the reply that it names
+by-reply : (t : Told Three) (before : Three) (reply : JoinReply) (answer : ℕ) (after : Three) → TellsThree t before reply
+    → (answer ≡ reply .answer) × (after .numbers ≡ reply .numbers) × (after .lags ≡ reply .lags) × (after .summary ≡ reply .summary)
+    → (answer ≡ code t) × (after ≡ leaves t before)
+by-reply t before reply answer after p e = (
+  e .0 ∙ p .0,
+  λ i. record { numbers = (e .1 ∙ p .1) i; lags = (e .2 ∙ p .2) i; summary = (e .3 ∙ p .3) i },
+)
+
+abbrev rowsGiven : JoinGiven → RowsGiven
+rowsGiven given =
+    record { layers = layersGiven (given .present) (given .embedded); target = given .target; rows = given .rows; lists = two (given .lists) }
+
+abbrev rowsJoined : JoinGiven → Joined
+rowsJoined given =
+    joinedOf (layersGiven (given .present) (given .embedded)) (given .target) (given .rows) (length (given .lists .numbers)) (length (given .lists .lags))
+
+abbrev toldJoin : JoinGiven → Told Three
+toldJoin given = joinedSaid (layersGiven (given .present) (given .embedded)) (given .target) (given .rows) (given .lists) (rowsJoined given)
+
+abbrev joinFor : JoinGiven → JoinReply
+joinFor given =
+    joinCall (given .present) (given .embedded) (given .target) (given .rows) (given .lists .numbers) (given .lists .lags) (given .lists .summary)
+
+join-replied : (given : JoinGiven) → TellsThree (toldJoin given) (given .lists) (joinFor given)
+join-replied given =
+    joined-tells (layersGiven (given .present) (given .embedded)) (given .target) (given .rows) (given .lists) (rowsJoined given)
+
+pub thq-rows-joined : Promised (forC thqJoin)
+thq-rows-joined =
+    told-promised thqJoin toldJoin (record {
+      asks-nothing = λ run. tt;
+      ensured = λ run e. by-reply (toldJoin (thqJoin .given run)) (thqJoin .before (thqJoin .given run)) (joinFor (thqJoin .given run)) (thqJoin .answer run)
+          (thqJoin .after run) (join-replied (thqJoin .given run)) (e .0, e .1 .0, e .1 .1 .0, e .1 .1 .1);
+      exactly = λ given answer after. retold rowsJoinedComputed (rowsGiven given) (λ joined lists. joinedTold joined lists (given .lists .summary)) (given .lists) answer after;
+      fits = λ given. joined-fits (rowsJoined given) _ (given .lists .summary)
+          (few-joined (layersGiven (given .present) (given .embedded)) (given .target) (given .rows) (length (given .lists .numbers)) (length (given .lists .lags)));
+      listed = λ given. joined-listed (joinRows .numbers) refl (rowsJoined given) _ (given .lists .summary) (rowsJoinedComputed .listed (rowsGiven given));
+      without-0 = refl;
+    })
+
+abbrev loopGiven : ImportGiven → Reading → BaseImportGiven
+loopGiven given reading = record { reading = reading; bytes = given .bytes; target = given .target; rows = given .rows; lists = two (given .lists) }
+
+abbrev importedUnder : ImportGiven → Reading → Joined
+importedUnder given reading =
+    importOf reading (given .bytes) (given .target) (given .rows) (length (given .lists .numbers)) (length (given .lists .lags))
+
+abbrev importUnder : ImportGiven → Reading → Told Three
+importUnder given reading =
+    joinedSaid (layersRead (loopRead reading (given .bytes))) (given .target) (given .rows) (given .lists) (importedUnder given reading)
+
+abbrev toldImport : ImportGiven → Told Three
+toldImport given = toldByYear (given .reading) (importUnder given)
+
+abbrev importFor : ImportGiven → Asked → JoinReply
+importFor given a =
+    importAsked a (given .bytes) (given .target) (given .rows) (given .lists .numbers) (given .lists .lags) (given .lists .summary)
+
+import-replied : (given : ImportGiven) → TellsThree (toldImport given) (given .lists) (importFor given (askedFor (given .reading)))
+import-replied given =
+    asked (λ (a : Asked) (t : Told Three). TellsThree t (given .lists) (importFor given a)) (importUnder given) (given .reading)
+    (λ reading. joined-tells (layersRead (loopRead reading (given .bytes))) (given .target) (given .rows) (given .lists) (importedUnder given reading))
+    (refl, refl, refl, refl)
+
+pub thq-loop-imported : Promised (forC thqImport)
+thq-loop-imported =
+    told-promised thqImport toldImport (record {
+      asks-nothing = λ run. tt;
+      ensured = λ run e. (let given = thqImport .given run in
+          by-reply (toldImport given) (given .lists) (importFor given (askedFor (given .reading))) (thqImport .answer run) (thqImport .after run)
+          (import-replied given) (e .0, e .1 .0, e .1 .1 .0, e .1 .1 .1));
+      exactly = λ given answer after. by-year (given .reading) (importUnder given) (given .lists) answer after
+          (λ reading. retold importComputed (loopGiven given reading) (λ joined lists. joinedTold joined lists (given .lists .summary)) (given .lists) answer after);
+      fits = λ given. each-year Fits (given .reading) (importUnder given)
+          (λ reading. joined-fits (importedUnder given reading) _ (given .lists .summary)
+          (few-imported reading (given .bytes) (given .target) (given .rows) (length (given .lists .numbers)) (length (given .lists .lags)))) tt;
+      listed = λ given. each-year (λ (t : Told Three). isListed (thqImport .numbers) (numberTold t) ≡ true) (given .reading) (importUnder given)
+          (λ reading. joined-listed (thqImport .numbers) refl (importedUnder given reading) _ (given .lists .summary)
+          (listed-first (importLoop .numbers) (255 ∷ []) (joinedNumber (importedUnder given reading)) (importComputed .listed (loopGiven given reading)))) refl;
+      without-0 = refl;
+    })

@@ -1,0 +1,95 @@
+-- THE PINS: beside the starred cases, cases that were derived by hand, all of them under one statement, `pins-hold`. A meaning rests on definitions; a
+-- definition that is changed together with the code is held by these. The words and the records are pinned in `word_pins` and `record_pins`, the calls in
+-- `call_pins`, and the functions for C here, by the numbers that they answer.
+-- Assumes nothing.
+use Prim.Native.Nat.{ℕ, _+_, _*_}
+use mathlib.Core.List.{List, [], _∷_, map}
+use mathlib.Core.Path.{_≡_, refl}
+use lib.IntN.{ℤ, pos, negsuc}
+use lib.ListN.{take, drop, replicate}
+use Rattle.sets.specs.Sets.{size}
+use Rattle.assembling.specs.Assemblies.{edgesOf, membersOf}
+use Rattle.rows.specs.Table.{Table, table}
+use Rattle.entry_rows.specs.Rows.{headOf, tailOf}
+use Rattle.thoquenry.specs.Answers.{Reply, reply}
+use Rattle.thoquenry.specs.Loops.{readLoop, closureCall}
+use Rattle.thoquenry.specs.Times.{readTimes}
+use Rattle.thoquenry.specs.Joins.{JoinReply, joinCall, importCall}
+use Rattle.word_pins.specs.Words.{WordsPinned, words-pinned}
+use Rattle.record_pins.specs.Records.{RecordsPinned, records-pinned}
+use Rattle.call_pins.specs.Loops.{distinct, LoopsPinned, loops-pinned}
+use Rattle.call_pins.specs.Times.{TimesPinned, times-pinned}
+use Rattle.call_pins.specs.Rows.{spare, RowsPinned, rows-pinned}
+
+-- what thq_join and thq_import leave: the number, the row numbers, the lags, and the summary
+abbrev pub leaves : ℕ → List ℕ → List ℤ → List ℕ → JoinReply
+leaves answer numbers lags summary = record { answer = answer; numbers = numbers; lags = lags; summary = summary }
+
+-- two layers, the second on the first, and four rows, the last with this match time
+abbrev pub joins : ℕ → List ℕ → JoinReply
+joins last summary =
+    joinCall 0b11 (0 ∷ 0b1 ∷ []) 1 (table (0 ∷ 1 ∷ 0 ∷ 1 ∷ []) (9000 ∷ 9000 ∷ 12600 ∷ 12000 ∷ []) (9000 ∷ 9000 ∷ 12600 ∷ last ∷ []))
+    (5 ∷ 5 ∷ 5 ∷ 5 ∷ []) (pos 5 ∷ pos 5 ∷ pos 5 ∷ pos 5 ∷ []) summary
+
+pub record ForCPinned : Type 0 where
+  -- number and place, or 0 and a count; the buffers untouched after a refusal, and beyond what was written
+  pub closure : closureCall 2015 distinct 12 (5 ∷ 5 ∷ []) ≡ reply (0 + 256 * 3) (0b1001010000000 ∷ 5 ∷ [])
+  pub no-such-layer : closureCall 2009 distinct 12 (5 ∷ 5 ∷ []) ≡ reply (11 + 256 * 0) (5 ∷ 5 ∷ [])
+  pub no-room : closureCall 2015 distinct 12 [] ≡ reply (17 + 256 * 0) []
+  pub no-call : closureCall 2014 distinct 12 (5 ∷ []) ≡ reply (255 + 256 * 0) (5 ∷ [])
+  -- the 80 numbers of an entry, in the header's order
+  pub entries-read : readLoop 2015 distinct (replicate 240 5) .answer ≡ 0 + 256 * 3
+  pub hierarchy-row : take 17 (drop 80 (readLoop 2015 distinct (replicate 240 5) .buffer))
+      ≡ 31 ∷ 300 ∷ 1 ∷ 1 ∷ 1 ∷ 0 ∷ 1 ∷ 1 ∷ 9 ∷ 0 ∷ 7 ∷ 42 ∷ 0 ∷ 0 ∷ 0 ∷ 0 ∷ 0 ∷ []
+  pub extension-row : take 19 (drop 160 (readLoop 2015 distinct (replicate 240 5) .buffer))
+      ≡ 41 ∷ 301 ∷ 2 ∷ 0 ∷ 0 ∷ 0 ∷ 0 ∷ 0 ∷ 12 ∷ 1 ∷ 0 ∷ 47 ∷ 0xABCD ∷ 6 ∷ 33 ∷ 2 ∷ 9 ∷ 7 ∷ 0 ∷ []
+  -- PTS, decoding time and match time
+  pub times : readTimes
+      (0x00 ∷ 0x00 ∷ 0x01 ∷ 0xE0 ∷ 0x00 ∷ 0x00 ∷ 0x84 ∷ 0xC1 ∷ 0x12 ∷ 0x31 ∷ 0x00 ∷ 0x01 ∷ 0x07 ∷ 0x09 ∷ 0x11 ∷ 0x00 ∷ 0x01 ∷ 0x04 ∷ 0xB1 ∷ 0x0F ∷ 0x86 ∷ 0xFE ∷ 0xF1 ∷ 0x00 ∷ 0x01 ∷ 0x02 ∷ 0x59 ∷ [])
+      (5 ∷ 5 ∷ 5 ∷ 5 ∷ []) ≡ reply (0 + 256 * 3) (900 ∷ 600 ∷ 300 ∷ 5 ∷ [])
+  -- the closure's set, one unit, and two closure rows in none; two places written to each list
+  pub imported : importCall 2015 distinct 9 spare (5 ∷ 5 ∷ 5 ∷ []) (pos 5 ∷ pos 5 ∷ []) (5 ∷ 5 ∷ 5 ∷ 5 ∷ [])
+      ≡ leaves (0 + 256 * 2) (0 ∷ 1 ∷ 5 ∷ []) (negsuc 9 ∷ pos 0 ∷ []) (0b1010000000 ∷ 1 ∷ 2 ∷ 5 ∷ [])
+  pub joined : joins 12600 (5 ∷ 5 ∷ 5 ∷ []) ≡ leaves (0 + 256 * 4) (0 ∷ 1 ∷ 2 ∷ 3 ∷ []) (pos 0 ∷ pos 0 ∷ pos 600 ∷ pos 0 ∷ []) (0b11 ∷ 2 ∷ 0 ∷ [])
+  pub unpaired : joins 12601 (5 ∷ 5 ∷ 5 ∷ []) ≡ leaves (15 + 256 * 3) (5 ∷ 5 ∷ 5 ∷ 5 ∷ []) (pos 5 ∷ pos 5 ∷ pos 5 ∷ pos 5 ∷ []) (5 ∷ 5 ∷ 5 ∷ [])
+  pub used-twice : joins 9000 (5 ∷ 5 ∷ 5 ∷ []) ≡ leaves (16 + 256 * 3) (5 ∷ 5 ∷ 5 ∷ 5 ∷ []) (pos 5 ∷ pos 5 ∷ pos 5 ∷ pos 5 ∷ []) (5 ∷ 5 ∷ 5 ∷ [])
+  pub no-room-for-summary : joins 12600 (5 ∷ 5 ∷ []) ≡ leaves (17 + 256 * 0) (5 ∷ 5 ∷ 5 ∷ 5 ∷ []) (pos 5 ∷ pos 5 ∷ pos 5 ∷ pos 5 ∷ []) (5 ∷ 5 ∷ [])
+
+pub record Pinned : Type 0 where
+  pub words : WordsPinned
+  pub records : RecordsPinned
+  pub loops : LoopsPinned
+  pub times : TimesPinned
+  pub rows : RowsPinned
+  pub for-c : ForCPinned
+
+for-c-pinned : ForCPinned
+unfolding size edgesOf membersOf headOf tailOf
+for-c-pinned =
+    record {
+      closure = refl;
+      no-such-layer = refl;
+      no-room = refl;
+      no-call = refl;
+      entries-read = refl;
+      hierarchy-row = refl;
+      extension-row = refl;
+      times = refl;
+      imported = refl;
+      joined = refl;
+      unpaired = refl;
+      used-twice = refl;
+      no-room-for-summary = refl;
+    }
+
+-- THE STATEMENT: every pin holds.
+pub pins-hold : Pinned
+pins-hold =
+    record {
+      words = words-pinned;
+      records = records-pinned;
+      loops = loops-pinned;
+      times = times-pinned;
+      rows = rows-pinned;
+      for-c = for-c-pinned;
+    }
