@@ -1,4 +1,2 @@
 pub mod Clock
-pub mod Differences
-pub mod Laws
 pub mod Examples

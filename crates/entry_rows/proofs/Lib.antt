@@ -1,1 +1,5 @@
 pub mod Widths
+pub mod Fits
+pub mod Judged
+pub mod Laws
+pub mod RoundTrips

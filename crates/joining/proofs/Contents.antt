@@ -10,7 +10,7 @@ use borrow.Author.Tests.{eq-eqb, eqb-true, not-true, not-false}
 use lib.IntN.{ℤ}
 use lib.ListN.{length, getD}
 use Rattle.buffers.specs.Buffers.{over}
-use Rattle.clock.specs.Laws.{lag-is, lag-only}
+use Rattle.clock.proofs.Laws.{lag-is, lag-only}
 use Rattle.closure.specs.declared.Layers.{Layers}
 use Rattle.closure.specs.Meaning.{RestsOn}
 use Rattle.combinators.specs.Bools.{both-left, both-right}

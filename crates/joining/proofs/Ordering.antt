@@ -10,7 +10,7 @@ use native.Mathlib.Omega.{arith}
 use borrow.Author.Tests.{eq-eqb, eqb-true, eqb-false, le-leb, leb-true, leb-false}
 use lib.Dec.{eqb, leb}
 use Rattle.clock.specs.Clock.{half, distanceOf}
-use Rattle.clock.specs.Laws.{distance-is, distance-only}
+use Rattle.clock.proofs.Laws.{distance-is, distance-only}
 use Rattle.closure.specs.declared.Layers.{Layers}
 use Rattle.closure.specs.Meaning.{RestsOn, WholeClosure}
 use Rattle.combinators.specs.Below.{some-at, some-which, none-at}

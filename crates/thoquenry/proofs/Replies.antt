@@ -16,7 +16,7 @@ use Rattle.es_loop.specs.declared.entries.Entry.{Entry}
 use Rattle.loop_writer.specs.Writing.{answer, content}
 use Rattle.buffers.specs.Buffers.{over}
 use Rattle.entry_rows.specs.Rows.{rowsOf, someTooWide, rowCount, entriesIn}
-use Rattle.entry_rows.specs.Laws.{rows-length}
+use Rattle.entry_rows.proofs.Laws.{rows-length}
 use Rattle.thoquenry.specs.Answers.{accepted, Reply, reply, unchanged}
 use Rattle.thoquenry.specs.Loops.{entriesLaid, loopWritten, writeLoop}
 

@@ -3,7 +3,7 @@
 use borrow.Author.Needs.{needs}
 use native.Mathlib.Omega.{arith}
 use Prim.Native.Nat.{_%_}
-use Rattle.clock.specs.Laws.{distance-only}
+use Rattle.clock.proofs.Laws.{distance-only}
 use Rattle.clock.specs.Clock.{ticks}
 use Rattle.clock.proofs.distance.Statement.{statement}
 use Rattle.clock.proofs.distance.Tie as tie

@@ -12,7 +12,7 @@ use mir.Syntax.{w64}
 use mir.Val.{SFits}
 use mir.ValLaws.{toZ-pos, toZ-ofZ}
 use Rattle.clock.specs.Clock.{ticks, half, signed}
-use Rattle.clock.specs.Laws.{one-turn-less}
+use Rattle.clock.proofs.Laws.{one-turn-less}
 use Rattle.clock.proofs.lag.Statement.{statement}
 use Rattle.clock.proofs.lag.Tie as tie
 

@@ -3,7 +3,7 @@
 use mathlib.Core.Path.{sym}
 use native.Mathlib.Omega.{arith}
 use lib.Seq.{length-take-le}
-use Rattle.text.specs.Laws.{laid-within}
+use Rattle.text.proofs.Laws.{laid-within}
 use borrow.Author.Needs.{needs}
 use Rattle.layers.proofs.answer.Statement.{statement}
 use Rattle.layers.proofs.answer.Tie as tie

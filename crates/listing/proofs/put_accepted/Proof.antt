@@ -3,7 +3,7 @@
 use mathlib.Core.Path.{ap}
 use borrow.Author.Needs.{needs}
 use Rattle.text.specs.Text.{ascii}
-use Rattle.text.specs.Laws.{laid-then, laid-as, laid-length}
+use Rattle.text.proofs.Laws.{laid-then, laid-as, laid-length}
 use Rattle.listing.specs.Lines.{labelled, acceptedText}
 use Rattle.listing.proofs.put_accepted.Statement.{statement}
 use Rattle.listing.proofs.put_accepted.Tie as tie

@@ -2,7 +2,7 @@
 -- Assumes nothing.
 use mathlib.Core.Path.{ap, sym}
 use borrow.Author.Needs.{needs}
-use Rattle.text.specs.Laws.{laid-as}
+use Rattle.text.proofs.Laws.{laid-as}
 use Rattle.listing.specs.Lines.{closureText}
 use Rattle.listing.proofs.put_closure.Statement.{statement}
 use Rattle.listing.proofs.put_closure.Tie as tie

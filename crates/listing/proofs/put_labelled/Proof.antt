@@ -1,7 +1,7 @@
 -- `listing::put_labelled` meets its contract: the label and the digits, one after the other.
 -- Assumes nothing.
 use borrow.Author.Needs.{needs}
-use Rattle.text.specs.Laws.{laid-then}
+use Rattle.text.proofs.Laws.{laid-then}
 use Rattle.listing.proofs.put_labelled.Statement.{statement}
 use Rattle.listing.proofs.put_labelled.Tie as tie
 

@@ -1,7 +1,7 @@
 -- `listing::put_layer` meets its contract: the seven pieces of the line, one after the other.
 -- Assumes nothing.
 use borrow.Author.Needs.{needs}
-use Rattle.text.specs.Laws.{laid-then, laid-length}
+use Rattle.text.proofs.Laws.{laid-then, laid-length}
 use Rattle.listing.specs.Lines.{layerLine}
 use Rattle.listing.proofs.put_layer.Statement.{statement}
 use Rattle.listing.proofs.put_layer.Tie as tie

@@ -1,7 +1,7 @@
 -- `listing::put_loop` meets its contract: what reading answered says which of the two texts it is.
 -- Assumes nothing.
 use mathlib.Core.Path.{_∙_, ap, sym}
-use Rattle.text.specs.Laws.{laid-as}
+use Rattle.text.proofs.Laws.{laid-as}
 use Rattle.es_loop.specs.declared.reader.Outcome.{Outcome}
 use Rattle.loop_layers.specs.Closures.{entriesRead}
 use Rattle.listing.specs.Lines.{acceptedText, readText, answerText, loopText}

@@ -2,8 +2,8 @@
 -- Assumes nothing.
 use mathlib.Core.Path.{sym, _∙_}
 use borrow.Author.Needs.{needs}
-use Rattle.text.specs.Laws.{laid-as}
-use Rattle.listing.specs.Laws.{member-there, member-not-there}
+use Rattle.text.proofs.Laws.{laid-as}
+use Rattle.listing.proofs.Laws.{member-there, member-not-there}
 use Rattle.listing.proofs.put_member.Statement.{statement}
 use Rattle.listing.proofs.put_member.Tie as tie
 

@@ -7,7 +7,7 @@ use borrow.Author.Needs.{needs}
 use Rattle.buffers.specs.Buffers.{Laid}
 use Rattle.io.specs.Digits.{digits}
 use Rattle.text.specs.Text.{decimal}
-use Rattle.text.specs.Laws.{fewest-width}
+use Rattle.text.proofs.Laws.{fewest-width}
 use Rattle.text.proofs.put_decimal.Statement.{statement}
 use Rattle.text.proofs.put_decimal.Tie as tie
 

@@ -5,7 +5,7 @@ use mathlib.Core.Path.{sym, ap}
 use lib.ListN.{take}
 use Rattle.combinators.specs.Lists.{gather-next}
 use Rattle.text.specs.Text.{Laid}
-use Rattle.text.specs.Laws.{laid-then, laid-as, laid-nothing, laid-length}
+use Rattle.text.proofs.Laws.{laid-then, laid-as, laid-nothing, laid-length}
 use Rattle.entry_rows.specs.Rows.{rowOf, rowsOf}
 use Rattle.combinators.specs.Lists.{take-within}
 use borrow.Author.Needs.{needs}

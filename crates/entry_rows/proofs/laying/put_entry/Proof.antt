@@ -1,6 +1,6 @@
 -- `laying::put_entry` meets its contract: the head, and after it the rest of the row.
 -- Assumes nothing.
-use Rattle.text.specs.Laws.{laid-then, laid-as}
+use Rattle.text.proofs.Laws.{laid-then, laid-as}
 use native.Mathlib.Omega.{arith}
 use borrow.Author.Needs.{needs}
 use Rattle.entry_rows.proofs.laying.put_entry.Statement.{statement}

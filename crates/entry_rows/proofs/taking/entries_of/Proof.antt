@@ -7,7 +7,7 @@ use Rattle.combinators.specs.Below.{none-at}
 use Rattle.combinators.specs.Padding.{padTo}
 use Rattle.es_loop.specs.Entries.{blankEntry}
 use Rattle.entry_rows.specs.Rows.{rowAt, rowCount, rowTooWide, entryIn, entriesBelow}
-use Rattle.entry_rows.specs.Judged.{row-part, store-entry}
+use Rattle.entry_rows.proofs.Judged.{row-part, store-entry}
 use borrow.Author.Needs.{needs}
 use native.Mathlib.Omega.{arith}
 use Rattle.entry_rows.proofs.taking.entries_of.Statement.{statement}

@@ -3,8 +3,8 @@
 use mathlib.Core.Path.{_≡_, sym, _∙_, ap}
 use lib.ListN.{getD, take, length-take, length-drop}
 use Rattle.entry_rows.specs.Rows.{layerTooWide, layerOf}
-use Rattle.entry_rows.specs.Laws.{hierarchy-entry, extension-entry, no-record-entry}
-use Rattle.entry_rows.specs.Judged.{type-bound, kind-fine, hierarchy-fine, extension-fine, list-fine}
+use Rattle.entry_rows.proofs.Laws.{hierarchy-entry, extension-entry, no-record-entry}
+use Rattle.entry_rows.proofs.Judged.{type-bound, kind-fine, hierarchy-fine, extension-fine, list-fine}
 use native.Mathlib.Omega.{arith}
 use Prim.Native.Nat.{ℕ}
 use mathlib.Core.List.{List, map}

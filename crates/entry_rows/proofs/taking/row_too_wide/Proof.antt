@@ -1,7 +1,7 @@
 -- `taking::row_too_wide` meets its contract: the tests in their order decide (Judged).
 -- Assumes nothing.
 use mathlib.Core.Path.{_≡_, sym, _∙_, ap}
-use Rattle.entry_rows.specs.Judged.{kind-wide, type-wide, pid-wide, hierarchy-decides, extension-decides, no-record-fine}
+use Rattle.entry_rows.proofs.Judged.{kind-wide, type-wide, pid-wide, hierarchy-decides, extension-decides, no-record-fine}
 use native.Mathlib.Omega.{arith}
 use Prim.Native.Nat.{ℕ}
 use mathlib.Core.Bool.{Bool, _||_}

@@ -7,7 +7,7 @@ use lib.ListN.{length, length-take, length-drop}
 use mathlib.Core.Bool.{false, _||_}
 use Rattle.combinators.specs.Below.{some, some-at}
 use Rattle.entry_rows.specs.Rows.{rowAt, rowCount, rowTooWide}
-use Rattle.entry_rows.specs.Judged.{row-part}
+use Rattle.entry_rows.proofs.Judged.{row-part}
 use borrow.Author.Needs.{needs}
 use native.Mathlib.Omega.{arith}
 use Rattle.entry_rows.proofs.taking.some_too_wide.Statement.{statement}

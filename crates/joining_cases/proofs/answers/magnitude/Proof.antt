@@ -12,7 +12,7 @@ use lib.Signed.{mag, leZ, nonNeg}
 use mir.Syntax.{w64}
 use mir.Val.{Fits, SFits, toZ, ofZ}
 use mir.ValLaws.{toZ-ofZ}
-use Rattle.clock.specs.Differences.{same, of-sum}
+use Rattle.clock.proofs.Differences.{same, of-sum}
 use Rattle.joining_cases.proofs.answers.magnitude.Statement.{statement}
 use Rattle.joining_cases.proofs.answers.magnitude.Tie as tie
 

@@ -9,7 +9,7 @@ use lib.Dec.{leb, ltb, leb→le, le→leb}
 use lib.IntN.{ℤ, pos, negsuc, _+ℤ_, _-ℤ_, _*ℤ_}
 use lib.Signed.{_≤ℤ_}
 use Rattle.clock.specs.Clock.{ticks, half, distanceOf, isBefore, lagOf, signed, ForwardDistance, Lag}
-use Rattle.clock.specs.Differences.{up, down, same, of-sum, of-multiple, of-times}
+use Rattle.clock.proofs.Differences.{up, down, same, of-sum, of-multiple, of-times}
 
 -- THE FORWARD DISTANCE
 pub distance-is : (a b : ℕ) → ForwardDistance a b (distanceOf a b)

@@ -11,7 +11,7 @@ use Rattle.closure.specs.declared.Closure.the-variants.{Complete, Refused}
 use Rattle.closure.specs.Closures.{closureOf}
 use Rattle.sets.specs.Sets.{has, size}
 use Rattle.text.specs.Text.{Laid, ascii, texts}
-use Rattle.text.specs.Laws.{decimal-length, texts-length, shown-whole}
+use Rattle.text.proofs.Laws.{decimal-length, texts-length, shown-whole}
 use Rattle.vocabulary.specs.declared.HierarchyChannel.{HierarchyChannel}
 use Rattle.vocabulary.specs.declared.LayerIndex.{LayerIndex}
 use Rattle.vocabulary.specs.declared.refusal.Refusal.{Refusal}

@@ -26,8 +26,8 @@ use Rattle.syntax.specs.Filled.{bitOf}
 use Rattle.descriptors.proofs.Payloads.{hierarchy-fields, extension-fields, bit-there}
 use Rattle.entry_rows.specs.Names.{namesOf, picked}
 use Rattle.entry_rows.specs.Rows.{rowNames, entryTable, layerNumber, headOf, listOf, tailOf, rowOf, kindIn, countIn, fieldsIn, listIn, rowTooWide, layerOf, entryIn}
-use Rattle.entry_rows.specs.Judged.{kind-fine, within-tables}
-use Rattle.entry_rows.specs.Laws.{hierarchy-entry, extension-entry, no-record-entry}
+use Rattle.entry_rows.proofs.Judged.{kind-fine, within-tables}
+use Rattle.entry_rows.proofs.Laws.{hierarchy-entry, extension-entry, no-record-entry}
 
 -- ---- from an entry to its row and back
 

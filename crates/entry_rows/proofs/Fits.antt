@@ -29,9 +29,9 @@ use Rattle.descriptors.specs.Records.{recordTables}
 use Rattle.loop_writer.specs.Layout.{infoBytes, tooWide}
 use Rattle.descriptors.proofs.Sizes.{info-short}
 use Rattle.entry_rows.specs.Rows.{kindIn, countIn, fieldsIn, listIn, layerTooWide, rowTooWide, layerOf, entryIn, rowCount, rowAt, someTooWide, entriesBelow, entriesIn}
-use Rattle.entry_rows.specs.Laws.{hierarchy-entry, extension-entry, no-record-entry}
-use Rattle.entry_rows.specs.Judged.{kind-fine, type-bound, pid-bound, hierarchy-fine, extension-fine, list-fine}
-use Rattle.entry_rows.specs.RoundTrips.{hierarchy-there, extension-there}
+use Rattle.entry_rows.proofs.Laws.{hierarchy-entry, extension-entry, no-record-entry}
+use Rattle.entry_rows.proofs.Judged.{kind-fine, type-bound, pid-bound, hierarchy-fine, extension-fine, list-fine}
+use Rattle.entry_rows.proofs.RoundTrips.{hierarchy-there, extension-there}
 
 -- a list none of whose layers is too wide: nor is one of its first, with blanks behind it or not
 blanks-fine : (n : ℕ) → any (λ x. tooWideIn (layerTable x)) (replicate n noLayer) ≡ false
