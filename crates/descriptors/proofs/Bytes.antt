@@ -1,24 +1,44 @@
 -- The records at unknown bytes: each value of a syntax table as the code takes it from the bytes, by quotients and remainders.
 -- Assumes nothing.
-use Prim.Native.Nat.{ℕ, _+_, _*_, _/_, _%_}
+use Prim.Native.Nat.{ℕ, _+_, _*_, _/_, _%_, _≤_, _<_}
 use mathlib.Core.Path.{_≡_, refl, sym, ap}
 use mathlib.Core.List.{List, [], _∷_}
 use native.Mathlib.Omega.{arith}
+use borrow.Author.Tests.{lt-ltb, le-ltb}
+use mathlib.Core.Bool.{true, false}
 use lib.Dec.{eqb}
-use lib.ListN.{getD}
+use lib.ListN.{length, getD}
 use Rattle.syntax.specs.Table.{AreBytes, readTable}
 use Rattle.syntax.specs.Named.{byNames}
 use Rattle.syntax.proofs.Equations.{Each, each}
 use Rattle.vocabulary.specs.declared.stream_types.Reading.{Reading}
 use Rattle.vocabulary.specs.declared.stream_types.Reading.the-variants.{Edition2009, Edition2015}
 use Rattle.descriptors.specs.declared.hierarchy.HierarchyRecord.{HierarchyRecord}
+use Rattle.descriptors.specs.declared.head.Framed.{Framed}
+use Rattle.descriptors.specs.Head.{descriptorTag, descriptorLength, framedOf}
 use Rattle.descriptors.specs.Hierarchy.{afterNoView, hierarchyDescriptor, hierarchyFrom, hierarchyOf, firstBit}
 use Rattle.descriptors.specs.Extension.{extensionHead, extensionFrom, extensionOf, layerIndexOf}
 
 pub layer-byte : (byte : ℕ) → record { 0 = byte % 64 } ≡ layerIndexOf byte
 layer-byte byte = ap (λ (n : ℕ). record { 0 = n }) (omega arith)
 
+-- the descriptor at the front of bytes
+pub framed-short : (l : List ℕ) → length l < 2 → record { fits = false; tag = 0; end = 0 } ≡ framedOf l
+framed-short l h = sym (rw (lt-ltb (length l) (2 + descriptorLength l) (omega arith)))
+
 module _ (l : List ℕ) (b : AreBytes l) where
+  length-byte : descriptorLength l ≡ getD l 1 0
+  length-byte = omega (arith, b 0, b 1)
+
+  tag-byte : descriptorTag l ≡ getD l 0 0
+  tag-byte = omega (arith, b 0, b 1)
+
+  pub framed-none : length l < 2 + getD l 1 0 → record { fits = false; tag = 0; end = 0 } ≡ framedOf l
+  framed-none h = sym (rw (lt-ltb (length l) (2 + descriptorLength l) (rw length-byte h)))
+
+  pub framed-some : 2 + getD l 1 0 ≤ length l → record { fits = true; tag = getD l 0 0; end = 2 + getD l 1 0 } ≡ framedOf l
+  framed-some h = sym (rw (le-ltb (length l) (2 + descriptorLength l) (rw length-byte h), length-byte, tag-byte))
+
   abbrev afterFirst : List ℕ
   afterFirst =
       (getD l 0 0 / 64 % 2)

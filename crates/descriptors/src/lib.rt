@@ -11,6 +11,8 @@ mod record;
 
 pub use extension::ExtensionRecord;
 pub use extension::no_layers;
+pub use head::Framed;
+pub use head::first_descriptor;
 pub use hierarchy::HierarchyRecord;
 pub use looking::Look;
 pub use looking::Looked;

@@ -7,6 +7,7 @@ use super::extension::ExtensionRecord;
 use super::extension::no_layers;
 use super::extension::read_embedded;
 use super::extension::read_extension;
+use super::head::first_descriptor;
 use super::hierarchy::HierarchyRecord;
 use super::hierarchy::read_hierarchy;
 use super::record::Record;
@@ -164,15 +165,12 @@ pub fn look_through(reading: Reading, info: &[u8]) -> Seen
     let mut at = 0;
     while at < info.len() {
         let left = &info[at..];
-        if left.len() < 2 {
+        let first = first_descriptor(left);
+        if !first.fits {
             return unfit(seen);
         }
-        let length = left[1] as usize;
-        if left.len() - 2 < length {
-            return unfit(seen);
-        }
-        let end = 2 + length;
-        seen = with_look(seen, look_at(reading, left[0], &left[2..end]));
+        let end = first.end;
+        seen = with_look(seen, look_at(reading, first.tag, &left[2..end]));
         at += end;
     }
     seen

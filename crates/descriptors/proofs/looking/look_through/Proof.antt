@@ -3,14 +3,16 @@
 -- Assumes nothing.
 use Prim.Native.Nat.{ℕ, _+_, _-_, _≤_}
 use borrow.Author.Needs.{needs}
+use borrow.Author.Tests.{not-true, not-false}
 use native.Mathlib.Omega.{arith}
-use mathlib.Core.Path.{_≡_, _∙_, ap, sym}
+use mathlib.Core.Path.{_≡_, _∙_, ap, sym, subst}
 use mathlib.Core.List.{List}
 use native.Mathlib.Nat.{add-sub-cancel-left}
-use lib.ListN.{length, getD, take, drop, drop-of-length-le}
+use lib.ListN.{length, take, drop, drop-of-length-le}
 use Rattle.descriptors.specs.declared.looking.Looked.{Looked}
 use Rattle.combinators.specs.Lists.{part-to-end}
-use Rattle.descriptors.proofs.Walk.{left-length, stop, next}
+use Rattle.descriptors.proofs.Walk.{left-length, stop, next, framed-not, framed-fits}
+use Rattle.descriptors.specs.Head.{descriptorLength}
 use Rattle.descriptors.specs.Looking.{kindsOf, payloadKind, seenOf}
 use Rattle.descriptors.specs.Steps.{lookedOf, withLook, seenAfter, steps-see}
 use Rattle.descriptors.proofs.looking.look_through.Statement.{statement}
@@ -39,57 +41,66 @@ part-left-start c = search needs
 part-left-end : tie.Need-part-left-end Inv-loop μ-loop
 part-left-end c = search needs
 
+first-descriptor-requires : tie.Need-first-descriptor-requires Inv-loop μ-loop
+first-descriptor-requires c κs = search needs
+
 unfit-requires : tie.Need-unfit-requires Inv-loop μ-loop
 unfit-requires c κs = search needs
 
 returns : tie.Need-returns Inv-loop μ-loop
 returns c =
-    let a = c .before .before .before .before .before .before .before .args in
-    let loop = c .before .before .before .before .loop in
-    let info = a .info .now in
-    let left : List ℕ = take (length info - loop .at) (drop (loop .at) info) in
-    let rest : left ≡ drop (loop .at) info = part-to-end info (loop .at) in
-    let known = c .before .before .before .before .before .before .shared-slice-known .given in
-    let long = left-length (a .reading) info left (loop .at) rest (λ i. omega (arith, known i)) (loop .seen) (loop .inv .1) in
-    c .unfit .ensures ∙ stop (a .reading) info left (loop .at) rest (λ i. omega (arith, known i)) (loop .seen) (loop .inv .1) (omega arith) (omega arith)
-
-shared-slice-read-length : tie.Need-shared-slice-read-length Inv-loop μ-loop
-shared-slice-read-length c = search needs
-
-cast-length : tie.Need-cast-length Inv-loop μ-loop
-cast-length c = omega (arith, c .shared-slice-known2 .given 1)
-
-sub-if2 : tie.Need-sub-if2 Inv-loop μ-loop
-sub-if2 c = search needs
-
-unfit-requires-2 : tie.Need-unfit-requires-2 Inv-loop μ-loop
-unfit-requires-2 c κs = search needs
-
-returns-2 : tie.Need-returns-2 Inv-loop μ-loop
-returns-2 c =
     let a = c .before .before .before .before .before .before .before .before .before .args in
     let loop = c .before .before .before .before .before .before .loop in
     let info = a .info .now in
     let left : List ℕ = take (length info - loop .at) (drop (loop .at) info) in
     let rest : left ≡ drop (loop .at) info = part-to-end info (loop .at) in
-    let known = c .before .before .before .before .before .before .before .before .shared-slice-known .given in
-    let long = left-length (a .reading) info left (loop .at) rest (λ i. omega (arith, known i)) (loop .seen) (loop .inv .1) in
-    c .unfit2 .ensures ∙ stop (a .reading) info left (loop .at) rest (λ i. omega (arith, known i)) (loop .seen) (loop .inv .1) (omega arith) (omega arith)
-
-add-end : tie.Need-add-end Inv-loop μ-loop
-add-end c = search needs
-
-shared-slice-read-look-at : tie.Need-shared-slice-read-look-at Inv-loop μ-loop
-shared-slice-read-look-at c = search needs
+    let long = left-length (a .reading) info left (loop .at) rest (loop .seen) (loop .inv .1) in
+    let first = c .before .before .before .first-descriptor .result in
+    c .unfit .ensures
+    ∙ stop (a .reading) info left (loop .at) rest (loop .seen) (loop .inv .1) (omega arith)
+    (framed-not left first (c .before .before .before .first-descriptor .ensures) (not-true (first .fits) (c .before .if1 .taken)))
 
 sub-look-at : tie.Need-sub-look-at Inv-loop μ-loop
-sub-look-at c = search needs
+sub-look-at c =
+    let a = c .before .before .before .before .before .before .before .before .args in
+    let loop = c .before .before .before .before .before .loop in
+    let info = a .info .now in
+    let left : List ℕ = take (length info - loop .at) (drop (loop .at) info) in
+    let rest : left ≡ drop (loop .at) info = part-to-end info (loop .at) in
+    let long = left-length (a .reading) info left (loop .at) rest (loop .seen) (loop .inv .1) in
+    let first = c .before .before .first-descriptor .result in
+    let framed = framed-fits left first (c .before .before .first-descriptor .ensures) (not-false (first .fits) (c .if1 .left)) in
+    let fits = framed .0 in
+    let is-end : first .end ≡ 2 + descriptorLength left = framed .2 in
+    omega arith
 
 part-look-at-start : tie.Need-part-look-at-start Inv-loop μ-loop
-part-look-at-start c = search needs
+part-look-at-start c =
+    let a = c .before .before .before .before .before .before .before .before .args in
+    let loop = c .before .before .before .before .before .loop in
+    let info = a .info .now in
+    let left : List ℕ = take (length info - loop .at) (drop (loop .at) info) in
+    let rest : left ≡ drop (loop .at) info = part-to-end info (loop .at) in
+    let long = left-length (a .reading) info left (loop .at) rest (loop .seen) (loop .inv .1) in
+    let first = c .before .before .first-descriptor .result in
+    let framed = framed-fits left first (c .before .before .first-descriptor .ensures) (not-false (first .fits) (c .if1 .left)) in
+    let fits = framed .0 in
+    let is-end : first .end ≡ 2 + descriptorLength left = framed .2 in
+    omega arith
 
 part-look-at-end : tie.Need-part-look-at-end Inv-loop μ-loop
-part-look-at-end c = search needs
+part-look-at-end c =
+    let a = c .before .before .before .before .before .before .before .before .args in
+    let loop = c .before .before .before .before .before .loop in
+    let info = a .info .now in
+    let left : List ℕ = take (length info - loop .at) (drop (loop .at) info) in
+    let rest : left ≡ drop (loop .at) info = part-to-end info (loop .at) in
+    let long = left-length (a .reading) info left (loop .at) rest (loop .seen) (loop .inv .1) in
+    let first = c .before .before .first-descriptor .result in
+    let framed = framed-fits left first (c .before .before .first-descriptor .ensures) (not-false (first .fits) (c .if1 .left)) in
+    let fits = framed .0 in
+    let is-end : first .end ≡ 2 + descriptorLength left = framed .2 in
+    omega arith
 
 look-at-requires : tie.Need-look-at-requires Inv-loop μ-loop
 look-at-requires c κs = search needs
@@ -99,45 +110,59 @@ with-look-requires c κs = search needs
 
 add-at : tie.Need-add-at Inv-loop μ-loop
 add-at c =
-    let a = c .before .before .before .before .before .before .before .before .before .before .before .before .args in
-    let loop = c .before .before .before .before .before .before .before .before .before .loop in
+    let a = c .before .before .before .before .before .before .before .before .before .before .before .args in
+    let loop = c .before .before .before .before .before .before .before .before .loop in
     let info = a .info .now in
     let left : List ℕ = take (length info - loop .at) (drop (loop .at) info) in
     let rest : left ≡ drop (loop .at) info = part-to-end info (loop .at) in
-    let known = c .before .before .before .before .before .before .before .before .before .before .before .shared-slice-known .given in
-    let long = left-length (a .reading) info left (loop .at) rest (λ i. omega (arith, known i)) (loop .seen) (loop .inv .1) in
+    let long = left-length (a .reading) info left (loop .at) rest (loop .seen) (loop .inv .1) in
+    let first = c .before .before .before .before .before .first-descriptor .result in
+    let framed = framed-fits left first (c .before .before .before .before .before .first-descriptor .ensures) (not-false (first .fits) (c .before .before .before .if1 .left)) in
+    let fits = framed .0 in
+    let is-end : first .end ≡ 2 + descriptorLength left = framed .2 in
     omega arith
 
 loop-less : tie.Need-loop-less Inv-loop μ-loop
 loop-less c =
-    let a = c .before .before .before .before .before .before .before .before .before .before .before .before .args in
-    let loop = c .before .before .before .before .before .before .before .before .before .loop in
+    let a = c .before .before .before .before .before .before .before .before .before .before .before .args in
+    let loop = c .before .before .before .before .before .before .before .before .loop in
     let info = a .info .now in
     let left : List ℕ = take (length info - loop .at) (drop (loop .at) info) in
     let rest : left ≡ drop (loop .at) info = part-to-end info (loop .at) in
-    let known = c .before .before .before .before .before .before .before .before .before .before .before .shared-slice-known .given in
-    let long = left-length (a .reading) info left (loop .at) rest (λ i. omega (arith, known i)) (loop .seen) (loop .inv .1) in
+    let long = left-length (a .reading) info left (loop .at) rest (loop .seen) (loop .inv .1) in
+    let first = c .before .before .before .before .before .first-descriptor .result in
+    let framed = framed-fits left first (c .before .before .before .before .before .first-descriptor .ensures) (not-false (first .fits) (c .before .before .before .if1 .left)) in
+    let fits = framed .0 in
+    let is-end : first .end ≡ 2 + descriptorLength left = framed .2 in
     omega arith
 
 loop-again : tie.Need-loop-again Inv-loop μ-loop
 loop-again c =
-    let a = c .before .before .before .before .before .before .before .before .before .before .before .before .args in
-    let loop = c .before .before .before .before .before .before .before .before .before .loop in
+    let a = c .before .before .before .before .before .before .before .before .before .before .before .args in
+    let loop = c .before .before .before .before .before .before .before .before .loop in
     let info = a .info .now in
     let left : List ℕ = take (length info - loop .at) (drop (loop .at) info) in
     let rest : left ≡ drop (loop .at) info = part-to-end info (loop .at) in
-    let known = c .before .before .before .before .before .before .before .before .before .before .before .shared-slice-known .given in
-    let long = left-length (a .reading) info left (loop .at) rest (λ i. omega (arith, known i)) (loop .seen) (loop .inv .1) in (
+    let long = left-length (a .reading) info left (loop .at) rest (loop .seen) (loop .inv .1) in
+    let first = c .before .before .before .before .before .first-descriptor .result in
+    let framed = framed-fits left first (c .before .before .before .before .before .first-descriptor .ensures) (not-false (first .fits) (c .before .before .before .if1 .left)) in
+    let fits = framed .0 in
+    let is-end : first .end ≡ 2 + descriptorLength left = framed .2 in
+    let n : ℕ = descriptorLength left in
+    let end = c .before .before .before .before .before .first-descriptor .result .end in (
       omega arith,
-      next (a .reading) info left (loop .at) rest (λ i. omega (arith, known i)) (loop .seen) (loop .inv .1) (omega arith) (c .with-look .result)
+      subst (λ (e : ℕ). seenAfter (c .with-look .result) (kindsOf (a .reading) (drop (loop .at + e) info)) ≡ seenOf (a .reading) info) (sym is-end)
+          (next (a .reading) info left (loop .at) rest (loop .seen) (loop .inv .1) fits (c .with-look .result)
           (c .with-look .ensures
           ∙ ap (λ (x : Looked). withLook (loop .seen) (x .look) (x .embedded))
           (c .before .look-at .ensures
-          ∙ ap (λ (m : ℕ). lookedOf (payloadKind (a .reading) (getD left 0 0) (take m (drop 2 left)))) (add-sub-cancel-left 2 (getD left 1 0)))),
+          ∙ ap (λ (m : ℕ). lookedOf (payloadKind (a .reading) (first .tag) (take (m - 2) (drop 2 left)))) is-end
+          ∙ ap (λ (m : ℕ). lookedOf (payloadKind (a .reading) (first .tag) (take m (drop 2 left)))) (add-sub-cancel-left 2 n)
+          ∙ ap (λ (t : ℕ). lookedOf (payloadKind (a .reading) t (take n (drop 2 left)))) (framed .1)))),
     )
 
-returns-3 : tie.Need-returns-3 Inv-loop μ-loop
-returns-3 c =
+returns-2 : tie.Need-returns-2 Inv-loop μ-loop
+returns-2 c =
     let a = c .before .before .before .before .args in
     let loop = c .before .loop in
     sym (ap (λ (l : List ℕ). seenAfter (loop .seen) (kindsOf (a .reading) l)) (drop-of-length-le (a .info .now) {i = loop .at} (omega arith)))
@@ -154,15 +179,9 @@ look-through-spec =
     sub-left
     part-left-start
     part-left-end
+    first-descriptor-requires
     unfit-requires
     returns
-    shared-slice-read-length
-    cast-length
-    sub-if2
-    unfit-requires-2
-    returns-2
-    add-end
-    shared-slice-read-look-at
     sub-look-at
     part-look-at-start
     part-look-at-end
@@ -171,4 +190,4 @@ look-through-spec =
     add-at
     loop-less
     loop-again
-    returns-3)
+    returns-2)
