@@ -1,9 +1,9 @@
 -- DEMAND 1. 'Every loop, packet header, row table and output buffer gets an answer that ends, whether the bytes are sound or damaged. The refusal
 -- is one of the listed numbers, given exactly under its listed condition, and the output buffers then hold what they held before.'
 --
--- One statement for all calls that refuse, the seven functions for C among them: each keeps the promise of Calls for whatever it is handed. Not
--- among them are the calls that refuse nothing, whose contracts are single equalities: `vocabulary`'s words, the tests of `judging`, the `clock`,
--- `loop_layers::layers_of` and `table_of`, the text of `listing`, and `thq_version`. `joining::join_table` asks for the target's closure, and keeps
+-- One statement for all calls that refuse, the seven functions for C among them: each keeps the promise of Calls for whatever it is handed. The calls
+-- that refuse nothing are bound beside them, each to the one definition that it equals. (The tests of `judging`, which reading and writing a loop are
+-- made of, are not said again.) `joining::join_table` asks for the target's closure, and keeps
 -- the promise wherever it is handed that.
 -- Assumes nothing.
 use Rattle.promised.specs.Calls.{Promised}
@@ -11,6 +11,7 @@ use Rattle.promised.specs.Readers.{readLoop, loop-read, closureOfTarget, closur
 use Rattle.promised.specs.Writers.{writeLoop, loop-written, writeTimes, times-written}
 use Rattle.promised.specs.Joiners.{joinTable, table-joined, joinRows, rows-joined, importLoop, loop-imported}
 use Rattle.demands.specs.Told.{forC}
+use Rattle.demands.specs.Others.{RefuseNothing, refuse-nothing}
 use Rattle.demands.specs.ForC.{thqReadLoop, thqWriteLoop, thqClosure, thqReadTimes, thqWriteTimes, thqJoin, thqImport}
 use Rattle.demands.specs.ForCShown.{thq-loop-read, thq-loop-written, thq-closure-found, thq-times-read, thq-times-written, thq-rows-joined, thq-loop-imported}
 
@@ -47,6 +48,8 @@ pub record Demand-1 : Type 0 where
   pub thq-join : Promised (forC thqJoin)
   -- 1 to 17, 255
   pub thq-import : Promised (forC thqImport)
+  -- none
+  pub others : RefuseNothing
 
 pub demand-1 : Demand-1
 demand-1 =
@@ -67,4 +70,5 @@ demand-1 =
       thq-write-times = thq-times-written;
       thq-join = thq-rows-joined;
       thq-import = thq-loop-imported;
+      others = refuse-nothing;
     }

@@ -2,6 +2,7 @@ pub mod Told
 pub mod ToldShown
 pub mod ForC
 pub mod ForCShown
+pub mod Others
 pub mod Demand1
 pub mod Demand2
 pub mod Demand3
