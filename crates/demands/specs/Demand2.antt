@@ -41,7 +41,7 @@ use Rattle.pes_writer.specs.declared.Written.the-variants as Header
 use Rattle.pes_reader.specs.Reading.{readOf}
 use Rattle.pes_writer.specs.Writing.{headerOf, writeOf, bufferOf}
 use Rattle.pes_writer.specs.OwnShape.{OwnShape as OwnHeader}
-use Rattle.pes.specs.RoundTrips as times
+use Rattle.pes.proofs.RoundTrips as times
 use Rattle.closure.specs.declared.Layers.{Layers}
 use Rattle.closure.specs.declared.Closure.the-variants.{Complete}
 use Rattle.closure.specs.Meaning.{RestsOn, Answers as ClosureAnswers}

@@ -1,3 +1,1 @@
-pub mod RoundTrips
 pub mod ThreeTimes
-pub mod Examples

@@ -1,4 +1,4 @@
-// A video PES header's times, PTS, DTS and TREF: read, written, and both beside each other. The specs have the laws that hold between the
+// A video PES header's times, PTS, DTS and TREF: read, written, and both beside each other. proofs/ has the laws that hold between the
 // two: what was written is read back, and what was read is written again.
 pub use pes_reader::Answer;
 pub use pes_reader::Header;

@@ -1,6 +1,6 @@
 -- What the header data of a PES packet are, in the words of Table 2-21 and of document 01: the fields stand one after the other, each
--- exactly where its flag is 1. In order: from the last field to the first. The laws that join this to the walk are in FieldLaws.antt and
--- WalkLaws.antt.
+-- exactly where its flag is 1. In order: from the last field to the first. The laws that join this to the walk are in proofs/FieldLaws.antt and
+-- proofs/WalkLaws.antt.
 -- Assumes nothing.
 use Prim.Native.Nat.{ℕ}
 use mathlib.Core.Path.{_≡_}

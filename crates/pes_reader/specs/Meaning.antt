@@ -1,5 +1,5 @@
 -- What a video PES header is and what its reader has to answer, in the words of Table 2-21 and of document 01. What the header data are,
--- field by field, is said in the crate `pes_fields`. The laws that join this to the computed answer are in MeaningLaws.antt.
+-- field by field, is said in the crate `pes_fields`. The laws that join this to the computed answer are in proofs/MeaningLaws.antt.
 -- In order: refusal 20; a header whose fields fit; the answer.
 -- Assumes nothing.
 use Prim.Native.Nat.{ℕ, _+_, _≤_, _<_}

@@ -1,4 +1,2 @@
 pub mod Writing
 pub mod OwnShape
-pub mod WritingLaws
-pub mod OwnShapeLaws

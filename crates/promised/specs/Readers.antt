@@ -38,7 +38,7 @@ use Rattle.pes_reader.specs.Reading.{readOf}
 use Rattle.pes_reader.proofs.read.Kinds as read-times-kinds
 use Rattle.pes_reader.proofs.read.Reads as read-times
 use Rattle.pes_reader.specs.Meaning as Times
-use Rattle.pes_reader.specs.MeaningLaws as times
+use Rattle.pes_reader.proofs.MeaningLaws as times
 use Rattle.promised.specs.Calls.{Run, Call, isListed, Promised}
 use Rattle.promised.specs.Shown.{Computed, promised, listed-first}
 

@@ -26,7 +26,7 @@ use Rattle.pes_writer.specs.Writing.{headerOf, writeOf, bufferOf}
 use Rattle.pes_writer.proofs.write.Kinds as write-times-kinds
 use Rattle.pes_writer.proofs.write.Reads as write-times
 use Rattle.pes_writer.specs.OwnShape as Times
-use Rattle.pes_writer.specs.OwnShapeLaws as times
+use Rattle.pes_writer.proofs.OwnShapeLaws as times
 use Rattle.promised.specs.Calls.{Run, Call, isListed, Promised}
 use Rattle.promised.specs.Shown.{Computed, promised, not-refused}
 

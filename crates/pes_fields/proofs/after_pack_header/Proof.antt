@@ -13,7 +13,7 @@ use Rattle.syntax.specs.Named.{named}
 use Rattle.combinators.specs.Lists.{part-to-end}
 use Rattle.pes_fields.specs.Tables.{extensionFlags}
 use Rattle.pes_fields.specs.HeaderData.{after, afterBuffer, afterPackHeader, secondExtensionOf}
-use Rattle.pes_fields.specs.HeaderDataLaws.{all-as-one, after-fits, after-short, flag-of-counter, flag-of-buffer, flag-of-second}
+use Rattle.pes_fields.proofs.HeaderDataLaws.{all-as-one, after-fits, after-short, flag-of-counter, flag-of-buffer, flag-of-second}
 use Rattle.pes_fields.specs.declared.Extension.the-variants.{WithoutTref}
 use Rattle.pes_fields.proofs.after_pack_header.Statement.{statement}
 use Rattle.pes_fields.proofs.after_pack_header.Tie as tie

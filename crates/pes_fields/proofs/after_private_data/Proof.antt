@@ -11,7 +11,7 @@ use denote.Ref.{now}
 use lib.ListN.{getD}
 use Rattle.combinators.specs.Lists.{part-to-end}
 use Rattle.pes_fields.specs.HeaderData.{after, afterPackHeader, afterPrivateData}
-use Rattle.pes_fields.specs.HeaderDataLaws.{after-after, after-fits, after-short}
+use Rattle.pes_fields.proofs.HeaderDataLaws.{after-after, after-fits, after-short}
 use Rattle.pes_fields.proofs.after_private_data.Statement.{statement}
 use Rattle.pes_fields.proofs.after_private_data.Tie as tie
 

@@ -5,7 +5,7 @@ use native.Mathlib.Omega.{arith}
 use Prim.Native.Nat.{_/_, _%_, _^_}
 use mathlib.Core.Path.{_≡_, ap}
 use Rattle.stamps.specs.Stamps.{dtsFlag}
-use Rattle.stamps.specs.StampLaws.{dts-at-most-once}
+use Rattle.stamps.proofs.StampLaws.{dts-at-most-once}
 use Rattle.pes_fields.proofs.before_extension.Statement.{statement}
 use Rattle.pes_fields.proofs.before_extension.Tie as tie
 

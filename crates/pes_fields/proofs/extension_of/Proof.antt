@@ -11,7 +11,7 @@ use Rattle.syntax.specs.Named.{named}
 use Rattle.combinators.specs.Lists.{part-to-end}
 use Rattle.pes_fields.specs.Tables.{extensionFlags}
 use Rattle.pes_fields.specs.HeaderData.{after, afterPrivateData, extensionOf}
-use Rattle.pes_fields.specs.HeaderDataLaws.{after-after, after-fits, after-short, flag-of-private-data}
+use Rattle.pes_fields.proofs.HeaderDataLaws.{after-after, after-fits, after-short, flag-of-private-data}
 use Rattle.pes_fields.proofs.extension_of.Statement.{statement}
 use Rattle.pes_fields.proofs.extension_of.Tie as tie
 

@@ -12,7 +12,7 @@ use lib.ListN.{drop}
 use Rattle.combinators.specs.Lists.{part-to-end}
 use Rattle.pes_fields.specs.Tables.{packetFlags}
 use Rattle.pes_fields.specs.HeaderData.{sum, flagsOf, fieldBytes, after, extensionOf, afterCrc, headerDataOf}
-use Rattle.pes_fields.specs.HeaderDataLaws.{all-as-one, after-fits, after-short}
+use Rattle.pes_fields.proofs.HeaderDataLaws.{all-as-one, after-fits, after-short}
 use Rattle.pes_fields.specs.declared.Extension.the-variants.{WithoutTref}
 use Rattle.pes_fields.proofs.header_data.Statement.{statement}
 use Rattle.pes_fields.proofs.header_data.Tie as tie

@@ -10,7 +10,7 @@ use lib.ListN.{length, take, drop, getD, length-drop}
 use Rattle.syntax.specs.Named.{named}
 use Rattle.pes_fields.specs.Tables.{secondExtension}
 use Rattle.pes_fields.specs.HeaderData.{extensionFieldOf}
-use Rattle.pes_fields.specs.HeaderDataLaws.{length-of-second, marker-of-second}
+use Rattle.pes_fields.proofs.HeaderDataLaws.{length-of-second, marker-of-second}
 use Rattle.pes_fields.proofs.second_extension.Statement.{statement}
 use Rattle.pes_fields.proofs.second_extension.Tie as tie
 

@@ -8,7 +8,7 @@ use mathlib.Core.Path.{ap, sym, _∙_}
 use denote.Ref.{now}
 use lib.Dec.{leb}
 use lib.ListN.{length, getD}
-use Rattle.pes_reader.specs.HeadLaws.{video-header-of-bytes}
+use Rattle.pes_reader.proofs.HeadLaws.{video-header-of-bytes}
 use Rattle.pes_reader.proofs.is_video_header.Statement.{statement}
 use Rattle.pes_reader.proofs.is_video_header.Tie as tie
 

@@ -15,9 +15,9 @@ use Rattle.vocabulary.specs.declared.refusal.Refusal.the-variants.{NotVideoHead
 use Rattle.pes_fields.specs.Tables.{head, packetFlags}
 use Rattle.pes_fields.specs.HeaderData.{Flags, flagsOf}
 use Rattle.pes_reader.specs.Reading.{dataOf, endOf, fieldsOf, videoHeaderOf, readOf}
-use Rattle.pes_reader.specs.HeadLaws.{flags-of-head, data-length-of-head}
+use Rattle.pes_reader.proofs.HeadLaws.{flags-of-head, data-length-of-head}
 use Rattle.pes_reader.specs.Meaning.{VideoHeader}
-use Rattle.pes_reader.specs.VideoLaws.{video-is, video-only}
+use Rattle.pes_reader.proofs.VideoLaws.{video-is, video-only}
 use Rattle.pes_reader.specs.declared.Answer.the-variants.{Refused}
 use Rattle.pes_reader.proofs.read.Statement.{statement}
 use Rattle.pes_reader.proofs.read.Tie as tie

@@ -11,7 +11,7 @@ use Rattle.stamps.specs.declared.Stamp.{Stamp}
 use Rattle.stamps.specs.declared.Stamps.{Stamps}
 use Rattle.pes_fields.specs.Tables.{packetFlags}
 use Rattle.pes_fields.specs.HeaderData.{flagsOf}
-use Rattle.pes_fields.specs.HeaderDataLaws.{times-within}
+use Rattle.pes_fields.proofs.HeaderDataLaws.{times-within}
 use Rattle.pes_fields.specs.declared.Extension.the-variants.{DoesNotFit, WithoutTref, WithTref}
 use Rattle.pes_reader.specs.Reading.{judged, saidBy}
 use Rattle.pes_reader.proofs.read_fields.Statement.{statement}

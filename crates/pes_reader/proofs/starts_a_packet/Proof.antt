@@ -10,7 +10,7 @@ use denote.Ref.{now}
 use lib.Dec.{eqb}
 use lib.Seq.{length-take-le}
 use Rattle.syntax.specs.Table.{number}
-use Rattle.pes_reader.specs.HeadLaws.{prefix-bytes, prefix-number}
+use Rattle.pes_reader.proofs.HeadLaws.{prefix-bytes, prefix-number}
 use Rattle.pes_reader.proofs.starts_a_packet.Statement.{statement}
 use Rattle.pes_reader.proofs.starts_a_packet.Tie as tie
 

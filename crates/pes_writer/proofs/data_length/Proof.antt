@@ -2,7 +2,7 @@
 -- Assumes nothing.
 use borrow.Author.Needs.{needs}
 use native.Mathlib.Omega.{arith}
-use Rattle.pes_writer.specs.WritingLaws.{times-at-most, tref-length, tref-at-most, data-length}
+use Rattle.pes_writer.proofs.WritingLaws.{times-at-most, tref-length, tref-at-most, data-length}
 use Rattle.pes_writer.proofs.data_length.Statement.{statement}
 use Rattle.pes_writer.proofs.data_length.Tie as tie
 

@@ -7,7 +7,7 @@ use mathlib.Core.Path.{ap, ap₂, _∙_}
 use Rattle.syntax.specs.Named.{writeBy}
 use Rattle.pes_fields.specs.Tables.{head}
 use Rattle.pes_writer.specs.Writing.{headGiven, ptsDtsFlagsOf, extensionFlagOf}
-use Rattle.pes_writer.specs.WritingLaws.{flags-below, extension-below}
+use Rattle.pes_writer.proofs.WritingLaws.{flags-below, extension-below}
 use Rattle.pes_writer.proofs.head_for.Statement.{statement}
 use Rattle.pes_writer.proofs.head_for.Tie as tie
 

@@ -8,7 +8,7 @@ use mathlib.Core.List.{List, _++_, append-assoc}
 use lib.ListN.{length, length-append}
 use Rattle.buffers.proofs.Laws.{laid-as, laid-then}
 use Rattle.pes_writer.specs.Writing.{headOf, timeFields, trefFields}
-use Rattle.pes_writer.specs.WritingLaws.{data-length, header-length}
+use Rattle.pes_writer.proofs.WritingLaws.{data-length, header-length}
 use Rattle.pes_writer.proofs.put_header.Statement.{statement}
 use Rattle.pes_writer.proofs.put_header.Tie as tie
 

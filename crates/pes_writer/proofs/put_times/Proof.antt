@@ -6,7 +6,7 @@ use mathlib.Core.Path.{ap, ap₂, sym, _∙_}
 use mathlib.Core.List.{_++_}
 use lib.ListN.{length}
 use Rattle.buffers.proofs.Laws.{laid-as, laid-then}
-use Rattle.pes_writer.specs.WritingLaws.{pts-alone, pts-and-dts}
+use Rattle.pes_writer.proofs.WritingLaws.{pts-alone, pts-and-dts}
 use Rattle.pes_writer.proofs.put_times.Statement.{statement}
 use Rattle.pes_writer.proofs.put_times.Tie as tie
 

@@ -10,7 +10,7 @@ use denote.Ref.{now}
 use lib.ListN.{length}
 use Rattle.buffers.proofs.Laws.{laid-as, laid-then, laid-nothing}
 use Rattle.pes_writer.specs.Writing.{trefHead}
-use Rattle.pes_writer.specs.WritingLaws.{no-tref-fields, tref-fields}
+use Rattle.pes_writer.proofs.WritingLaws.{no-tref-fields, tref-fields}
 use Rattle.pes_writer.proofs.put_tref.Statement.{statement}
 use Rattle.pes_writer.proofs.put_tref.Tie as tie
 

@@ -3,7 +3,7 @@
 use Rattle.pes_writer.proofs.times_length.Statement.{statement}
 use mathlib.Core.Path.{ap, sym}
 use lib.ListN.{length}
-use Rattle.pes_writer.specs.WritingLaws.{pts-alone, pts-and-dts}
+use Rattle.pes_writer.proofs.WritingLaws.{pts-alone, pts-and-dts}
 use Rattle.pes_writer.proofs.times_length.Tie as tie
 
 returns : tie.Need-returns

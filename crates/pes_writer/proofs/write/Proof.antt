@@ -10,7 +10,7 @@ use lib.ListN.{length}
 use Rattle.pes_writer.specs.OwnShape.{Narrow}
 use Rattle.buffers.proofs.Laws.{laid-over}
 use Rattle.pes_writer.specs.Writing.{headerOf}
-use Rattle.pes_writer.specs.WritingLaws.{narrow, header-length}
+use Rattle.pes_writer.proofs.WritingLaws.{narrow, header-length}
 use Rattle.pes_writer.specs.declared.Written.the-variants.{Bytes}
 use Rattle.pes_writer.proofs.write.Statement.{statement}
 use Rattle.pes_writer.proofs.write.Tie as tie

@@ -7,7 +7,7 @@ use mathlib.Core.Bool.{_&&_}
 use denote.Ref.{now}
 use lib.Dec.{eqb}
 use lib.ListN.{getD}
-use Rattle.stamps.specs.StampLaws.{stamp, prefix-of-bytes}
+use Rattle.stamps.proofs.StampLaws.{stamp, prefix-of-bytes}
 use Rattle.stamps.specs.declared.Stamp.{Stamp}
 use Rattle.stamps.proofs.prefixed_by.Statement.{statement}
 use Rattle.stamps.proofs.prefixed_by.Tie as tie

@@ -2,7 +2,7 @@
 -- Assumes nothing.
 use borrow.Author.Needs.{needs}
 use mathlib.Core.Path.{sym}
-use Rattle.stamps.specs.StampLaws.{field-of-time}
+use Rattle.stamps.proofs.StampLaws.{field-of-time}
 use Rattle.stamps.proofs.time_field.Statement.{statement}
 use Rattle.stamps.proofs.time_field.Tie as tie
 

@@ -3,7 +3,7 @@
 use borrow.Author.Needs.{needs}
 use mathlib.Core.Path.{ap₂, _∙_}
 use denote.Ref.{now}
-use Rattle.stamps.specs.StampLaws.{stamp, markers-of-bytes, time-of-bytes}
+use Rattle.stamps.proofs.StampLaws.{stamp, markers-of-bytes, time-of-bytes}
 use Rattle.stamps.proofs.unprefixed.Statement.{statement}
 use Rattle.stamps.proofs.unprefixed.Tie as tie
 

@@ -16,13 +16,13 @@ use Rattle.stamps.specs.declared.Stamps.{Stamps}
 use Rattle.pes_fields.specs.Tables.{head}
 use Rattle.pes_fields.specs.HeaderData.{Flags, flagsOf, headerDataOf}
 use Rattle.pes_fields.specs.Meaning.{HeaderData}
-use Rattle.pes_fields.specs.FieldLaws.{header-data-only, header-data-fits, stamps-in-fields}
-use Rattle.pes_fields.specs.WalkLaws.{OneBit, Fields, header-data-is}
+use Rattle.pes_fields.proofs.FieldLaws.{header-data-only, header-data-fits, stamps-in-fields}
+use Rattle.pes_fields.proofs.WalkLaws.{OneBit, Fields, header-data-is}
 use Rattle.pes_fields.specs.declared.Extension.{Extension}
 use Rattle.pes_fields.specs.declared.Extension.the-variants.{DoesNotFit, WithoutTref, WithTref}
 use Rattle.pes_reader.specs.Reading.{isVideoHeader, dataOf, endOf, judged, marksOf, matchOf, sentOf, headerOf, saidBy, fieldsOf, videoHeaderOf, readOf}
 use Rattle.pes_reader.specs.Meaning.{VideoHeader, LaidOut, Answers, not-video-header, no-pts, fields-do-not-fit, wrong-marker, pts-before-dts, says}
-use Rattle.pes_reader.specs.VideoLaws.{video-is, video-only}
+use Rattle.pes_reader.proofs.VideoLaws.{video-is, video-only}
 use Rattle.pes_reader.specs.declared.Answer.{Answer}
 use Rattle.pes_reader.specs.declared.Answer.the-variants.{Read, Refused}
 

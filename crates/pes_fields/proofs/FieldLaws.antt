@@ -13,11 +13,11 @@ use Rattle.syntax.specs.Named.{named}
 use Rattle.stamps.specs.Tables as Tables
 use Rattle.stamps.specs.Tables.{tref}
 use Rattle.stamps.specs.Stamps.{stampOf, withDts, withoutDts, stampsOf}
-use Rattle.stamps.specs.StampLaws.{stamp-before}
+use Rattle.stamps.proofs.StampLaws.{stamp-before}
 use Rattle.stamps.specs.declared.Stamp.{Stamp}
 use Rattle.pes_fields.specs.Tables.{extensionFlags, secondExtension}
 use Rattle.pes_fields.specs.HeaderData.{Flags, after, afterAll, withMarker, afterTrefFlags, extensionFieldOf, fieldLength, afterFieldLength, secondExtensionOf, afterBuffer, afterPackHeader, afterPrivateData, afterExtensionFlags, extensionOf, fieldBytes, afterCrc, headerDataOf}
-use Rattle.pes_fields.specs.HeaderDataLaws.{after-fits}
+use Rattle.pes_fields.proofs.HeaderDataLaws.{after-fits}
 use Rattle.pes_fields.specs.Meaning.{inOrder, Optional, ExtensionField, without-tref, with-tref, SecondExtension, PackHeader, PesExtension, HeaderData}
 use Rattle.pes_fields.specs.declared.Extension.{Extension}
 use Rattle.pes_fields.specs.declared.Extension.the-variants.{DoesNotFit, WithoutTref, WithTref}

@@ -15,12 +15,12 @@ use Rattle.syntax.proofs.Number.{number-take}
 use Rattle.syntax.specs.Named.{named}
 use Rattle.stamps.specs.Tables.{tref}
 use Rattle.stamps.specs.Stamps.{dtsFlag, timeOf, stampOf}
-use Rattle.stamps.specs.StampLaws.{stamp, dts-at-most-once}
+use Rattle.stamps.proofs.StampLaws.{stamp, dts-at-most-once}
 use Rattle.stamps.specs.declared.Stamp.{Stamp}
 use Rattle.pes_fields.specs.Tables.{extensionFlags, secondExtension}
 use Rattle.pes_fields.specs.HeaderData.{Flags, after, afterAll, trefFlagged, withMarker, afterTrefFlags, extensionFieldOf, fieldLength, afterFieldLength, secondExtensionOf, afterBuffer, afterPackHeader, afterPrivateData, afterExtensionFlags, extensionOf, fieldBytes, afterCrc, headerDataOf}
-use Rattle.pes_fields.specs.HeaderDataLaws.{after-fits, after-short}
-use Rattle.pes_fields.specs.FieldLaws.{Sized, none, one}
+use Rattle.pes_fields.proofs.HeaderDataLaws.{after-fits, after-short}
+use Rattle.pes_fields.proofs.FieldLaws.{Sized, none, one}
 use Rattle.pes_fields.specs.Meaning.{inOrder, Optional, ExtensionField, without-tref, with-tref, SecondExtension, PackHeader, PesExtension, HeaderData}
 use Rattle.pes_fields.specs.declared.Extension.{Extension}
 use Rattle.pes_fields.specs.declared.Extension.the-variants.{DoesNotFit, WithoutTref, WithTref}

@@ -8,7 +8,7 @@ use Rattle.pes_reader.specs.Reading.{readOf}
 use Rattle.stamps.specs.declared.Times.{Times}
 use Rattle.pes_reader.specs.declared.Answer.the-variants.{Read}
 use Rattle.pes_writer.specs.Writing.{headerOf}
-use Rattle.pes.specs.RoundTrips.{readBack}
+use Rattle.pes.proofs.RoundTrips.{readBack}
 
 abbrev times : ℕ → ℕ → ℕ → Times
 times pts decoding matching = record { pts = pts; decoding = decoding; matching = matching }

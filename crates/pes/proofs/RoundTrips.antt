@@ -21,7 +21,7 @@ use Rattle.vocabulary.specs.declared.refusal.Refusal.the-variants.{NoRoom, PtsB
 use Rattle.stamps.specs.Tables as TimeTables
 use Rattle.stamps.specs.Tables.{ptsAlone, ptsBeforeDts, tref}
 use Rattle.stamps.specs.Stamps.{dtsFlag, timeOf, stampOf, withDts, withoutDts, stampsOf, partsOf}
-use Rattle.stamps.specs.StampLaws.{stamp, stamp-before}
+use Rattle.stamps.proofs.StampLaws.{stamp, stamp-before}
 use Rattle.stamps.specs.declared.Stamp.{Stamp}
 use Rattle.stamps.specs.declared.Stamps.{Stamps}
 use Rattle.stamps.specs.declared.Times.{Times}
@@ -33,14 +33,14 @@ use Rattle.pes_fields.specs.declared.Extension.{Extension}
 use Rattle.pes_fields.specs.declared.Extension.the-variants.{WithoutTref, WithTref}
 use Rattle.pes_reader.specs.Reading.{dataOf, endOf, judged, marksOf, matchOf, sentOf, readOf}
 use Rattle.pes_reader.specs.Meaning.{VideoHeader, LaidOut}
-use Rattle.pes_reader.specs.MeaningLaws.{laid-answer}
+use Rattle.pes_reader.proofs.MeaningLaws.{laid-answer}
 use Rattle.pes_reader.specs.declared.Answer.the-variants as Answer
 use Rattle.pes_reader.specs.declared.Header.{Header}
 use Rattle.pes_writer.specs.Writing.{secondAlone, sixBytes, trefFollows, headGiven, headerOf, tooWide, writeOf, bufferOf}
-use Rattle.pes_writer.specs.WritingLaws.{narrow}
+use Rattle.pes_writer.proofs.WritingLaws.{narrow}
 use Rattle.pes_writer.specs.OwnShape as own
 use Rattle.pes_writer.specs.OwnShape.{OwnTimes, alone, both, OwnExtension, OwnShape, Narrow}
-use Rattle.pes_writer.specs.OwnShapeLaws.{own-is, own-only, by-tests, writes-only}
+use Rattle.pes_writer.proofs.OwnShapeLaws.{own-is, own-only, by-tests, writes-only}
 use Rattle.pes_writer.specs.declared.Written.the-variants.{Bytes, Refused}
 
 -- ---- a time in its field

@@ -21,7 +21,7 @@ use Rattle.stamps.specs.Stamps.{partsOf, timeField}
 use Rattle.stamps.specs.declared.Times.{Times}
 use Rattle.pes_fields.specs.Tables as Tables
 use Rattle.pes_writer.specs.Writing.{timeFields, trefHead, trefFields, dataFields, headGiven, ptsDtsFlagsOf, extensionFlagOf, headOf, headerOf, tooWide, writeOf, bufferOf}
-use Rattle.pes_writer.specs.WritingLaws.{times-at-most, tref-length, tref-at-most, data-length, flags-below, extension-below, narrow, narrow-only}
+use Rattle.pes_writer.proofs.WritingLaws.{times-at-most, tref-length, tref-at-most, data-length, flags-below, extension-below, narrow, narrow-only}
 use Rattle.pes_writer.specs.OwnShape.{OwnTimes, alone, both, OwnExtension, with-tref, OwnShape, Narrow, Writes, too-wide, no-room, pts-before-dts}
 use Rattle.pes_writer.specs.OwnShape as own
 use Rattle.pes_writer.specs.declared.Written as answer

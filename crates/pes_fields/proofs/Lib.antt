@@ -1,0 +1,3 @@
+pub mod HeaderDataLaws
+pub mod FieldLaws
+pub mod WalkLaws
