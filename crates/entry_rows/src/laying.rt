@@ -13,6 +13,7 @@ use descriptors::ExtensionRecord;
 use descriptors::HierarchyRecord;
 use descriptors::Record;
 use es_loop::Entry;
+use es_loop::MOST_ENTRIES;
 use vocabulary::LayerIndex;
 
 fn wide(byte: u8) -> u16
@@ -153,10 +154,10 @@ fn put_entry(out: &mut [u16], at: usize, entry: Entry) -> usize
 }
 
 // The rows of the first `count` entries, of which there are at most 201, from the front of the buffer on.
-pub fn put_entries(out: &mut [u16], count: usize, entries: [Entry; 201]) -> usize
+pub fn put_entries(out: &mut [u16], count: usize, entries: [Entry; MOST_ENTRIES]) -> usize
     ensures { λ r. ⌜ Laid (now (out .entry)) 0 (rowsOf (take count entries)) r (now (out .exit)) ⌝ }
 {
-    let end = lesser(count, 201);
+    let end = lesser(count, MOST_ENTRIES);
     let mut place = 0;
     let mut i = 0;
     while i < end {

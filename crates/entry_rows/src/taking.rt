@@ -16,6 +16,7 @@ use descriptors::ExtensionRecord;
 use descriptors::HierarchyRecord;
 use descriptors::Record;
 use es_loop::Entry;
+use es_loop::MOST_ENTRIES;
 use vocabulary::HierarchyChannel;
 use vocabulary::LayerIndex;
 use vocabulary::NuhLayerId;
@@ -191,12 +192,12 @@ pub fn some_too_wide(numbers: &[u16]) -> bool
 }
 
 // The entries of the rows, as many as their array has room for.
-pub fn entries_of(numbers: &[u16]) -> [Entry; 201]
+pub fn entries_of(numbers: &[u16]) -> [Entry; MOST_ENTRIES]
     requires { ⌜ someTooWide (now numbers) ≡ false ⌝ }
     ensures { λ r. ⌜ r ≡ entriesIn (now (numbers .entry)) ⌝ }
 {
     let mut entries = es_loop::blank_entries();
-    let count = lesser(numbers.len() / 80, 201);
+    let count = lesser(numbers.len() / 80, MOST_ENTRIES);
     let mut i = 0;
     while i < count {
         let start = i * 80;

@@ -10,6 +10,11 @@ use descriptors::Seen;
 use vocabulary::LayerIndex;
 use vocabulary::Reading;
 
+// The most bytes of a loop, and the most entries that they can hold.
+pub const MOST_BYTES: usize = 1008;
+
+pub const MOST_ENTRIES: usize = 201;
+
 // An entry as it is answered.
 pub struct Entry {
     pub stream_type: u8,
@@ -26,8 +31,8 @@ pub struct Stream {
     pub seen: Seen,
 }
 
-// Room for the 201 entries that 1,008 bytes can hold, all blank.
-pub fn blank_entries() -> [Entry; 201]
+// Room for every entry that a loop can hold, all blank.
+pub fn blank_entries() -> [Entry; MOST_ENTRIES]
     ensures { λ r. ⌜ r ≡ entriesOf [] ⌝ }
 {
     let blank = Entry {
@@ -36,7 +41,7 @@ pub fn blank_entries() -> [Entry; 201]
         record: Record::NoRecord,
         embedded: descriptors::no_layers(),
     };
-    [blank; 201]
+    [blank; MOST_ENTRIES]
 }
 
 pub fn wide(byte: u8) -> usize

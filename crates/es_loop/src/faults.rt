@@ -11,6 +11,9 @@ use descriptors::Record;
 use descriptors::Seen;
 use vocabulary::Refusal;
 
+// Past all numbers that are judged at an entry.
+pub const NO_FAULT: u8 = 11;
+
 // A number that applies, and the entry at which it does.
 pub struct Fault {
     pub number: u8,
@@ -59,7 +62,7 @@ fn judged_fault(index_held: bool, stream_type: u8, seen: Seen) -> u8
     if judging::too_many_embedded(record) {
         return 10;
     }
-    11
+    NO_FAULT
 }
 
 // Where the mark of a record's index stands: at the index, and past all of them for a stream that is no layer.

@@ -6,12 +6,15 @@ mod reader;
 mod verdict;
 
 pub use entries::Entry;
+pub use entries::MOST_BYTES;
+pub use entries::MOST_ENTRIES;
 pub use entries::Stream;
 pub use entries::blank_entries;
 pub use entries::entry_of;
 pub use entries::entry_size;
 pub use entries::read_stream;
 pub use faults::Fault;
+pub use faults::NO_FAULT;
 pub use faults::refusal_of;
 pub use faults::slot_of;
 pub use reader::LoopRead;

@@ -4,6 +4,7 @@ ghost use lib.ListN.{length};
 ghost use Rattle.es_loop.specs.Entries.{streamsOf, entriesOf};
 ghost use Rattle.es_loop.specs.Reading.{refusedWith, verdictOf, loopRead};
 use super::entries::Entry;
+use super::entries::MOST_ENTRIES;
 use super::entries::blank_entries;
 use super::entries::entry_of;
 use super::entries::entry_size;
@@ -22,7 +23,7 @@ pub enum Outcome {
 pub struct LoopRead {
     pub outcome: Outcome,
     pub count: usize,
-    pub entries: [Entry; 201],
+    pub entries: [Entry; MOST_ENTRIES],
 }
 
 fn refused(refusal: Refusal) -> LoopRead
@@ -36,7 +37,7 @@ fn refused(refusal: Refusal) -> LoopRead
 }
 
 // The entries of a loop that was judged and accepted.
-fn entries_in(reading: Reading, bytes: &[u8]) -> [Entry; 201]
+fn entries_in(reading: Reading, bytes: &[u8]) -> [Entry; MOST_ENTRIES]
     requires { ⌜ verdictOf reading (now bytes) ≡ Verdict.Entries (length (streamsOf reading (now bytes))) ⌝ }
     ensures { λ r. ⌜ r ≡ entriesOf (streamsOf reading (now (bytes .entry))) ⌝ }
 {

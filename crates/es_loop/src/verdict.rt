@@ -9,10 +9,12 @@ ghost use Rattle.judging.specs.Judging.{mostEmbedded};
 ghost use Rattle.es_loop.specs.Entries.{streamsOf};
 ghost use Rattle.es_loop.specs.Conditions.{slotOf, faultAt, lowerOf};
 ghost use Rattle.es_loop.specs.Reading.{judged, verdictOf};
+use super::entries::MOST_BYTES;
 use super::entries::Stream;
 use super::entries::entry_size;
 use super::entries::read_stream;
 use super::faults::Fault;
+use super::faults::NO_FAULT;
 use super::faults::lower;
 use super::faults::lowest_fault;
 use super::faults::refusal_of;
@@ -45,7 +47,7 @@ pub fn no_fault() -> Fault
     ensures { λ r. ⌜ r ≡ record { number = 11; place = 0 } ⌝ }
 {
     Fault {
-        number: 11,
+        number: NO_FAULT,
         place: 0,
     }
 }
@@ -97,7 +99,7 @@ fn judge_entries(reading: Reading, bytes: &[u8]) -> Verdict
         count += 1;
         at += size;
     }
-    if fault.number < 11 {
+    if fault.number < NO_FAULT {
         return Verdict::Refused(refusal_of(fault.number, fault.place));
     }
     Verdict::Entries(count)
@@ -107,7 +109,7 @@ fn judge_entries(reading: Reading, bytes: &[u8]) -> Verdict
 pub fn judge(reading: Reading, bytes: &[u8]) -> Verdict
     ensures { λ r. ⌜ r ≡ verdictOf reading (now (bytes .entry)) ⌝ }
 {
-    if 1008 < bytes.len() {
+    if MOST_BYTES < bytes.len() {
         return Verdict::Refused(Refusal::LoopTooLong);
     }
     judge_entries(reading, bytes)

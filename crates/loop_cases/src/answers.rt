@@ -6,6 +6,7 @@ use descriptors::HierarchyRecord;
 use descriptors::Record;
 use es_loop::Entry;
 use es_loop::LoopRead;
+use es_loop::MOST_ENTRIES;
 use es_loop::Outcome;
 use vocabulary::LayerIndex;
 use vocabulary::Refusal;
@@ -78,9 +79,9 @@ fn print_entry(entry: Entry) {
     say(b"\n");
 }
 
-fn print_entries(count: usize, entries: [Entry; 201]) {
+fn print_entries(count: usize, entries: [Entry; MOST_ENTRIES]) {
     let mut i = 0;
-    while i < 201 {
+    while i < MOST_ENTRIES {
         if i < count {
             print_entry(entries[i]);
         }

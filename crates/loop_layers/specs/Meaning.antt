@@ -1,5 +1,5 @@
 -- WHAT IS RIGHT, in the words of document 01: which layers a loop's entries are, what each embeds, and the answer to a target.
--- specs/Meant.antt has the laws that join this to what is computed: the computed answer has this meaning, and no other answer has it.
+-- proofs/Meant.antt has the laws that join this to what is computed: the computed answer has this meaning, and no other answer has it.
 -- Assumes nothing.
 use Prim.Native.Nat.{ℕ, _<_}
 use mathlib.Core.Path.{_≡_}

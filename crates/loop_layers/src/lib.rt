@@ -10,6 +10,7 @@ use closure::Closure;
 use closure::Layers;
 use descriptors::Record;
 use es_loop::Entry;
+use es_loop::MOST_ENTRIES;
 use es_loop::Outcome;
 use vocabulary::HierarchyChannel;
 use vocabulary::Reading;
@@ -42,11 +43,15 @@ fn no_layers() -> LayerTable
 fn entry_count(count: usize) -> usize
     ensures { λ r. ⌜ r ≡ min count 201 ⌝ }
 {
-    if count < 201 { count } else { 201 }
+    if count < MOST_ENTRIES {
+        count
+    } else {
+        MOST_ENTRIES
+    }
 }
 
 // The layers among the first `count` entries, in one pass.
-pub fn table_of(count: usize, entries: [Entry; 201]) -> LayerTable
+pub fn table_of(count: usize, entries: [Entry; MOST_ENTRIES]) -> LayerTable
     ensures { λ r. ⌜ r ≡ tableOf (take count entries) ⌝ }
 {
     let none = no_layers();
@@ -82,7 +87,7 @@ pub fn table_of(count: usize, entries: [Entry; 201]) -> LayerTable
 }
 
 // The same without the columns that only a listing asks for.
-pub fn layers_of(count: usize, entries: [Entry; 201]) -> Layers
+pub fn layers_of(count: usize, entries: [Entry; MOST_ENTRIES]) -> Layers
     ensures { λ r. ⌜ r ≡ layersOf (take count entries) ⌝ }
 {
     let table = table_of(count, entries);

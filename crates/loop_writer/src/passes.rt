@@ -10,9 +10,10 @@ use super::entry::entry_size;
 use super::entry::put_entry;
 use super::entry::too_wide;
 use es_loop::Entry;
+use es_loop::MOST_ENTRIES;
 
 // Whether one of the first `count` entries has a value that is too wide.
-pub fn some_too_wide(count: usize, entries: [Entry; 201]) -> bool
+pub fn some_too_wide(count: usize, entries: [Entry; MOST_ENTRIES]) -> bool
     requires { ⌜ count ≤ 201 ⌝ }
     ensures { λ r. ⌜ r ≡ any tooWide (take count entries) ⌝ }
 {
@@ -27,7 +28,7 @@ pub fn some_too_wide(count: usize, entries: [Entry; 201]) -> bool
 }
 
 // How many bytes the first `count` entries take, none with a value that is too wide.
-pub fn loop_size(count: usize, entries: [Entry; 201]) -> usize
+pub fn loop_size(count: usize, entries: [Entry; MOST_ENTRIES]) -> usize
     requires { ⌜ (count ≤ 201) × (any tooWide (take count entries) ≡ false) ⌝ }
     ensures { λ r. ⌜ r ≡ length (loopBytes (take count entries)) ⌝ }
 {
@@ -41,7 +42,7 @@ pub fn loop_size(count: usize, entries: [Entry; 201]) -> usize
 }
 
 // The first `count` entries, from the front of the buffer on.
-pub fn put_entries(out: &mut [u8], count: usize, entries: [Entry; 201]) -> usize
+pub fn put_entries(out: &mut [u8], count: usize, entries: [Entry; MOST_ENTRIES]) -> usize
     requires { ⌜ (count ≤ 201) × (any tooWide (take count entries) ≡ false) ⌝ }
     ensures { λ r. ⌜ Laid (now (out .entry)) 0 (loopBytes (take count entries)) r (now (out .exit)) ⌝ }
 {

@@ -11,6 +11,7 @@ ghost use Rattle.loop_writer.specs.Verdict.{streamFor, appliesTo};
 use descriptors::Seen;
 use es_loop::Entry;
 use es_loop::Fault;
+use es_loop::MOST_ENTRIES;
 use es_loop::Stream;
 use es_loop::judge_next;
 use es_loop::no_fault;
@@ -39,7 +40,7 @@ fn stream_for(entry: Entry) -> Stream
 }
 
 // The first `count` entries, none with a value that is too wide. Number 11, at place 0, says that none applies.
-pub fn lowest_of(count: usize, entries: [Entry; 201]) -> Fault
+pub fn lowest_of(count: usize, entries: [Entry; MOST_ENTRIES]) -> Fault
     requires { ⌜ (count ≤ 201) × (any tooWide (take count entries) ≡ false) ⌝ }
     ensures { λ r. ⌜ Lowest (appliesTo (take count entries)) 11 (length (take count entries)) (r .number) (r .place) ⌝ }
     ensures { λ r. ⌜ (11 ≤ r .number → r .place ≡ 0) ⌝ }

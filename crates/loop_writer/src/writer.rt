@@ -8,6 +8,9 @@ use super::passes::some_too_wide;
 use super::verdict::lowest_of;
 use combinators::lesser;
 use es_loop::Entry;
+use es_loop::MOST_BYTES;
+use es_loop::MOST_ENTRIES;
+use es_loop::NO_FAULT;
 use es_loop::refusal_of;
 use vocabulary::Refusal;
 
@@ -18,22 +21,22 @@ pub enum Written {
 }
 
 // Writes the first `count` entries into `out`, from its front on.
-pub fn write_loop(count: usize, entries: [Entry; 201], out: &mut [u8]) -> Written
+pub fn write_loop(count: usize, entries: [Entry; MOST_ENTRIES], out: &mut [u8]) -> Written
     ensures { λ r. ⌜ (r ≡ answer (length (now (out .entry))) count entries) × (now (out .exit) ≡ content count entries (now (out .entry))) ⌝ }
 {
-    let given = lesser(count, 201);
+    let given = lesser(count, MOST_ENTRIES);
     if some_too_wide(given, entries) {
         return Written::Refused(Refusal::TooWide);
     }
-    if 201 < count {
+    if MOST_ENTRIES < count {
         return Written::Refused(Refusal::LoopTooLong);
     }
     let size = loop_size(given, entries);
-    if 1008 < size {
+    if MOST_BYTES < size {
         return Written::Refused(Refusal::LoopTooLong);
     }
     let fault = lowest_of(given, entries);
-    if fault.number < 11 {
+    if fault.number < NO_FAULT {
         return Written::Refused(refusal_of(fault.number, fault.place));
     }
     if out.len() < size {
