@@ -4,6 +4,7 @@ pub mod Those
 pub mod Ascending
 pub mod Lists
 pub mod Members
+pub mod Once
 pub mod Padding
 pub mod Gathering
 pub mod Lowest

@@ -5,31 +5,34 @@ use mathlib.Core.Path.{_≡_, refl, sym, _∙_, ap, ap₂, subst}
 use mathlib.Core.Bool.{Bool, true, false, not, cond, _&&_}
 use mathlib.Core.List.{List}
 use native.Mathlib.Omega.{arith}
-use native.Mathlib.Nat.{mul-le-mul}
 use lib.Dec.{ltb}
 use lib.IntN.{ℤ}
-use lib.ListN.{length, take, replicate, length-append}
-use lib.Seq.{sets, take-append-seam}
+use lib.ListN.{length, getD, take, replicate, length-append, length-take}
+use lib.Seq.{sets, getD-take, take-append-seam}
 use Rattle.closure.specs.declared.Layers.{Layers}
-use Rattle.combinators.specs.Below.{count, seek-first, count-short, count-alike}
+use Rattle.combinators.specs.Below.{count, seek-first, count-alike}
+use Rattle.combinators.specs.Lists.{gather}
+use Rattle.combinators.specs.Those.{those}
 use Rattle.combinators.specs.Padding.{padTo}
 use Rattle.sets.specs.Sets.{has}
 use Rattle.vocabulary.specs.declared.refusal.Refusal.{Refusal}
-use Rattle.vocabulary.specs.declared.refusal.Refusal.the-variants.{OutOfRange, TimeOrderBroken, Unpaired, UsedTwice, NoRoom}
+use Rattle.vocabulary.specs.declared.refusal.Refusal.the-variants.{Unpaired, UsedTwice, NoRoom}
 use Rattle.joining.specs.declared.answer.Joined.{Joined}
 use Rattle.joining.specs.declared.answer.Joined.the-variants.{Units, Refused}
 use Rattle.joining.specs.declared.units.Judged.{Judged}
-use Rattle.rows.specs.Table.{Table, rowsIn, layerOf, wrongShape, firstOutOfRange, firstBroken, mostRows}
-use Rattle.joining.specs.Units.{Frame, isTarget, unpaired, firstUnpaired, firstShared, unitsIn, rowsBelow, lagsBelow, leftOut, isLeftOut, frameOf}
-use Rattle.joining.specs.Judging.{Whole, Judges}
+use Rattle.rows.specs.Table.{Table, rowsIn, layerOf, decodingOf}
+use Rattle.joining.specs.Units.{Frame, isTarget, unitOf, lagsFrom, lagsOf, unpaired, shares, firstUnpaired, firstShared, rowsBelow, lagsBelow, leftOut, isLeftOut, frameOf}
+use Rattle.joining.specs.Judging.{Whole, Holds, Judges}
 use Rattle.buffers.specs.Buffers.{over}
 use Rattle.buffers.proofs.Laws.{sets-over}
-use Rattle.joining.specs.Writing.{Writable}
+use Rattle.joining.specs.Writing.{keptUnit, keptLags, Writable}
 use Rattle.joining.proofs.Cases.{is-unpaired as case-unpaired, is-shared as case-shared, no-number-room as case-no-number-room, no-lag-room as case-no-lag-room, are-units as case-units, IsOver, units-over, refused, is-over}
 use Rattle.joining.specs.Joining.{places, unitsJoined, tableJoined, framedNumbers, framedLags, numbersAfter, lagsAfter, isSpare}
-use Rattle.joining.proofs.Filling.{rows-long, beside-long}
+use Rattle.joining.proofs.Gathers.{gathered-alike}
+use Rattle.joining.proofs.Kept.{rows-long, lags-long, rows-small, kept-unit}
 
-module _ (t : Table) (closure : ℕ) (f : Frame) (numberRoom lagRoom : ℕ) (judged : Judged) (found : Judges t f judged) where
+module _ (t : Table) (closure : ℕ) (f : Frame) (numberRoom lagRoom : ℕ) (judged : Judged) (used : List Bool) (kept : List ℕ)
+    (found : Judges t f judged used kept) where
   -- 15
   pub is-unpaired : judged .unpaired < rowsIn t → Refused (Unpaired (judged .unpaired)) ≡ unitsJoined t closure f numberRoom lagRoom
   is-unpaired h = case-unpaired t closure f numberRoom lagRoom (judged .unpaired) (found .no-assembly) h
@@ -41,6 +44,9 @@ module _ (t : Table) (closure : ℕ) (f : Frame) (numberRoom lagRoom : ℕ) (jud
     paired-first : rowsIn t ≤ firstUnpaired t f
     paired-first = subst (λ (k : ℕ). rowsIn t ≤ k) (found .no-assembly) paired
 
+    paired-each : (k : ℕ) → k < rowsIn t → unpaired t f k ≡ false
+    paired-each k i = seek-first (unpaired t f) (rowsIn t) .before k (omega (arith, paired-first))
+
     -- 16
     pub is-shared : judged .shared < rowsIn t → Refused (UsedTwice (judged .shared)) ≡ unitsJoined t closure f numberRoom lagRoom
     is-shared h = case-shared t closure f numberRoom lagRoom paired-first (judged .shared) (found .two-units none-unpaired) h
@@ -49,60 +55,84 @@ module _ (t : Table) (closure : ℕ) (f : Frame) (numberRoom lagRoom : ℕ) (jud
       apart-first : rowsIn t ≤ firstShared t f
       apart-first = subst (λ (k : ℕ). rowsIn t ≤ k) (found .two-units none-unpaired) apart
 
-      pub places-is : judged .units * length (f .members) ≡ places t f
-      places-is = ap (λ (n : ℕ). n * length (f .members)) (found .counted none-unpaired)
+      held : Holds t f (rowsIn t) (judged .units) (judged .places) used kept
+      held =
+          found .units-held none-unpaired
+          (omega (arith, apart, found .two-units none-unpaired, seek-first (shares t f) (rowsIn t) .within))
 
-      -- the product fits
-      pub places-fit : rowsIn t ≤ mostRows → length (f .members) ≤ 64 → judged .units * length (f .members) ≤ 32768
-      places-fit short narrow =
-          let few : judged .units ≤ mostRows = omega (arith, found .counted none-unpaired, count-short (isTarget t f) (rowsIn t)) in
-          mul-le-mul few narrow
+      pub places-is : judged .places ≡ places t f
+      places-is = held .place ∙ rows-long t f (rowsIn t)
 
       -- 17
-      pub no-number-room : numberRoom < judged .units * length (f .members) → Refused NoRoom ≡ unitsJoined t closure f numberRoom lagRoom
+      pub no-number-room : numberRoom < judged .places → Refused NoRoom ≡ unitsJoined t closure f numberRoom lagRoom
       no-number-room h =
           case-no-number-room t closure f numberRoom lagRoom paired-first apart-first (subst (λ (n : ℕ). numberRoom < n) places-is h)
 
-      module _ (number-room : judged .units * length (f .members) ≤ numberRoom) where
+      module _ (number-room : judged .places ≤ numberRoom) where
         number-places : places t f ≤ numberRoom
         number-places = subst (λ (n : ℕ). n ≤ numberRoom) places-is number-room
 
-        pub no-lag-room : lagRoom < judged .units * length (f .members) → Refused NoRoom ≡ unitsJoined t closure f numberRoom lagRoom
+        pub no-lag-room : lagRoom < judged .places → Refused NoRoom ≡ unitsJoined t closure f numberRoom lagRoom
         no-lag-room h =
             case-no-lag-room t closure f numberRoom lagRoom paired-first apart-first number-places (subst (λ (n : ℕ). lagRoom < n) places-is h)
 
-        module _ (lag-room : judged .units * length (f .members) ≤ lagRoom) where
+        module _ (lag-room : judged .places ≤ lagRoom) where
           -- the units
-          spare-is : rowsIn t ≤ mostRows → count (isSpare closure (t .indices) (judged .used)) (rowsIn t) ≡ leftOut t closure f
-          spare-is short =
-              count-alike (isSpare closure (t .indices) (judged .used)) (isLeftOut t closure (rowsBelow t f (rowsIn t))) (rowsIn t)
-              (λ k h. ap (λ (b : Bool). has closure (layerOf t k) && not b) (found .marks none-unpaired .at k (omega arith)))
+          spare-is : count (isSpare closure (t .indices) used) (rowsIn t) ≡ leftOut t closure f
+          spare-is =
+              count-alike (isSpare closure (t .indices) used) (isLeftOut t closure (rowsBelow t f (rowsIn t))) (rowsIn t)
+              (λ k h. ap (λ (b : Bool). has closure (layerOf t k) && not b) (held .marks .at k h))
 
-          pub are-units : rowsIn t ≤ mostRows → (left : ℕ) → left ≡ count (isSpare closure (t .indices) (judged .used)) (rowsIn t)
+          pub are-units : (left : ℕ) → left ≡ count (isSpare closure (t .indices) used) (rowsIn t)
               → Units closure (judged .units) left ≡ unitsJoined t closure f numberRoom lagRoom
-          are-units short left e =
-              ap₂ (Units closure) (found .counted none-unpaired) (e ∙ spare-is short)
+          are-units left e =
+              ap₂ (Units closure) (held .counted) (e ∙ spare-is)
               ∙ case-units t closure f numberRoom lagRoom paired-first apart-first number-places (subst (λ (n : ℕ). n ≤ lagRoom) places-is lag-room)
 
-      pub writable : Whole t f → (numbers : List ℕ) (lags : List ℤ) → judged .units * length (f .members) ≤ length numbers
-          → judged .units * length (f .members) ≤ length lags → Writable t f numbers lags
-      writable whole numbers lags h l =
+      -- a mark for each row
+      pub marks-long : rowsIn t ≤ length used
+      marks-long = held .marks .long
+
+      -- the rows that were kept can be written,
+      pub writable : Whole t f → length (t .decodings) ≡ rowsIn t → (numbers : List ℕ) (lags : List ℤ)
+          → judged .places ≤ length numbers → judged .places ≤ length lags
+          → Writable (t .indices) (t .decodings) (f .target) (length (f .members)) kept numbers lags
+      writable whole decoded numbers lags h l =
           record {
-            whole = whole;
-            paired = λ k i. seek-first (unpaired t f) (rowsIn t) .before k
-                (subst (λ (n : ℕ). k < n) (sym none-unpaired ∙ found .no-assembly) i);
-            room-numbers = subst (λ (n : ℕ). n ≤ length numbers) (places-is ∙ sym (rows-long t f (rowsIn t))) h;
-            room-lags = subst (λ (n : ℕ). n ≤ length lags) (places-is ∙ sym (beside-long t f (rowsIn t))) l;
+            decoded = decoded;
+            rows = record {
+              from-to = omega arith;
+              inside = omega (arith, ap length (held .rows), length-take (judged .places) kept, held .place, places-is);
+              row = λ p i j. row-small p (subst (λ (n : ℕ). p < n) (sym places-is) j);
+            };
+            room-numbers = subst (λ (n : ℕ). n ≤ length numbers) places-is h;
+            room-lags = subst (λ (n : ℕ). n ≤ length lags) places-is l;
           }
+        where
+          row-small : (p : ℕ) → p < judged .places → getD kept p 0 < length (t .decodings)
+          row-small p i =
+              let small = rows-small t f whole (rowsIn t) (omega arith) paired-each (rowsIn t) (omega arith) p (omega (arith, held .place)) in
+              let same : getD kept p 0 ≡ getD (rowsBelow t f (rowsIn t)) p 0 =
+              sym (getD-take (judged .places) kept p 0 i) ∙ ap (λ (rows : List ℕ). getD rows p 0) (held .rows) in
+              omega (arith, decoded)
 
--- what was written lies over what stood there
-pub numbers-over : (t : Table) (f : Frame) (numbers : List ℕ) → places t f ≤ length numbers
-    → sets numbers 0 (rowsBelow t f (rowsIn t)) ≡ over (rowsBelow t f (rowsIn t)) numbers
-numbers-over t f numbers h = sets-over (rowsBelow t f (rowsIn t)) numbers (subst (λ (n : ℕ). n ≤ length numbers) (sym (rows-long t f (rowsIn t))) h)
+      -- and what was written lies over what stood there
+      pub numbers-over : (numbers : List ℕ) → judged .places ≤ length numbers
+          → sets numbers 0 (gather (keptUnit (isTarget t f) (length (f .members)) kept) (those (isTarget t f) (rowsIn t)))
+          ≡ over (rowsBelow t f (rowsIn t)) numbers
+      numbers-over numbers h =
+          ap (sets numbers 0) (gathered-alike (keptUnit (isTarget t f) (length (f .members)) kept) (unitOf t f) (isTarget t f) (rowsIn t)
+          (λ k i m. kept-unit t f (rowsIn t) k (judged .places) kept (held .place) (held .rows) i m))
+          ∙ sets-over (rowsBelow t f (rowsIn t)) numbers (subst (λ (n : ℕ). n ≤ length numbers) (held .place) h)
 
-pub lags-over : (t : Table) (f : Frame) (lags : List ℤ) → places t f ≤ length lags
-    → sets lags 0 (lagsBelow t f (rowsIn t)) ≡ over (lagsBelow t f (rowsIn t)) lags
-lags-over t f lags h = sets-over (lagsBelow t f (rowsIn t)) lags (subst (λ (n : ℕ). n ≤ length lags) (sym (beside-long t f (rowsIn t))) h)
+      pub lags-over : (lags : List ℤ) → judged .places ≤ length lags
+          → sets lags 0 (gather (keptLags (t .decodings) (isTarget t f) (length (f .members)) kept) (those (isTarget t f) (rowsIn t)))
+          ≡ over (lagsBelow t f (rowsIn t)) lags
+      lags-over lags h =
+          ap (sets lags 0) (gathered-alike (keptLags (t .decodings) (isTarget t f) (length (f .members)) kept) (lagsOf t f) (isTarget t f) (rowsIn t)
+          (λ k i m. ap (lagsFrom t (decodingOf t k)) (kept-unit t f (rowsIn t) k (judged .places) kept (held .place) (held .rows) i m)))
+          ∙ sets-over (lagsBelow t f (rowsIn t)) lags
+          (subst (λ (n : ℕ). n ≤ length lags) (places-is ∙ sym (lags-long t f (rowsIn t))) h)
 
 -- a list lent out of the array that it fills from the front
 pub part-is : (size count : ℕ) (l array : List ℕ) → count ≡ length l → array ≡ padTo size 0 l → take count array ≡ l

@@ -4,9 +4,10 @@
 use Prim.Native.Nat.{ℕ, _+_, _-_, _*_, _<_}
 use mathlib.Core.Path.{_≡_, refl, sym, _∙_, ap, subst}
 use mathlib.Core.Bool.{Bool, true, _&&_}
+use mathlib.Core.List.{List}
 use mathlib.Core.Logic.{_⊎_, inl, inr}
 use native.Mathlib.Omega.{arith}
-use borrow.Author.Tests.{lt-ltb, ltb-true}
+use borrow.Author.Tests.{lt-ltb, ltb-true, eqb-true}
 use lib.Dec.{ltb}
 use lib.ListN.{length, getD}
 use Rattle.closure.specs.declared.Layers.{Layers}
@@ -14,13 +15,15 @@ use Rattle.closure.specs.Closures.{isLayer}
 use Rattle.closure.specs.Meaning.{Names, RestsOn, itself, by, WholeClosure}
 use Rattle.closure.proofs.Meant.{below-64}
 use Rattle.combinators.specs.Bools.{both-left, both-right}
-use Rattle.combinators.specs.Those.{those-at, those-which, those-earlier}
+use Rattle.combinators.specs.Once.{Once, once-places}
+use Rattle.combinators.specs.Those.{those-at, those-which, those-rise, those-earlier}
 use Rattle.sets.specs.Sets.{has}
-use Rattle.rows.specs.Table.{Table, rowsIn}
+use Rattle.rows.specs.Table.{Table, rowsIn, layerOf}
 use Rattle.assembling.specs.Assemblies.{upperOf, lowerOf, joins, isEdge, edgesOf, membersOf, assembled}
-use Rattle.assembling.proofs.Assembled.{all-met, heads, begin-long}
-use Rattle.joining.specs.Units.{frameOf}
+use Rattle.assembling.proofs.Assembled.{all-met, all-own, heads, begin-long, begin-own}
+use Rattle.joining.specs.Units.{frameOf, unitFrom, unitOf}
 use Rattle.joining.specs.Judging.{Whole}
+use Rattle.joining.proofs.Marking.{unit-at, unit-long}
 
 -- the number that holds an edge
 abbrev pub edge : ℕ → ℕ → ℕ
@@ -135,6 +138,33 @@ module _ (layers : Layers) (target closure : ℕ) (here : isLayer layers target 
           subst (λ (l : ℕ). getD (assembled t (edgesOf layers closure) target head .rows) l 0 < rowsIn t) (w .3 .lower-is)
           (all-met t (edgesOf layers closure) _ (begin-long t target head target-below) e (w .0) (w .3 .inside) .lower-row)
 
+  -- each a row of its own layer, so that none stands in it twice
+  unit-once : (t : Table) (head : ℕ) → head < rowsIn t → layerOf t head ≡ target → assembled t (edgesOf layers closure) target head .complete ≡ true
+      → Once (unitOf t (frameOf layers closure target) head)
+  unfolding membersOf
+  unit-once t head h own e =
+      once-places (unitOf t (frameOf layers closure target) head)
+      (λ i j l m same. absurd (differ i j l (subst (λ (n : ℕ). j < n) (unit-long (membersOf closure) (assembled t (edgesOf layers closure) target head .rows)) m) same))
+    where
+      rows : List ℕ
+      rows = assembled t (edgesOf layers closure) target head .rows
+
+      layer-at : (p : ℕ) → p < length (membersOf closure) → layerOf t (getD (unitFrom (membersOf closure) rows) p 0) ≡ getD (membersOf closure) p 0
+      layer-at p l =
+          let member = those-at (has closure) 64 p l in
+          ap (layerOf t) (unit-at (membersOf closure) rows p l)
+          ∙ all-own t (edgesOf layers closure) _ (begin-own t target head target-below own) e .own (getD (membersOf closure) p 0) (member .below)
+          (row-for-each t head h e (getD (membersOf closure) p 0) (whole .members (getD (membersOf closure) p 0) .0 (member .passes)))
+
+      differ : (i j : ℕ) → i < j → j < length (membersOf closure)
+          → getD (unitFrom (membersOf closure) rows) i 0 ≡ getD (unitFrom (membersOf closure) rows) j 0 → ⊥
+      differ i j l m same =
+          let first = layer-at i (omega arith) in
+          let second = layer-at j m in
+          let rise = those-rise (has closure) 64 i j l m in
+          let equal : getD (membersOf closure) i 0 ≡ getD (membersOf closure) j 0 = sym first ∙ ap (layerOf t) same ∙ second in
+          omega arith
+
   pub frame-whole : (t : Table) → Whole t (frameOf layers closure target)
   unfolding membersOf
   frame-whole t =
@@ -142,4 +172,5 @@ module _ (layers : Layers) (target closure : ℕ) (here : isLayer layers target 
         top = target-below;
         index = λ p h. those-at (has closure) 64 p h .below;
         row = λ k p h e l. row-for-each t k h e (getD (membersOf closure) p 0) (whole .members (getD (membersOf closure) p 0) .0 (those-at (has closure) 64 p l .passes));
+        once = λ k h m e. unit-once t k h (eqb-true (layerOf t k) target m) e;
       }

@@ -19,6 +19,7 @@ use Rattle.sets.specs.Sets.{has}
 use Rattle.rows.specs.Table.{Table, rowsIn, layerOf}
 use Rattle.assembling.specs.Assemblies.{membersOf}
 use Rattle.joining.specs.Units.{Frame, isTarget, assemblyOf, unitFrom, unitOf, rowsBelow, unpaired, shares, frameOf}
+use Rattle.joining.proofs.Marking.{unit-at, unit-long}
 use Rattle.joining.proofs.Frames.{rests-below}
 use Rattle.joining.specs.Orderly.{Orderly}
 use Rattle.joining.specs.Meaning.{SharesRow}
@@ -45,16 +46,6 @@ gathered-in g x [] i h e = absurd (omega arith)
 gathered-in g x (k ∷ l) zero h e = member-either x (g k) (gather g l) ∙ either-left (member x (g k)) (member x (gather g l)) e
 gathered-in g x (k ∷ l) (suc i) h e =
     member-either x (g k) (gather g l) ∙ either-right (member x (g k)) (member x (gather g l)) (gathered-in g x l i (omega arith) e)
-
--- ---- the rows of a unit
-
-pub unit-at : (members rows : List ℕ) (p : ℕ) → p < length members → getD (unitFrom members rows) p 0 ≡ getD rows (getD members p 0) 0
-unit-at [] rows p h = absurd (omega arith)
-unit-at (x ∷ members) rows zero h = refl
-unit-at (x ∷ members) rows (suc p) h = unit-at members rows p (omega arith)
-
-pub unit-long : (members rows : List ℕ) → length (unitFrom members rows) ≡ length members
-unit-long members rows = length-map members (λ layer. getD rows layer 0)
 
 module _ (layers : Layers) (target closure : ℕ) (t : Table) (orderly : Orderly layers target closure t) where
   abbrev f : Frame

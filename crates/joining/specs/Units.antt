@@ -1,9 +1,9 @@
 -- Units: one for each target row, in the rows' order, and what is judged of them together: refusals 15 and 16.
 -- Assumes nothing.
 use Prim.Native.Nat.{ℕ}
-use mathlib.Core.Bool.{Bool, not, cond, _&&_}
+use mathlib.Core.Bool.{Bool, not, _&&_}
 use mathlib.Core.List.{List, map}
-use lib.Dec.{eqb, ltb}
+use lib.Dec.{eqb}
 use lib.IntN.{ℤ}
 use lib.ListN.{getD}
 use Rattle.clock.specs.Clock.{lagOf}
@@ -70,10 +70,6 @@ firstUnpaired t f = seek (unpaired t f) (rowsIn t)
 
 abbrev pub firstShared : Table → Frame → ℕ
 firstShared t f = seek (shares t f) (rowsIn t)
-
--- the first row that shares one, as the rows are walked: the one found before, or the row at hand if it does
-abbrev pub firstSharing : ℕ → ℕ → Bool → ℕ → ℕ
-firstSharing shared none shares row = cond (ltb shared none) shared (cond shares row none)
 
 -- 'the number of units', and 'the count of closure rows in no unit'
 abbrev pub unitsIn : Table → Frame → ℕ

@@ -3,7 +3,7 @@ ghost use mathlib.Core.Path.{_≡_};
 ghost use Prim.Native.Nat.{_≤_};
 ghost use lib.ListN.{length};
 ghost use Rattle.combinators.specs.Below.{count};
-ghost use Rattle.rows.specs.Table.{table, mostRows};
+ghost use Rattle.rows.specs.Table.{table};
 ghost use Rattle.assembling.specs.Index.{Ready};
 ghost use Rattle.joining.specs.Units.{frame, frameOf};
 ghost use Rattle.joining.specs.Judging.{Whole};
@@ -33,8 +33,8 @@ pub enum Joined {
 }
 
 // How many rows of closure layers bear no mark.
-fn count_left_out(closure: u64, indices: &[u8], used: &[bool; MOST_ROWS]) -> usize
-    requires { ⌜ length (now indices) ≤ mostRows ⌝ }
+fn count_left_out(closure: u64, indices: &[u8], used: &[bool]) -> usize
+    requires { ⌜ length (now indices) ≤ length (now used) ⌝ }
     ensures { λ r. ⌜ r ≡ count (isSpare closure (now (indices .entry)) (now (used .entry))) (length (now (indices .entry))) ⌝ }
 {
     let mut left = 0;
@@ -63,8 +63,7 @@ fn join_framed(
     lags: &mut [i64],
 ) -> Joined
     requires { ⌜ Ready (table (now indices) (now decodings) (now matches)) (now starts) (now order) (now edges)
-        × Whole (table (now indices) (now decodings) (now matches)) (frame target (now members) (now edges))
-        × (length (now members) ≤ 64) ⌝ }
+        × Whole (table (now indices) (now decodings) (now matches)) (frame target (now members) (now edges)) ⌝ }
     ensures answer { λ r. ⌜ r
         ≡ unitsJoined (table (now (indices .entry)) (now (decodings .entry)) (now (matches .entry))) closure
         (frame target (now (members .entry)) (now (edges .entry))) (length (now (numbers .entry))) (length (now (lags .entry))) ⌝ }
@@ -76,6 +75,8 @@ fn join_framed(
         (frame target (now (members .entry)) (now (edges .entry))) r (now (lags .entry)) ⌝ }
 {
     let none = indices.len();
+    let mut used = [false; MOST_ROWS];
+    let mut kept = [0usize; MOST_ROWS];
     let judged = judge(
         indices,
         decodings,
@@ -85,6 +86,8 @@ fn join_framed(
         edges,
         members,
         target,
+        &mut used,
+        &mut kept,
     );
     if judged.unpaired < none {
         return Joined::Refused(Refusal::Unpaired(judged.unpaired));
@@ -92,26 +95,21 @@ fn join_framed(
     if judged.shared < none {
         return Joined::Refused(Refusal::UsedTwice(judged.shared));
     }
-    let places = judged.units * members.len();
-    if numbers.len() < places {
+    if numbers.len() < judged.places {
         return Joined::Refused(Refusal::NoRoom);
     }
-    if lags.len() < places {
+    if lags.len() < judged.places {
         return Joined::Refused(Refusal::NoRoom);
     }
     write_units(
         indices,
         decodings,
-        matches,
-        starts,
-        order,
-        edges,
-        members,
         target,
+        members.len(),
+        &kept,
         numbers,
         lags,
     );
-    let used = judged.used;
     Joined::Units {
         closure,
         units: judged.units,

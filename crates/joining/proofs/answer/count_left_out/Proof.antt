@@ -27,17 +27,17 @@ shared-slice-read-member : tie.Need-shared-slice-read-member Inv-loop μ-loop
 shared-slice-read-member c = omega arith
 
 cast-member : tie.Need-cast-member Inv-loop μ-loop
-cast-member c = omega (arith, c .shared-slice-known2 .given (c .before .before .loop .row))
+cast-member c = omega (arith, c .shared-slice-known3 .given (c .before .before .loop .row))
 
 member-requires : tie.Need-member-requires Inv-loop μ-loop
 member-requires c κs = search needs
 
-element-copy-out-if1 : tie.Need-element-copy-out-if1 Inv-loop μ-loop
-element-copy-out-if1 c = omega (arith, c .before .before .before .before .before .pre)
+shared-slice-read-if1 : tie.Need-shared-slice-read-if1 Inv-loop μ-loop
+shared-slice-read-if1 c = omega (arith, c .before .before .before .before .before .before .before .pre)
 
 add-left : tie.Need-add-left Inv-loop μ-loop
 add-left c =
-    let begin = c .before .before .before .before .before .before .before in
+    let begin = c .before .before .before .before .before .before .before .before in
     let loop = c .before .before .before .before .before .loop in
     omega (arith, loop .inv .1, count-short (isSpare (begin .args .closure) (begin .args .indices .now) (begin .args .used .now)) (loop .row), begin .pre)
 
@@ -49,7 +49,7 @@ loop-less c = omega arith
 
 loop-again : tie.Need-loop-again Inv-loop μ-loop
 loop-again c =
-    let begin = c .before .before .before .before .before .before .before in
+    let begin = c .before .before .before .before .before .before .before .before in
     let loop = c .before .before .before .before .before .loop in
     let test : ℕ → Bool = isSpare (begin .args .closure) (begin .args .indices .now) (begin .args .used .now) in
     let tested = ap (λ (b : Bool). b && not (getD (begin .args .used .now) (loop .row) false)) (c .before .before .member .ensures) in
@@ -60,7 +60,7 @@ loop-again c =
 
 returns : tie.Need-returns Inv-loop μ-loop
 returns c =
-    let begin = c .before .before .before in
+    let begin = c .before .before .before .before in
     let loop = c .before .loop in
     let all : loop .row ≡ length (begin .args .indices .now) = omega arith in
     loop .inv .1 ∙ ap (count (isSpare (begin .args .closure) (begin .args .indices .now) (begin .args .used .now))) all
@@ -75,7 +75,7 @@ count-left-out-spec =
     shared-slice-read-member
     cast-member
     member-requires
-    element-copy-out-if1
+    shared-slice-read-if1
     add-left
     add-row
     loop-less

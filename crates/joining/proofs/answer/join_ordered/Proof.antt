@@ -7,8 +7,6 @@ use native.Mathlib.Omega.{arith}
 use borrow.Author.Needs.{needs}
 use lib.ListN.{length, take}
 use lib.Seq.{length-take-le}
-use Rattle.combinators.specs.Those.{those-short}
-use Rattle.sets.specs.Sets.{has}
 use Rattle.assembling.specs.declared.assembly.Edges.{Edges}
 use Rattle.assembling.specs.declared.assembly.Members.{Members}
 use Rattle.rows.specs.Table.{table}
@@ -40,10 +38,6 @@ members-are c =
 members-fit : (c : tie.After-members-of) → c .members-of .result .count ≤ length (c .members-of .result .list)
 members-fit c =
     part-fits 64 _ (membersOf (c .before .before .before .before .before .before .before .before .before .args .closure)) _ (ap (λ (e : Members). e .count) (c .members-of .ensures)) (ap (λ (e : Members). e .list) (c .members-of .ensures))
-
-few-members : (closure : ℕ) → length (membersOf closure) ≤ 64
-unfolding membersOf
-few-members closure = those-short (has closure) 64
 
 starts-of-requires : tie.Need-starts-of-requires
 starts-of-requires c κs = c .before .before .before .before .pre .within
@@ -79,7 +73,6 @@ join-framed-requires c κs =
       subst (Ready t _ _) (sym edges) (ready (a .layers) (a .target) (a .closure) t (begin .pre) _ _ (c .before .before .before .before .before .before .before .before .before .before .before .starts-of .ensures) (c .before .before .before .before .before .before .before .before .before .before .order-of .ensures)),
       subst (Whole t) (sym (ap₂ (frame (a .target)) members edges))
           (frame-whole (a .layers) (a .target) (a .closure) (begin .pre .closed-over .here) (begin .pre .closed-over .whole) t),
-      subst (λ (l : List ℕ). length l ≤ 64) (sym members) (few-members (a .closure)),
     )
 
 same-length : tie.Need-same-length

@@ -35,8 +35,8 @@ mul-if1 c = omega (arith, c .before .before .before .pre .index (c .before .befo
 element-copy-out-if1 : tie.Need-element-copy-out-if1 Inv-loop μ-loop
 element-copy-out-if1 c = omega (arith, c .before .before .before .pre .index (c .before .before .loop .at) (c .before .loop-test .taken))
 
-element-copy-out-if1-2 : tie.Need-element-copy-out-if1-2 Inv-loop μ-loop
-element-copy-out-if1-2 c = c .before .before .before .before .pre .row (c .before .before .before .loop .at) (c .before .before .loop-test .taken)
+shared-slice-read-if1 : tie.Need-shared-slice-read-if1 Inv-loop μ-loop
+shared-slice-read-if1 c = c .before .before .before .before .before .pre .row (c .before .before .before .before .loop .at) (c .before .before .before .loop-test .taken)
 
 returns : tie.Need-returns Inv-loop μ-loop
 returns c =
@@ -75,7 +75,7 @@ any-used-spec =
     cast-layer
     mul-if1
     element-copy-out-if1
-    element-copy-out-if1-2
+    shared-slice-read-if1
     returns
     add-at
     loop-less

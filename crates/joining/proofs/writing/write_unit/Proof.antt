@@ -1,5 +1,5 @@
 -- `joining::writing::write_unit` meets its contract. The invariant, what is left of the unit stored from here on, and each turn are in Laying.
--- The measure is the number of members left. Assumes nothing.
+-- The measure is the number of rows left. Assumes nothing.
 use Prim.Native.Nat.{ℕ, _+_, _≤_, _<_, _-_}
 use mathlib.Core.List.{[]}
 use mathlib.Core.Path.{_≡_, refl, sym, _∙_}
@@ -14,54 +14,45 @@ use Rattle.joining.proofs.writing.write_unit.Statement.{statement}
 use Rattle.joining.proofs.writing.write_unit.Tie as tie
 
 abbrev Inv-loop : tie.InvT-loop
-Inv-loop rows members decodings time at numbers₀ lags₀ next₀ numbers lags next =
-    Laying (table [] decodings []) members rows time at numbers₀ lags₀ next numbers lags
+Inv-loop kept decodings time at end numbers₀ lags₀ next₀ numbers lags next =
+    Laying (table [] decodings []) kept time at end numbers₀ lags₀ next numbers lags
 
 abbrev μ-loop : tie.MeasureT-loop
-μ-loop rows members decodings time at numbers₀ lags₀ next₀ numbers lags next =
-    length members - next
+μ-loop kept decodings time at end numbers₀ lags₀ next₀ numbers lags next = end - next
 
 loop-holds : tie.Need-loop-holds Inv-loop μ-loop
-loop-holds c = laying-start _ _ _ _ _ _ _
-
-shared-slice-read-layer : tie.Need-shared-slice-read-layer Inv-loop μ-loop
-shared-slice-read-layer c = omega arith
-
-cast-layer : tie.Need-cast-layer Inv-loop μ-loop
-cast-layer c = omega (arith, c .before .before .before .before .before .before .pre .0 .index (c .before .before .loop .next) (c .before .loop-test .taken))
+loop-holds c = laying-start _ _ _ _ _ _ _ (c .before .before .before .pre .0 .from-to)
 
 mul-row : tie.Need-mul-row Inv-loop μ-loop
-mul-row c = omega (arith, c .before .before .before .before .before .before .pre .0 .index (c .before .before .loop .next) (c .before .loop-test .taken))
+mul-row c = omega (arith, c .before .before .before .before .before .pre .0 .inside, c .before .before .before .before .before .good)
 
-element-copy-out-row : tie.Need-element-copy-out-row Inv-loop μ-loop
-element-copy-out-row c = omega (arith, c .before .before .before .before .before .before .pre .0 .index (c .before .before .loop .next) (c .before .loop-test .taken))
-
-add-numbers : tie.Need-add-numbers Inv-loop μ-loop
-add-numbers c = omega (arith, c .before .before .before .before .before .before .before .pre .1, c .before .before .before .before .before .before .before .good)
+shared-slice-read-row : tie.Need-shared-slice-read-row Inv-loop μ-loop
+shared-slice-read-row c = omega (arith, c .before .before .before .before .before .before .pre .0 .inside)
 
 mul-numbers : tie.Need-mul-numbers Inv-loop μ-loop
-mul-numbers c = omega (arith, c .before .before .before .before .before .before .before .pre .1, c .before .before .before .before .before .before .before .good)
+mul-numbers c = omega (arith, c .before .before .before .before .before .before .pre .1, c .before .before .before .before .before .before .good)
 
 slice-write-numbers : tie.Need-slice-write-numbers Inv-loop μ-loop
-slice-write-numbers c = omega (arith, c .before .before .before .before .before .before .before .pre .1, c .before .before .before .loop .inv .long-numbers)
+slice-write-numbers c = omega (arith, c .before .before .before .before .before .before .pre .1, c .before .before .loop .inv .long-numbers)
 
 mul-lag : tie.Need-mul-lag Inv-loop μ-loop
-mul-lag c = omega (arith, c .before .before .before .before .before .before .before .pre .0 .row (c .before .before .before .loop .next) (c .before .before .loop-test .taken), c .before .before .before .before .before .before .before .good)
+mul-lag c =
+    let begin = c .before .before .before .before .before .before in
+    omega (arith, begin .pre .0 .row (c .before .before .loop .next) (c .before .before .loop .inv .from) (c .before .loop-test .taken), begin .good)
 
 shared-slice-read-lag : tie.Need-shared-slice-read-lag Inv-loop μ-loop
-shared-slice-read-lag c = c .before .before .before .before .before .before .before .before .pre .0 .row (c .before .before .before .before .loop .next) (c .before .before .before .loop-test .taken)
+shared-slice-read-lag c =
+    let begin = c .before .before .before .before .before .before .before in
+    begin .pre .0 .row (c .before .before .before .loop .next) (c .before .before .before .loop .inv .from) (c .before .before .loop-test .taken)
 
 lag-requires : tie.Need-lag-requires Inv-loop μ-loop
 lag-requires c κs = search needs
 
-add-t17 : tie.Need-add-t17 Inv-loop μ-loop
-add-t17 c = omega (arith, c .before .before .before .before .before .before .before .before .before .pre .2, c .before .before .before .before .before .before .before .before .before .good)
-
-mul-t22 : tie.Need-mul-t22 Inv-loop μ-loop
-mul-t22 c = omega (arith, c .before .before .before .before .before .before .before .before .before .pre .2, c .before .before .before .before .before .before .before .before .before .good)
+mul-t11 : tie.Need-mul-t11 Inv-loop μ-loop
+mul-t11 c = omega (arith, c .before .before .before .before .before .before .before .before .pre .2, c .before .before .before .before .before .before .before .before .good)
 
 slice-set-from-lags : tie.Need-slice-set-from-lags Inv-loop μ-loop
-slice-set-from-lags c = omega (arith, c .before .before .before .before .before .before .before .before .before .pre .2, c .before .before .before .before .before .loop .inv .long-lags)
+slice-set-from-lags c = omega (arith, c .before .before .before .before .before .before .before .before .pre .2, c .before .before .before .before .loop .inv .long-lags)
 
 add-next : tie.Need-add-next Inv-loop μ-loop
 add-next c = omega arith
@@ -71,9 +62,9 @@ loop-less c = omega arith
 
 loop-again : tie.Need-loop-again Inv-loop μ-loop
 loop-again c =
-    let begin = c .before .before .before .before .before .before .before .before .before in
-    let loop = c .before .before .before .before .before .loop in
-    laying-more _ _ _ _ _ _ _ (loop .next) (loop .numbers) (loop .lags) (loop .inv) (c .before .before .before .before .loop-test .taken) _ (toZ-ofZ w64 (c .lag .result) (record { sfits = c .lag .ok }) ∙ c .lag .ensures)
+    let begin = c .before .before .before .before .before .before .before .before in
+    let loop = c .before .before .before .before .loop in
+    laying-more _ _ _ _ _ _ _ (loop .next) (loop .numbers) (loop .lags) (loop .inv) (c .before .before .before .loop-test .taken) (begin .pre .0 .inside) _ (toZ-ofZ w64 (c .lag .result) (record { sfits = c .lag .ok }) ∙ c .lag .ensures)
 
 same-length : tie.Need-same-length Inv-loop μ-loop
 same-length c = c .before .loop .inv .long-numbers
@@ -95,18 +86,14 @@ write-unit-spec =
     Inv-loop
     μ-loop
     loop-holds
-    shared-slice-read-layer
-    cast-layer
     mul-row
-    element-copy-out-row
-    add-numbers
+    shared-slice-read-row
     mul-numbers
     slice-write-numbers
     mul-lag
     shared-slice-read-lag
     lag-requires
-    add-t17
-    mul-t22
+    mul-t11
     slice-set-from-lags
     add-next
     loop-less
