@@ -57,7 +57,7 @@ in-layers reading bytes e target t numbers lags =
     (λ (o : Outcome).
     let layers : Layers = layersIn reading bytes in
     let joined : Joined = importFor o layers target t (length numbers) (length lags) in
-    answerOf (closureFor o (entriesIn reading bytes) target) joined (numbersAfter layers target t joined numbers) (lagsAfter layers target t joined lags))
+    answerOf (closureFor o layers target) joined (numbersAfter layers target t joined numbers) (lagsAfter layers target t joined lags))
     e
 
 pub same-answer : {c d : Closure} {j k : Joined} {m n : List ℕ} {a b : List ℤ} → c ≡ d → j ≡ k → m ≡ n → a ≡ b → answerOf c j m a ≡ answerOf d k n b

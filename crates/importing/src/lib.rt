@@ -32,19 +32,13 @@ pub fn import(
         ≡ importedLags reading (now (bytes .entry)) target (table (now (indices .entry)) (now (decodings .entry)) (now (matches .entry))) r
         (now (lags .entry)) ⌝ }
 {
-    let read = es_loop::read_loop(reading, bytes);
+    let read = loop_layers::read_layers(reading, bytes);
     let outcome = read.outcome;
-    let entries = read.entries;
+    let layers = read.layers;
     match outcome {
-        Outcome::Accepted => joining::join(
-            loop_layers::layers_of(read.count, entries),
-            target,
-            indices,
-            decodings,
-            matches,
-            numbers,
-            lags,
-        ),
+        Outcome::Accepted => {
+            joining::join(layers, target, indices, decodings, matches, numbers, lags)
+        }
         Outcome::Refused(refusal) => Joined::Refused(refusal),
     }
 }

@@ -16,13 +16,10 @@ use Rattle.vocabulary.specs.declared.HierarchyChannel.{HierarchyChannel}
 use Rattle.vocabulary.specs.declared.LayerIndex.{LayerIndex}
 use Rattle.vocabulary.specs.declared.refusal.Refusal.{Refusal}
 use Rattle.vocabulary.specs.Refusals.{numberOf, placeOf}
-use Rattle.es_loop.specs.declared.entries.Entry.{Entry}
 use Rattle.es_loop.specs.declared.reader.Outcome.{Outcome}
 use Rattle.es_loop.specs.declared.reader.Outcome.the-variants.{Accepted, Refused as RefusedWith}
-use Rattle.es_loop.specs.Reading.{loopRead}
-use Rattle.loop_layers.specs.declared.LayerTable.{LayerTable}
-use Rattle.loop_layers.specs.Closures.{entriesRead}
-use Rattle.loop_layers.specs.Layers.{tableOf}
+use Rattle.loop_layers.specs.declared.table.LayerTable.{LayerTable}
+use Rattle.loop_layers.specs.Closures.{loopTable}
 use Rattle.vocabulary.specs.declared.stream_types.Reading.{Reading}
 use Rattle.listing.specs.Lines.{labelled, member, members, closureText, layerLine, lineAt, layersText, acceptedText, refusedText, readText, loopText}
 
@@ -92,11 +89,11 @@ refused-length refusal = simp length-append (omega (arith, decimal-length (numbe
 
 pub loop-length : (reading : Reading) (bytes : List ℕ) → length (loopText reading bytes) ≤ 93406
 unfolding loopText
-loop-length reading bytes = let read = loopRead reading bytes in go (read .outcome) (entriesRead read)
+loop-length reading bytes = let read = loopTable reading bytes in go (read .outcome) (read .table)
   where
-    go : (outcome : Outcome) (entries : List Entry) → length (readText outcome entries) ≤ 93406
-    go Accepted entries = accepted-length (tableOf entries)
-    go (RefusedWith refusal) entries = refused-length refusal
+    go : (outcome : Outcome) (table : LayerTable) → length (readText outcome table) ≤ 93406
+    go Accepted table = accepted-length table
+    go (RefusedWith refusal) table = refused-length refusal
 
 -- THE PROGRAM'S BUFFER: of 93,406 bytes, what was laid in from the front is the whole text, whatever the loop.
 pub whole-text : (reading : Reading) (bytes old : List ℕ) (next : ℕ) (new : List ℕ)

@@ -8,7 +8,7 @@ use Rattle.text.specs.Text.{ascii, decimal, decimalWidth, texts}
 use Rattle.vocabulary.specs.declared.refusal.Refusal.the-variants.{LoopTooLong, WrongLength}
 use Rattle.vocabulary.specs.declared.stream_types.Reading.the-variants.{Edition2009, Edition2015}
 use Rattle.es_loop.specs.Examples.{loopA}
-use Rattle.loop_layers.specs.declared.LayerTable.{LayerTable}
+use Rattle.loop_layers.specs.declared.table.LayerTable.{LayerTable}
 use Rattle.listing.specs.Lines.{members, layerLine, lineAt, layersText, acceptedText, refusedText, loopText}
 
 -- loop A, from its bytes

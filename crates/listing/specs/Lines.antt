@@ -13,14 +13,11 @@ use Rattle.vocabulary.specs.declared.LayerIndex.{LayerIndex}
 use Rattle.vocabulary.specs.declared.refusal.Refusal.{Refusal}
 use Rattle.vocabulary.specs.Refusals.{numberOf, placeOf}
 use Rattle.vocabulary.specs.declared.stream_types.Reading.{Reading}
-use Rattle.es_loop.specs.declared.entries.Entry.{Entry}
-use Rattle.es_loop.specs.declared.reader.LoopRead.{LoopRead}
 use Rattle.es_loop.specs.declared.reader.Outcome.{Outcome}
 use Rattle.es_loop.specs.declared.reader.Outcome.the-variants.{Accepted, Refused as RefusedWith}
-use Rattle.es_loop.specs.Reading.{loopRead}
-use Rattle.loop_layers.specs.declared.LayerTable.{LayerTable}
-use Rattle.loop_layers.specs.Closures.{entriesRead}
-use Rattle.loop_layers.specs.Layers.{tableOf}
+use Rattle.loop_layers.specs.declared.table.LayerTable.{LayerTable}
+use Rattle.loop_layers.specs.declared.table.TableRead.{TableRead}
+use Rattle.loop_layers.specs.Closures.{loopTable}
 use Rattle.text.specs.Text.{ascii, decimal, texts}
 
 -- a label, and after it a number
@@ -75,12 +72,12 @@ unfoldable pub refusedText : Refusal → List ℕ
 refusedText refusal = labelled (ascii "refused ") (numberOf refusal) ++ labelled (ascii " entry ") (placeOf refusal) ++ ascii "\n"
 
 -- THE WHOLE TEXT for a loop under a reading; the program `layers` asks for 'the 2015 reading' where its caller names no other
-abbrev pub readText : Outcome → List Entry → List ℕ
-readText Accepted entries = acceptedText (tableOf entries)
-readText (RefusedWith refusal) entries = refusedText refusal
+abbrev pub readText : Outcome → LayerTable → List ℕ
+readText Accepted table = acceptedText table
+readText (RefusedWith refusal) table = refusedText refusal
 
-abbrev pub answerText : LoopRead → List ℕ
-answerText read = readText (read .outcome) (entriesRead read)
+abbrev pub answerText : TableRead → List ℕ
+answerText read = readText (read .outcome) (read .table)
 
 unfoldable pub loopText : Reading → List ℕ → List ℕ
-loopText reading bytes = answerText (loopRead reading bytes)
+loopText reading bytes = answerText (loopTable reading bytes)

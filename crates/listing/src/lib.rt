@@ -133,11 +133,11 @@ pub fn put_refused(out: &mut [u8], at: usize, refusal: Refusal) -> usize
 pub fn put_loop(out: &mut [u8], at: usize, reading: Reading, bytes: &[u8]) -> usize
     ensures { λ r. ⌜ Laid (now (out .entry)) at (loopText reading (now (bytes .entry))) r (now (out .exit)) ⌝ }
 {
-    let read = es_loop::read_loop(reading, bytes);
+    let read = loop_layers::read_table(reading, bytes);
     let outcome = read.outcome;
-    let entries = read.entries;
+    let table = read.table;
     match outcome {
-        Outcome::Accepted => put_accepted(out, at, loop_layers::table_of(read.count, entries)),
+        Outcome::Accepted => put_accepted(out, at, table),
         Outcome::Refused(refusal) => put_refused(out, at, refusal),
     }
 }

@@ -1,4 +1,5 @@
-pub mod Pass
 pub mod Columns
+pub mod Walked
+pub mod Pass
 pub mod Meant
 pub mod Accepted

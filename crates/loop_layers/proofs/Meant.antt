@@ -30,7 +30,7 @@ use Rattle.closure.specs.declared.Layers.{Layers}
 use Rattle.closure.specs.declared.Closure.{Closure}
 use Rattle.closure.specs.Closures.{closureOf}
 use Rattle.closure.proofs.Meant.{closure-meant, closure-only}
-use Rattle.loop_layers.specs.declared.LayerTable.{LayerTable}
+use Rattle.loop_layers.specs.declared.table.LayerTable.{LayerTable}
 use Rattle.loop_layers.specs.Layers.{placeOf, presentIn, columnOf, embeddedIn, layersOf, tableOf}
 use Rattle.loop_layers.specs.Closures.{entriesRead, closureIn, loopClosure}
 use Rattle.loop_layers.specs.Meaning.{HasLayer, Embeds, LayersOf, TableOf, Answers, loop-refused, loop-accepted}

@@ -1,16 +1,17 @@
 -- THE LAYERS of a loop, taken from its entries: which indices are present, and by index what each layer has.
 -- Assumes nothing.
 use Prim.Native.Nat.{ℕ}
+use mathlib.Core.Bool.{cond}
 use mathlib.Core.List.{List, [], _∷_, map}
+use lib.Dec.{ltb}
 use lib.ListN.{set, replicate}
 use Rattle.vocabulary.specs.declared.HierarchyChannel.{HierarchyChannel}
-use Rattle.descriptors.specs.declared.«record».Record.{Record}
-use Rattle.descriptors.specs.declared.«record».Record.the-variants.{NoRecord, Hierarchy, Extension}
+use Rattle.sets.specs.Sets.{added}
 use Rattle.descriptors.specs.Records.{channelOf, withIndices, namesOf}
 use Rattle.es_loop.specs.declared.entries.Entry.{Entry}
 use Rattle.es_loop.specs.Conditions.{slotOf}
 use Rattle.closure.specs.declared.Layers.{Layers}
-use Rattle.loop_layers.specs.declared.LayerTable.{LayerTable}
+use Rattle.loop_layers.specs.declared.table.LayerTable.{LayerTable}
 
 -- Where an entry stands in a column of 64 places: at its layer index. A stream that is no layer stands past all of them, and adds nothing.
 abbrev pub placeOf : Entry → ℕ
@@ -42,4 +43,21 @@ tableOf entries =
       pids = columnOf 0 (λ e. e .pid) entries;
       «stream_types» = columnOf 0 (λ e. e .«stream_type») entries;
       channels = columnOf (record { 0 = 0 }) (λ e. channelOf (e .«record»)) entries;
+    }
+
+-- ONE ENTRY MORE, as it is added: a value put into a column at a place, past whose 64 places nothing is put; and a table with the layer of the entry
+abbrev pub putAt : {A : Type 0} → List A → ℕ → A → List A
+putAt column place value = cond (ltb place 64) (set column place value) column
+
+abbrev pub withEntry : LayerTable → Entry → LayerTable
+withEntry table e =
+    record {
+      layers =
+          record {
+            present = added (table .layers .present) (placeOf e);
+            embedded = putAt (table .layers .embedded) (placeOf e) (embeddedIn e);
+          };
+      pids = putAt (table .pids) (placeOf e) (e .pid);
+      «stream_types» = putAt (table .«stream_types») (placeOf e) (e .«stream_type»);
+      channels = putAt (table .channels) (placeOf e) (channelOf (e .«record»));
     }

@@ -22,7 +22,7 @@ use Rattle.closure.specs.declared.Layers.{Layers}
 use Rattle.closure.specs.declared.Closure.{Closure}
 use Rattle.closure.specs.declared.Closure.the-variants.{Refused}
 use Rattle.closure.specs.Meaning as Target
-use Rattle.loop_layers.specs.declared.LayerTable.{LayerTable}
+use Rattle.loop_layers.specs.declared.table.LayerTable.{LayerTable}
 
 module _ (entries : List Entry) where
   -- The entry e is a layer of index i.

@@ -244,13 +244,13 @@ small-answer layers true set =
 small-closure-of : (layers : Layers) (target : ℕ) → SmallClosure (closureOf layers target)
 small-closure-of layers target = small-answer layers (isLayer layers target) (restedOn layers target)
 
-small-closure-for : (o : Outcome) (entries : List Entry) (target : ℕ) → SmallOutcome o → SmallClosure (closureFor o entries target)
-small-closure-for Accepted entries target h = small-closure-of (layersOf entries) target
-small-closure-for (LoopRefused refusal) entries target h = h
+small-closure-for : (o : Outcome) (layers : Layers) (target : ℕ) → SmallOutcome o → SmallClosure (closureFor o layers target)
+small-closure-for Accepted layers target h = small-closure-of layers target
+small-closure-for (LoopRefused refusal) layers target h = h
 
 pub small-closure : (reading : Reading) (bytes : List ℕ) (target : ℕ) → SmallClosure (loopClosure reading bytes target)
 small-closure reading bytes target =
-    small-closure-for (loopRead reading bytes .outcome) (entriesRead (loopRead reading bytes)) target (small-loop reading bytes .0)
+    small-closure-for (loopRead reading bytes .outcome) (layersOf (entriesRead (loopRead reading bytes))) target (small-loop reading bytes .0)
 
 -- a set of numbers below 64 has at most 64 members
 pub size-short : (set : ℕ) → size set ≤ 64

@@ -151,12 +151,12 @@ fn import_under(
     ensures beside { λ r. ⌜ now (lags .exit) ≡ importAsked (Asked.Known reading) (now (bytes .entry)) target (table (now (indices .entry)) (now (decodings .entry)) (now (matches .entry))) (now (numbers .entry)) (now (lags .entry)) (now (summary .entry)) .lags ⌝ }
     ensures summed { λ r. ⌜ now (summary .exit) ≡ importAsked (Asked.Known reading) (now (bytes .entry)) target (table (now (indices .entry)) (now (decodings .entry)) (now (matches .entry))) (now (numbers .entry)) (now (lags .entry)) (now (summary .entry)) .summary ⌝ }
 {
-    let read = es_loop::read_loop(reading, bytes);
+    let read = loop_layers::read_layers(reading, bytes);
     let outcome = read.outcome;
-    let entries = read.entries;
+    let layers = read.layers;
     match outcome {
         Outcome::Accepted => join_over(
-            loop_layers::layers_of(read.count, entries),
+            layers,
             target,
             indices,
             decodings,

@@ -4,23 +4,19 @@
 use mathlib.Core.Path.{refl, sym, _∙_, ap}
 use borrow.Author.Needs.{needs}
 use lib.ListN.{length}
-use Rattle.closure.specs.declared.Layers.{Layers}
 use Rattle.es_loop.specs.declared.reader.Outcome.{Outcome}
-use Rattle.es_loop.specs.declared.reader.LoopRead.{LoopRead}
+use Rattle.loop_layers.specs.declared.layer_sets.LayersRead.{LayersRead}
 use Rattle.rows.specs.Table.{table}
-use Rattle.joining.specs.Joining.{joinedOf, numbersAfter, lagsAfter}
-use Rattle.importing.specs.Importing.{layersRead, importFor, importIn}
+use Rattle.joining.specs.Joining.{numbersAfter, lagsAfter}
+use Rattle.importing.specs.Importing.{importFor}
 use Rattle.importing.proofs.import.Statement.{statement}
 use Rattle.importing.proofs.import.Tie as tie
 
-read-loop-requires : tie.Need-read-loop-requires
-read-loop-requires c κs = search needs
+read-layers-requires : tie.Need-read-layers-requires
+read-layers-requires c κs = search needs
 
 enum-told : tie.Need-enum-told
 enum-told c = search needs
-
-layers-of-requires : tie.Need-layers-of-requires
-layers-of-requires c κs = search needs
 
 join-requires : tie.Need-join-requires
 join-requires c κs = search needs
@@ -36,25 +32,21 @@ same-length-2 c = search needs
 
 returns : tie.Need-returns
 returns c =
-    let a = c .before .before .before .before .before .before .before .before .before .before .before .before .before .before .before .before .args in
+    let a = c .before .before .before .before .before .before .before .before .before .before .before .before .before .before .before .args in
     let t = table (a .indices .now) (a .decodings .now) (a .matches .now) in
     let numberRoom = length (a .numbers .now) in
     let lagRoom = length (a .lags .now) in
-    let read = c .before .before .before .before .before .before .before .before .before .before .read-loop in
-    let layers = c .before .before .before .before .before .before .layers-of .ensures in
+    let read = c .before .before .before .before .before .before .before .before .before .read-layers in
     let joined = c .before .before .before .join in
-    let accepted = c .before .before .before .before .before .before .before .enum-told .given .1 in (
+    let accepted = c .before .before .before .before .before .before .enum-told .given .1 in (
       joined .ensures .0
-          ∙ ap (λ (l : Layers). joinedOf l (a .target) t numberRoom lagRoom) layers
-          ∙ sym (ap (λ (o : Outcome). importFor o (layersRead (read .result)) (a .target) t numberRoom lagRoom) accepted)
-          ∙ ap (λ (r : LoopRead). importIn r (a .target) t numberRoom lagRoom) (read .ensures),
+          ∙ sym (ap (λ (o : Outcome). importFor o (read .result .layers) (a .target) t numberRoom lagRoom) accepted)
+          ∙ ap (λ (r : LayersRead). importFor (r .outcome) (r .layers) (a .target) t numberRoom lagRoom) (read .ensures),
       (
         joined .ensures .1 .0
-            ∙ ap (λ (l : Layers). numbersAfter l (a .target) t (joined .result) (a .numbers .now)) layers
-            ∙ ap (λ (r : LoopRead). numbersAfter (layersRead r) (a .target) t (joined .result) (a .numbers .now)) (read .ensures),
+            ∙ ap (λ (r : LayersRead). numbersAfter (r .layers) (a .target) t (joined .result) (a .numbers .now)) (read .ensures),
         joined .ensures .1 .1
-            ∙ ap (λ (l : Layers). lagsAfter l (a .target) t (joined .result) (a .lags .now)) layers
-            ∙ ap (λ (r : LoopRead). lagsAfter (layersRead r) (a .target) t (joined .result) (a .lags .now)) (read .ensures),
+            ∙ ap (λ (r : LayersRead). lagsAfter (r .layers) (a .target) t (joined .result) (a .lags .now)) (read .ensures),
       ),
     )
 
@@ -64,9 +56,9 @@ returns-2 c =
     let t = table (a .indices .now) (a .decodings .now) (a .matches .now) in
     let numberRoom = length (a .numbers .now) in
     let lagRoom = length (a .lags .now) in
-    let read = c .before .before .before .before .read-loop in (
-      sym (ap (λ (o : Outcome). importFor o (layersRead (read .result)) (a .target) t numberRoom lagRoom) (c .before .outcome .given .1))
-          ∙ ap (λ (r : LoopRead). importIn r (a .target) t numberRoom lagRoom) (read .ensures),
+    let read = c .before .before .before .before .read-layers in (
+      sym (ap (λ (o : Outcome). importFor o (read .result .layers) (a .target) t numberRoom lagRoom) (c .before .outcome .given .1))
+          ∙ ap (λ (r : LayersRead). importFor (r .outcome) (r .layers) (a .target) t numberRoom lagRoom) (read .ensures),
       (refl, refl),
     )
 
@@ -74,9 +66,8 @@ pub import-spec : {M : Type 1} → statement M
 import-spec =
     tie.close
     (tie.spec
-    read-loop-requires
+    read-layers-requires
     enum-told
-    layers-of-requires
     join-requires
     enum-known-outcome
     same-length

@@ -1,10 +1,10 @@
 -- `loop_layers::layers_of` meets its contract: the layers are those of the table.
 -- Assumes nothing.
 use mathlib.Core.Path.{ap}
-use Rattle.loop_layers.specs.declared.LayerTable.{LayerTable}
+use Rattle.loop_layers.specs.declared.table.LayerTable.{LayerTable}
 use borrow.Author.Needs.{needs}
-use Rattle.loop_layers.proofs.layers_of.Statement.{statement}
-use Rattle.loop_layers.proofs.layers_of.Tie as tie
+use Rattle.loop_layers.proofs.table.layers_of.Statement.{statement}
+use Rattle.loop_layers.proofs.table.layers_of.Tie as tie
 
 table-of-requires : tie.Need-table-of-requires
 table-of-requires c κs = search needs

@@ -1,0 +1,147 @@
+use Prim.Native.Nat.{ℕ, _+_, _-_}
+use native.Mathlib.Omega.{arith}
+use borrow.Author.Needs.{needs}
+use mathlib.Core.Path.{_≡_, refl, sym, _∙_, ap}
+use mathlib.Core.List.{List}
+use lib.ListN.{length}
+use Rattle.closure.specs.declared.Layers.{Layers}
+use Rattle.es_loop.specs.declared.entries.Stream.{Stream}
+use Rattle.es_loop.specs.declared.entries.Entry.{Entry}
+use Rattle.es_loop.specs.Entries.{entryOf}
+use Rattle.sets.specs.Sets.{added}
+use Rattle.loop_layers.specs.Layers.{placeOf, embeddedIn, layersOf, putAt}
+use Rattle.loop_layers.proofs.Walked.{Standing, standing-first, leftFrom, streamFrom, Turn, turn, none-left, layersWith, layers-next}
+use Rattle.loop_layers.proofs.layer_sets.layers_in.Statement.{statement}
+use Rattle.loop_layers.proofs.layer_sets.layers_in.Tie as tie
+use Rattle.loop_layers.proofs.layer_sets.layers_in.Reads as reads
+use Rattle.loop_layers.proofs.layer_sets.layers_in.Lts as lts
+use Rattle.descriptors.proofs.names.Reads as names-reads
+use Rattle.es_loop.proofs.entry_size.Reads as entry-size-reads
+use Rattle.es_loop.proofs.read_stream.Reads as read-stream-reads
+use Rattle.loop_layers.proofs.layer_sets.add_layer.Reads as add-layer-reads
+use Rattle.loop_layers.proofs.layer_sets.no_layers.Reads as no-layers-reads
+
+abbrev Inv-loop : tie.InvT-loop
+Inv-loop reading bytes present₀ embedded₀ at₀ present embedded at =
+    Standing reading bytes at
+    × (layersWith (record { present = present; embedded = embedded }) (leftFrom reading bytes at) ≡ layersOf (leftFrom reading bytes 0))
+
+abbrev μ-loop : tie.MeasureT-loop
+μ-loop reading bytes present₀ embedded₀ at₀ present embedded at = length bytes - at
+
+no-layers-requires : tie.Need-no-layers-requires Inv-loop μ-loop
+no-layers-requires c κs = search needs
+
+loop-holds : tie.Need-loop-holds Inv-loop μ-loop
+loop-holds c =
+    let a = c .before .before .before .args in
+    (standing-first (a .reading) (a .bytes .now), ap (λ (l : Layers). layersWith l (leftFrom (a .reading) (a .bytes .now) 0)) (c .before .no-layers .ensures))
+
+sub-left : tie.Need-sub-left Inv-loop μ-loop
+sub-left c = search needs
+
+part-left-start : tie.Need-part-left-start Inv-loop μ-loop
+part-left-start c = search needs
+
+part-left-end : tie.Need-part-left-end Inv-loop μ-loop
+part-left-end c = search needs
+
+entry-size-requires : tie.Need-entry-size-requires Inv-loop μ-loop
+entry-size-requires c κs = search needs
+
+slice-aggregate-read-stream : tie.Need-slice-aggregate-read-stream Inv-loop μ-loop
+slice-aggregate-read-stream c =
+    let start = c .before .before .before .before .before .before .before .before in
+    let a = start .args in
+    let loop = c .before .before .before .before .loop in
+    let size = c .before .entry-size in
+    let t = turn (a .reading) (a .bytes .now) (start .pre) (loop .at) (loop .inv .0) (c .before .before .before .loop-test .taken) (size .result) (size .ensures) in
+    sym (t .whole-long)
+
+read-stream-requires : tie.Need-read-stream-requires Inv-loop μ-loop
+read-stream-requires c κs =
+    let start = c .before .before .before .before .before .before .before .before in
+    let a = start .args in
+    let loop = c .before .before .before .before .loop in
+    let size = c .before .entry-size in
+    let t = turn (a .reading) (a .bytes .now) (start .pre) (loop .at) (loop .inv .0) (c .before .before .before .loop-test .taken) (size .result) (size .ensures) in
+    rw (t .whole-long) (t .large)
+
+names-requires : tie.Need-names-requires Inv-loop μ-loop
+names-requires c κs = search needs
+
+add-layer-requires : tie.Need-add-layer-requires Inv-loop μ-loop
+add-layer-requires c κs = search needs
+
+add-at : tie.Need-add-at Inv-loop μ-loop
+add-at c =
+    let start = c .before .before .before .before .before .before .before .before .before .before .before .before .before .before in
+    let a = start .args in
+    let loop = c .before .before .before .before .before .before .before .before .before .before .loop in
+    let size = c .before .before .before .before .before .before .before .entry-size in
+    let t = turn (a .reading) (a .bytes .now) (start .pre) (loop .at) (loop .inv .0) (c .before .before .before .before .before .before .before .before .before .loop-test .taken) (size .result) (size .ensures) in
+    let short = t .short in
+    let large = t .large in
+    let room = t .room in
+    let long = t .long in
+    omega arith
+
+loop-less : tie.Need-loop-less Inv-loop μ-loop
+loop-less c =
+    let start = c .before .before .before .before .before .before .before .before .before .before .before .before .before .before in
+    let a = start .args in
+    let loop = c .before .before .before .before .before .before .before .before .before .before .loop in
+    let size = c .before .before .before .before .before .before .before .entry-size in
+    let t = turn (a .reading) (a .bytes .now) (start .pre) (loop .at) (loop .inv .0) (c .before .before .before .before .before .before .before .before .before .loop-test .taken) (size .result) (size .ensures) in
+    let short = t .short in
+    let large = t .large in
+    let room = t .room in
+    let long = t .long in
+    omega arith
+
+loop-again : tie.Need-loop-again Inv-loop μ-loop
+loop-again c =
+    let start = c .before .before .before .before .before .before .before .before .before .before .before .before .before .before in
+    let a = start .args in
+    let loop = c .before .before .before .before .before .before .before .before .before .before .loop in
+    let size = c .before .before .before .before .before .before .before .entry-size in
+    let t = turn (a .reading) (a .bytes .now) (start .pre) (loop .at) (loop .inv .0) (c .before .before .before .before .before .before .before .before .before .loop-test .taken) (size .result) (size .ensures) in
+    let stream = c .before .before .before .before .before .read-stream in
+    let before : Layers = record { present = loop .present; embedded = loop .embedded } in
+    let entry : Entry = entryOf (streamFrom (a .reading) (a .bytes .now) (loop .at) (size .result)) in
+    let rest = leftFrom (a .reading) (a .bytes .now) (loop .at + size .result) in
+    let added-layer = c .add-layer in (
+      t .next,
+      layers-next before entry rest (leftFrom (a .reading) (a .bytes .now) 0) (sym (ap (layersWith before) (t .front)) ∙ loop .inv .1) (c .before .before .names .result) (added-layer .result) (added-layer .last .1 .1 .1 .0)
+          (c .before .before .names .ensures ∙ ap (λ (s : Stream). embeddedIn (entryOf s)) (stream .ensures))
+          (added-layer .ensures .0 ∙ ap (λ (s : Stream). added (loop .present) (placeOf (entryOf s))) (stream .ensures))
+          (added-layer .ensures .1 ∙ ap (λ (s : Stream). putAt (loop .embedded) (placeOf (entryOf s)) (c .before .before .names .result)) (stream .ensures)),
+    )
+
+returns : tie.Need-returns Inv-loop μ-loop
+returns c =
+    let a = c .before .before .before .before .before .args in
+    let loop = c .before .loop in
+    sym (ap (layersWith (record { present = loop .present; embedded = loop .embedded })) (none-left (a .reading) (a .bytes .now) (loop .at) (c .loop-test .left)))
+    ∙ loop .inv .1
+
+pub layers-in-spec : {M : Type 1} → statement M
+layers-in-spec =
+    tie.close
+    (tie.spec
+    Inv-loop
+    μ-loop
+    no-layers-requires
+    loop-holds
+    sub-left
+    part-left-start
+    part-left-end
+    entry-size-requires
+    slice-aggregate-read-stream
+    read-stream-requires
+    names-requires
+    add-layer-requires
+    add-at
+    loop-less
+    loop-again
+    returns)
