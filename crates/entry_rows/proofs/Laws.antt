@@ -16,7 +16,7 @@ use Rattle.descriptors.specs.Extension.{extensionHead, noLayer, extensionFrom}
 use Rattle.es_loop.specs.declared.entries.Entry.{Entry}
 use Rattle.entry_rows.specs.Rows.{layerNumber, headOf, listOf, tailOf, rowOf, fieldsIn, listIn, layerOf, entryIn, rowsOf}
 
-head-length : (streamType pid : ℕ) («record» : Record) → length (headOf streamType pid «record») ≡ 16
+pub head-length : (streamType pid : ℕ) («record» : Record) → length (headOf streamType pid «record») ≡ 16
 unfolding headOf
 head-length streamType pid «record» = refl
 

@@ -2,4 +2,6 @@ pub mod Widths
 pub mod Fits
 pub mod Judged
 pub mod Laws
+pub mod Stored
+pub mod Walked
 pub mod RoundTrips

@@ -1,20 +1,28 @@
-// From entries to rows.
+// From a loop's bytes to rows: each entry's numbers are stored straight into the row that the caller lends, and no entry is kept.
 ghost use mathlib.Core.Path.{_≡_};
-ghost use mathlib.Core.List.{map};
-ghost use Prim.Native.Nat.{min};
-ghost use lib.ListN.{take};
+ghost use mathlib.Core.List.{_++_, map};
+ghost use Prim.Native.Nat.{_*_, _≤_, min};
+ghost use lib.ListN.{length, take, replicate};
 ghost use Rattle.combinators.specs.Padding.{padTo};
-ghost use Rattle.text.specs.Text.{Laid};
+ghost use Rattle.buffers.specs.Buffers.{over};
 ghost use Rattle.syntax.specs.Filled.{bitOf};
+ghost use Rattle.es_loop.specs.Entries.{streamsOf, entryOf};
+ghost use Rattle.es_loop.specs.Reading.{verdictOf};
 ghost use Rattle.entry_rows.specs.Rows.{layerNumber, headOf, tailOf, rowOf, rowsOf};
-use buffers::put_u16;
 use combinators::lesser;
 use descriptors::ExtensionRecord;
 use descriptors::HierarchyRecord;
 use descriptors::Record;
 use es_loop::Entry;
-use es_loop::MOST_ENTRIES;
+use es_loop::Verdict;
 use vocabulary::LayerIndex;
+use vocabulary::Reading;
+
+// The numbers of a row.
+const ROW: usize = 80;
+
+// Those before its embedded layers.
+const HEAD: usize = 16;
 
 fn wide(byte: u8) -> u16
     ensures { λ r. ⌜ r ≡ byte ⌝ }
@@ -115,54 +123,85 @@ fn head_of(entry: Entry) -> [u16; 16]
     }
 }
 
-// The rest of a row: the first `count` embedded layers, of at most 63, and 0 after them.
-fn tail_with(count: usize, embedded: [LayerIndex; 63]) -> [u16; 64]
-    ensures { λ r. ⌜ r ≡ padTo 64 0 (map layerNumber (take (min count 63) embedded)) ⌝ }
+// The head, with what follows it left as it is.
+fn lay_head(row: &mut [u16], head: [u16; HEAD])
+    requires { ⌜ length (now row) ≡ 80 ⌝ }
+    ensures { λ r. ⌜ now (row .exit) ≡ over head (now (row .entry)) ⌝ }
 {
-    let mut tail = [0u16; 64];
+    let mut i = 0;
+    while i < HEAD {
+        row[i] = head[i];
+        i += 1;
+    }
+}
+
+// 0 after the head, up to the end of the row.
+fn clear_tail(row: &mut [u16])
+    requires { ⌜ length (now row) ≡ 80 ⌝ }
+    ensures { λ r. ⌜ now (row .exit) ≡ take 16 (now (row .entry)) ++ replicate 64 0 ⌝ }
+{
+    let mut i = HEAD;
+    while i < ROW {
+        row[i] = 0;
+        i += 1;
+    }
+}
+
+// After the head the first `count` embedded layers, of at most 63, and 0 after them.
+fn lay_layers(row: &mut [u16], count: usize, embedded: [LayerIndex; 63])
+    requires { ⌜ length (now row) ≡ 80 ⌝ }
+    ensures { λ r. ⌜ now (row .exit) ≡ take 16 (now (row .entry)) ++ padTo 64 0 (map layerNumber (take (min count 63) embedded)) ⌝ }
+{
+    clear_tail(row);
     let end = lesser(count, 63);
     let mut i = 0;
     while i < end {
         let index = embedded[i];
-        tail[i] = wide(index.0);
+        row[HEAD + i] = wide(index.0);
         i += 1;
     }
-    tail
 }
 
-fn tail_of(record: Record, embedded: [LayerIndex; 63]) -> [u16; 64]
-    ensures { λ r. ⌜ r ≡ tailOf «record» embedded ⌝ }
+fn lay_tail(row: &mut [u16], record: Record, embedded: [LayerIndex; 63])
+    requires { ⌜ length (now row) ≡ 80 ⌝ }
+    ensures { λ r. ⌜ now (row .exit) ≡ take 16 (now (row .entry)) ++ tailOf «record» embedded ⌝ }
 {
     match record {
-        Record::NoRecord => tail_with(0, embedded),
-        Record::Hierarchy(_) => tail_with(0, embedded),
+        Record::NoRecord => clear_tail(row),
+        Record::Hierarchy(_) => clear_tail(row),
         Record::Extension(extension) => {
-            tail_with(extension.num_embedded_layers as usize, embedded)
+            lay_layers(row, extension.num_embedded_layers as usize, embedded);
         }
     }
 }
 
-fn put_entry(out: &mut [u16], at: usize, entry: Entry) -> usize
-    ensures { λ r. ⌜ Laid (now (out .entry)) at (rowOf entry) r (now (out .exit)) ⌝ }
+fn lay_row(row: &mut [u16], entry: Entry)
+    requires { ⌜ length (now row) ≡ 80 ⌝ }
+    ensures { λ r. ⌜ now (row .exit) ≡ rowOf entry ⌝ }
 {
     let record = entry.record;
     let embedded = entry.embedded;
     let head = head_of(entry);
-    let tail = tail_of(record, embedded);
-    let next = put_u16(out, at, &head);
-    put_u16(out, next, &tail)
+    lay_head(row, head);
+    lay_tail(row, record, embedded);
 }
 
-// The rows of the first `count` entries, of which there are at most 201, from the front of the buffer on.
-pub fn put_entries(out: &mut [u16], count: usize, entries: [Entry; MOST_ENTRIES]) -> usize
-    ensures { λ r. ⌜ Laid (now (out .entry)) 0 (rowsOf (take count entries)) r (now (out .exit)) ⌝ }
+// The rows of a loop that was judged and accepted, from the front of a buffer on that has room for them.
+pub fn put_rows(reading: Reading, bytes: &[u8], out: &mut [u16])
+    requires { ⌜ verdictOf reading (now bytes) ≡ Verdict.Entries (length (streamsOf reading (now bytes))) ⌝ }
+    requires { ⌜ length (streamsOf reading (now bytes)) * 80 ≤ length (now out) ⌝ }
+    ensures { λ r. ⌜ now (out .exit) ≡ over (rowsOf (map entryOf (streamsOf reading (now (bytes .entry))))) (now (out .entry)) ⌝ }
 {
-    let end = lesser(count, MOST_ENTRIES);
-    let mut place = 0;
-    let mut i = 0;
-    while i < end {
-        place = put_entry(out, place, entries[i]);
-        i += 1;
+    let mut count = 0;
+    let mut at = 0;
+    while at < bytes.len() {
+        let left = &bytes[at..];
+        let size = es_loop::entry_size(left);
+        let entry = es_loop::entry_of(es_loop::read_stream(reading, &left[..size]));
+        let start = count * ROW;
+        let end = start + ROW;
+        lay_row(&mut out[start..end], entry);
+        count += 1;
+        at += size;
     }
-    place
 }

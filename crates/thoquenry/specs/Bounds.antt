@@ -169,7 +169,7 @@ few-pieces (suc most) (b ∷ bs) =
     let later = few-pieces most (drop (5 + esInfoLength (b ∷ bs)) (b ∷ bs)) in
     either-way (λ (l : List Item). length l ≤ suc most) (leb (5 + esInfoLength (b ∷ bs)) (length (b ∷ bs))) _ (broken ∷ []) (omega arith) (omega arith)
 
-few-streams : (reading : Reading) (bytes : List ℕ) → length (streamsOf reading bytes) ≤ length bytes
+pub few-streams : (reading : Reading) (bytes : List ℕ) → length (streamsOf reading bytes) ≤ length bytes
 few-streams reading bytes =
     omega (arith, length-map (cut 5 esInfoLength bytes) (streamOf reading), few-pieces (length bytes) bytes)
 

@@ -1,6 +1,8 @@
 // A loop read and written as rows of numbers, and the closure of a target.
 ghost use mathlib.Core.Path.{_≡_};
-ghost use lib.ListN.{take};
+ghost use mathlib.Core.List.{map};
+ghost use Rattle.es_loop.specs.Entries.{streamsOf, entryOf};
+ghost use Rattle.es_loop.specs.Reading.{verdictOf, loopRead};
 ghost use Rattle.thoquenry.specs.Loops.{entriesLaid, rowsRead, readLoop, writeLoop, closureLaid, closureCall};
 use super::answers::Asked;
 use super::answers::accepted;
@@ -8,40 +10,35 @@ use super::answers::not_a_call;
 use super::answers::reading_of;
 use super::answers::refused;
 use closure::Closure;
-use combinators::lesser;
-use es_loop::Entry;
-use es_loop::LoopRead;
-use es_loop::Outcome;
+use es_loop::Verdict;
 use loop_writer::Written;
+use vocabulary::Reading;
 use vocabulary::Refusal;
 
-// The most entries that a loop has, and the numbers of an entry.
-const ENTRIES: usize = 201;
-
+// The numbers of an entry.
 const ENTRY_NUMBERS: usize = 80;
 
-// The rows of the first `count` entries, laid into the buffer.
-fn lay_entries(count: usize, list: [Entry; ENTRIES], entries: &mut [u16]) -> u64
-    ensures answer { λ r. ⌜ r ≡ entriesLaid count (take count list) (now (entries .entry)) .answer ⌝ }
-    ensures content { λ r. ⌜ now (entries .exit) ≡ entriesLaid count (take count list) (now (entries .entry)) .buffer ⌝ }
+// The rows of a loop that was judged, and accepted with so many entries, where there is room for them.
+fn lay_accepted(reading: Reading, bytes: &[u8], count: usize, entries: &mut [u16]) -> u64
+    requires { ⌜ verdictOf reading (now bytes) ≡ Verdict.Entries count ⌝ }
+    ensures answer { λ r. ⌜ r ≡ entriesLaid count (map entryOf (streamsOf reading (now (bytes .entry)))) (now (entries .entry)) .answer ⌝ }
+    ensures content { λ r. ⌜ now (entries .exit) ≡ entriesLaid count (map entryOf (streamsOf reading (now (bytes .entry)))) (now (entries .entry)) .buffer ⌝ }
 {
-    if entries.len() < lesser(count, ENTRIES) * ENTRY_NUMBERS {
+    if entries.len() < count * ENTRY_NUMBERS {
         return refused(Refusal::NoRoom);
     }
-    entry_rows::put_entries(entries, count, list);
+    entry_rows::put_rows(reading, bytes, entries);
     accepted(count)
 }
 
-// What was read, laid into the buffer.
-fn lay_rows(read: LoopRead, entries: &mut [u16]) -> u64
-    ensures answer { λ r. ⌜ r ≡ rowsRead read (now (entries .entry)) .answer ⌝ }
-    ensures content { λ r. ⌜ now (entries .exit) ≡ rowsRead read (now (entries .entry)) .buffer ⌝ }
+// The loop judged, and its rows laid into the buffer.
+fn lay_rows(reading: Reading, bytes: &[u8], entries: &mut [u16]) -> u64
+    ensures answer { λ r. ⌜ r ≡ rowsRead (loopRead reading (now (bytes .entry))) (now (entries .entry)) .answer ⌝ }
+    ensures content { λ r. ⌜ now (entries .exit) ≡ rowsRead (loopRead reading (now (bytes .entry))) (now (entries .entry)) .buffer ⌝ }
 {
-    let outcome = read.outcome;
-    let list = read.entries;
-    match outcome {
-        Outcome::Refused(refusal) => refused(refusal),
-        Outcome::Accepted => lay_entries(read.count, list, entries),
+    match es_loop::judge(reading, bytes) {
+        Verdict::Refused(refusal) => refused(refusal),
+        Verdict::Entries(count) => lay_accepted(reading, bytes, count, entries),
     }
 }
 
@@ -52,7 +49,7 @@ pub extern "C" fn thq_read_loop(reading: u64, bytes: &[u8], entries: &mut [u16])
 {
     let asked = reading_of(reading);
     match asked {
-        Asked::Known(known) => lay_rows(es_loop::read_loop(known, bytes), entries),
+        Asked::Known(known) => lay_rows(known, bytes, entries),
         Asked::Neither => not_a_call(),
     }
 }

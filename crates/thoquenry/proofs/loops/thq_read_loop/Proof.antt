@@ -1,9 +1,8 @@
 -- `loops::thq_read_loop` meets its contract: which reading was asked for decides.
 -- Assumes nothing.
 use mathlib.Core.Path.{sym, _∙_, ap}
-use Rattle.es_loop.specs.declared.reader.LoopRead.{LoopRead}
 use Rattle.thoquenry.specs.declared.answers.Asked.{Asked}
-use Rattle.thoquenry.specs.Loops.{rowsRead, rowsAsked}
+use Rattle.thoquenry.specs.Loops.{rowsAsked}
 use Rattle.thoquenry.proofs.Replies.{answers, buffers}
 use native.Mathlib.Omega.{arith}
 use borrow.Author.Needs.{needs}
@@ -15,9 +14,6 @@ reading-of-requires c κs = search needs
 
 enum-known-asked : tie.Need-enum-known-asked
 enum-known-asked c = search needs
-
-read-loop-requires : tie.Need-read-loop-requires
-read-loop-requires c κs = search needs
 
 lay-rows-requires : tie.Need-lay-rows-requires
 lay-rows-requires c κs = search needs
@@ -33,11 +29,9 @@ same-length c = search needs
 
 returns : tie.Need-returns
 returns c =
-    let a = c .before .before .before .before .before .before .before .before .before .before .before .args in
+    let a = c .before .before .before .before .before .before .before .before .before .before .args in
     let laid = c .before .before .lay-rows in
-    let same =
-    ap (λ (r : LoopRead). rowsRead r (a .entries .now)) (c .before .before .before .before .read-loop .ensures)
-    ∙ ap (λ (k : Asked). rowsAsked k (a .bytes .now) (a .entries .now)) (sym (c .before .before .before .before .before .before .asked .given .1) ∙ c .before .before .before .before .before .before .before .before .reading-of .ensures) in
+    let same = ap (λ (k : Asked). rowsAsked k (a .bytes .now) (a .entries .now)) (sym (c .before .before .before .before .before .asked .given .1) ∙ c .before .before .before .before .before .before .before .reading-of .ensures) in
     (laid .ensures .0 ∙ answers same, laid .ensures .1 ∙ buffers same)
 
 returns-2 : tie.Need-returns-2
@@ -52,7 +46,6 @@ thq-read-loop-spec =
     (tie.spec
     reading-of-requires
     enum-known-asked
-    read-loop-requires
     lay-rows-requires
     enum-told
     not-a-call-requires
