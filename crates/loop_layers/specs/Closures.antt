@@ -1,4 +1,4 @@
--- The answer to a target, straight from the bytes of a loop: the closure, or the refusal. Refusals 1 to 10 are those of reading the loop, 11
+-- The answer to a target, straight from the bytes of a loop: the closure, or the refusal. Refusals 1 to 9 are those of reading the loop, 11
 -- and 12 those of the target in the layers of the loop that was read.
 -- Assumes nothing.
 use Prim.Native.Nat.{ℕ}

@@ -94,7 +94,7 @@ pub fn layers_of(count: usize, entries: [Entry; MOST_ENTRIES]) -> Layers
     table.layers
 }
 
-// What a target rests on in the loop that these bytes are: its closure, or the refusal, 1 to 12.
+// What a target rests on in the loop that these bytes are: its closure, or the refusal, 1 to 9, 11, 12.
 pub fn closure_of_loop(reading: Reading, bytes: &[u8], target: u64) -> Closure
     ensures { λ r. ⌜ r ≡ loopClosure reading (now (bytes .entry)) target ⌝ }
 {
