@@ -27,10 +27,10 @@ extern "C" {
 /*
  * The version of this header, and the same as one number: 10,000 times the first part, 100 times the second, and the third. While the first
  * part is 0, a change by which a program that was built before would misread an answer raises the second, and after that the first; the
- * shared object's name goes with it (libthoquenry.so.0.2).
+ * shared object's name goes with it (libthoquenry.so.0.3).
  */
-#define THQ_VERSION "0.2.0"
-#define THQ_VERSION_NUMBER 200
+#define THQ_VERSION "0.3.0"
+#define THQ_VERSION_NUMBER 300
 
 /* The version of the library that is linked, as such a number. */
 uint64_t thq_version(void);
@@ -44,7 +44,7 @@ uint64_t thq_version(void);
 
 /*
  * The refusals, in the words of words/refusals.tsv. {} stands for the place: an entry, a row or a layer index, from 0 on; a refusal without
- * it has place 0.
+ * it has place 0. No call gives 10, which older libraries gave for more than 8 embedded layers.
  */
 enum thq_refusal {
     /* the loop is longer than 1,008 bytes */
@@ -65,8 +65,6 @@ enum thq_refusal {
     THQ_REFUSED_REPEATED_LAYER_INDEX = 8,
     /* entry {} has an embedded index not below the layer's own, or listed twice */
     THQ_REFUSED_WRONG_EMBEDDED_INDEX = 9,
-    /* entry {} has more than 8 embedded layers */
-    THQ_REFUSED_TOO_MANY_EMBEDDED = 10,
     /* there is no layer with the target index */
     THQ_REFUSED_NO_SUCH_LAYER = 11,
     /* layer index {} is in the closure, and its layer is not in the loop */
@@ -152,7 +150,7 @@ typedef struct thq_entry {
 
 /*
  * Reads a loop. `entries` receives 80 numbers for each entry, in loop order, as laid out above. Counts the entries.
- * Refusals: 1 to 10, at an entry; 17 where `entries_length` is below 80 numbers for each entry.
+ * Refusals: 1 to 9, at an entry; 17 where `entries_length` is below 80 numbers for each entry.
  */
 uint64_t thq_read_loop(uint64_t reading, const uint8_t *bytes, size_t bytes_length, uint16_t *entries, size_t entries_length);
 
@@ -161,14 +159,14 @@ uint64_t thq_read_loop(uint64_t reading, const uint8_t *bytes, size_t bytes_leng
  * `out`. Numbers of `entries` after the last whole entry, fields that the entry's record does not have, and embedded indices
  * beyond the count are not looked at.
  * Refusals: 25 first, where a value is too wide for its field, a `record` above 2 and a flag above 1 among them; then 1, which more than
- * 201 entries give too; then 3 and 6 to 10, at an entry; then 17.
+ * 201 entries give too; then 3 and 6 to 9, at an entry; then 17.
  */
 uint64_t thq_write_loop(const uint16_t *entries, size_t entries_length, uint8_t *out, size_t out_length);
 
 /*
  * The layers that a target rests on, itself included. `set` receives one number, whose bit i is 1 when layer index i is one of them.
  * Counts the layers.
- * Refusals: 1 to 12; then 17 where `set_length` is 0.
+ * Refusals: 1 to 9, 11, 12; then 17 where `set_length` is 0.
  */
 uint64_t thq_closure(uint64_t reading, const uint8_t *bytes, size_t bytes_length, uint64_t target, uint64_t *set, size_t set_length);
 
@@ -205,7 +203,7 @@ uint64_t thq_join(uint64_t present, const uint64_t *embedded, size_t embedded_le
 
 /*
  * The whole import: the layers of a loop's bytes, and the rows joined over them. The lists are as in thq_join.
- * Refusals: 1 to 12; then 13 to 16; then 17 where one of the three lists is too short.
+ * Refusals: 1 to 9, 11, 12; then 13 to 16; then 17 where one of the three lists is too short.
  */
 uint64_t thq_import(uint64_t reading, const uint8_t *bytes, size_t bytes_length, uint64_t target, const uint8_t *indices,
                     size_t indices_length, const uint64_t *decodings, size_t decodings_length, const uint64_t *matches,

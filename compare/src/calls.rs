@@ -62,14 +62,11 @@ pub enum Call {
 
 /// The names of the calls and the numbers that each can answer, 0 for an accepted call.
 pub const CALLS: [(&str, &[u64]); 7] = [
-    (
-        "read_loop",
-        &[0, 1, 2, 3, 4, 5, 6, 7, 8, 9, 10, 17, NOT_A_CALL],
-    ),
-    ("write_loop", &[0, 1, 3, 6, 7, 8, 9, 10, 17, 25]),
+    ("read_loop", &[0, 1, 2, 3, 4, 5, 6, 7, 8, 9, 17, NOT_A_CALL]),
+    ("write_loop", &[0, 1, 3, 6, 7, 8, 9, 17, 25]),
     (
         "closure",
-        &[0, 1, 2, 3, 4, 5, 6, 7, 8, 9, 10, 11, 12, 17, NOT_A_CALL],
+        &[0, 1, 2, 3, 4, 5, 6, 7, 8, 9, 11, 12, 17, NOT_A_CALL],
     ),
     ("read_times", &[0, 17, 20, 21, 22, 23, 24]),
     ("write_times", &[0, 17, 24, 25]),
@@ -77,7 +74,7 @@ pub const CALLS: [(&str, &[u64]); 7] = [
     (
         "import",
         &[
-            0, 1, 2, 3, 4, 5, 6, 7, 8, 9, 10, 11, 12, 13, 14, 15, 16, 17, NOT_A_CALL,
+            0, 1, 2, 3, 4, 5, 6, 7, 8, 9, 11, 12, 13, 14, 15, 16, 17, NOT_A_CALL,
         ],
     ),
 ];

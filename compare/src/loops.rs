@@ -186,7 +186,7 @@ fn layer(random: &mut Random, reading: u64, indices: &[u8], place: usize) -> Str
     }
     let extension = reading != 2009 && random.once_in(2);
     if extension && (random.once_in(10) || !lower.is_empty()) {
-        let most = lower.len().min(8);
+        let most = lower.len();
         let count = if random.once_in(2) {
             most.min(1)
         } else {
@@ -448,11 +448,15 @@ fn miss(random: &mut Random, streams: &mut Vec<Stream>) {
             }
         }
         9..=10 => {
-            // More than eight embedded layers, of a high index so that they can stand below it.
-            let index = random.within(8, 63) as u8;
+            // A long list, of a high index so that it can stand below it; most often one that is in order, up to the 63 that there can be.
+            let index = if random.once_in(2) {
+                63
+            } else {
+                random.within(8, 63) as u8
+            };
             let mut lower: Vec<u8> = (0..index).collect();
             random.shuffle(&mut lower);
-            lower.truncate(random.pick(&[7, 8, 9, 9, 10, 63]));
+            lower.truncate(random.pick(&[8, 9, 12, 31, 61, 62, 63]));
             if random.once_in(6) && !lower.is_empty() {
                 let place = random.below(lower.len());
                 lower[place] = random.byte() & 63;
@@ -608,7 +612,7 @@ fn miss_by_number(random: &mut Random, entries: &mut Vec<[u16; ENTRY]>) {
             entry[11] = 5;
             entry[13] = 7;
             entry[14] = 63;
-            entry[15] = random.pick(&[8, 9, 9, 10, 63, 64, 255]);
+            entry[15] = random.pick(&[8, 9, 12, 62, 63, 64, 255]);
             let mut lower: Vec<u16> = (0..entry[8]).collect();
             random.shuffle(&mut lower);
             for (to, index) in (16..79).zip(0..) {

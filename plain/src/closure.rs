@@ -48,7 +48,7 @@ pub fn layers_of(entries: &[Entry]) -> Layers {
     layers
 }
 
-/// The layers of a loop straight from its bytes, or the refusal, 1 to 10.
+/// The layers of a loop straight from its bytes, or the refusal, 1 to 9.
 pub fn layers_of_loop(reading: Reading, bytes: &[u8]) -> Result<Layers, Refusal> {
     let mut layers = Layers::default();
     read_loop_with(reading, bytes, |entry| layers.add(entry))?;

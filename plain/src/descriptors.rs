@@ -190,15 +190,13 @@ pub(crate) fn fault_on_stream(stream_type: u8, record: &Record) -> Option<u8> {
     }
 }
 
-/// The lowest number, of 9 and 10, that a record gives by the layers that it names.
+/// Whether a record names a layer not below its own, or one twice: 9.
 #[inline]
-pub(crate) fn fault_of_embedded(record: &Record) -> Option<u8> {
+pub(crate) fn names_wrong_layers(record: &Record) -> bool {
     let mut named = 0_u64;
-    for &index in record.embedded() {
-        if index >= record.layer_index() || named >> index & 1 != 0 {
-            return Some(9);
-        }
-        named |= 1 << index;
-    }
-    (named.count_ones() > 8).then_some(10)
+    record.embedded().iter().any(|&index| {
+        let wrong = index >= record.layer_index() || named >> index & 1 != 0;
+        named |= 1 << (index & 63);
+        wrong
+    })
 }

@@ -9,7 +9,7 @@ pub const LONGEST_LOOP: usize = 1008;
 /// stream_type, elementary_PID and ES_info_length with the reserved bits before them.
 const ENTRY_HEAD: usize = 5;
 
-/// Reads a loop: every entry in loop order, or the refusal, 1 to 10.
+/// Reads a loop: every entry in loop order, or the refusal, 1 to 9.
 pub fn read_loop(reading: Reading, bytes: &[u8]) -> Result<Vec<Entry>, Refusal> {
     let mut entries = Vec::with_capacity(bytes.len().min(LONGEST_LOOP) / 11 + 1);
     read_loop_with(reading, bytes, |entry| entries.push(*entry))?;
@@ -116,7 +116,7 @@ impl Seen {
     }
 }
 
-/// Judges an entry: 3, and of its record 6 to 10.
+/// Judges an entry: 3, and of its record 6 to 9.
 #[inline]
 fn judge(entry: &Entry, place: usize, seen: &mut Seen, faults: &mut Faults) {
     if seen.pid(entry.pid) {
@@ -129,13 +129,13 @@ fn judge(entry: &Entry, place: usize, seen: &mut Seen, faults: &mut Faults) {
         if seen.layer(record.layer_index()) {
             faults.add(8, place);
         }
-        if let Some(number) = descriptors::fault_of_embedded(record) {
-            faults.add(number, place);
+        if descriptors::names_wrong_layers(record) {
+            faults.add(9, place);
         }
     }
 }
 
-/// Writes a loop and answers its length, or the refusal: 25 before all else, then 1, 3, 6 to 10, 17.
+/// Writes a loop and answers its length, or the refusal: 25 before all else, then 1, 3, 6 to 9, 17.
 pub fn write_loop(entries: &[Entry], out: &mut [u8]) -> Result<usize, Refusal> {
     let too_wide = |entry: &Entry| {
         entry.pid > 0x1FFF || entry.record.as_ref().map_or(false, descriptors::too_wide)

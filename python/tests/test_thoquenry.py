@@ -70,8 +70,10 @@ class WorkedExamples(unittest.TestCase):
             return [replace(ENTRIES_OF_LOOP_A[2], record=replace(ENTRIES_OF_LOOP_A[2].record, layer_index=63, embedded=embedded))]
         for length in (64, 65535, 65536, 65544):
             self.refused(Number.TOO_WIDE, 0, write_loop, with_list(length))
-        self.refused(Number.TOO_MANY_EMBEDDED, 0, write_loop, with_list(63))
-        self.assertEqual(len(write_loop(with_list(8))), 5 + 2 + 7 + 8)
+        for length in (8, 9, 12, 62, 63):
+            written = write_loop(with_list(length))
+            self.assertEqual(len(written), 5 + 2 + 7 + length)
+            self.assertEqual(read_loop(Reading.EDITION_2015, written), with_list(length))
 
     def test_values_wider_than_their_c_type_are_too_wide(self):
         self.refused(Number.TOO_WIDE, 0, write_loop, [Entry(0x1B, 65536 + 256)])
@@ -143,7 +145,7 @@ class WorkedExamples(unittest.TestCase):
         self.refused(Number.TOO_WIDE, 0, write_times, Times(9000, 9000, 9000), 2)
 
     def test_every_number_has_its_name_and_its_words(self):
-        self.assertEqual([number.value for number in Number], [*range(1, 18), *range(20, 26)])
+        self.assertEqual([number.value for number in Number], [*range(1, 10), *range(11, 18), *range(20, 26)])
         self.assertEqual(str(Refused(15, 3)), "15: row 3 of the target layer has no assembly")
         self.assertEqual(Refused(17, 0).words, "the output room is too small")
         self.assertEqual(len({Refused(number, 7).words for number in Number}), len(Number))

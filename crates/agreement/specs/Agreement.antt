@@ -20,7 +20,6 @@ use Rattle.es_loop.specs.Entries.{streamOf}
 use Rattle.es_loop.specs.Reading.{accepted, loopRead}
 use Rattle.es_loop.specs.Meaning.{too-long, refuses}
 use Rattle.es_loop.specs.Meaning as Loop
-use Rattle.judging.specs.Judging.{mostEmbedded}
 use Rattle.es_loop.proofs.Meant.{answer-meant, answer-only}
 use Rattle.closure.specs.declared.Layers.{Layers}
 use Rattle.joining.specs.declared.answer.Joined.{Joined}
@@ -63,7 +62,7 @@ module _ (reading : Reading) (bytes : List ℕ) (target : ℕ) (t : Table) (numb
 -- ---- what is accepted, as it is computed
 
 pub accepts : (reading : Reading) (bytes : List ℕ) → IsAccepted reading bytes → Accepts reading bytes (entriesIn reading bytes) (layersIn reading bytes)
-accepts reading bytes = go (answer-meant mostEmbedded reading bytes) refl
+accepts reading bytes = go (answer-meant reading bytes) refl
   where
     go : {read : LoopRead} → Loop.Answers reading bytes read → read ≡ loopRead reading bytes → read .outcome ≡ Accepted
         → Accepts reading bytes (entriesIn reading bytes) (layersIn reading bytes)
@@ -80,7 +79,7 @@ accepts reading bytes = go (answer-meant mostEmbedded reading bytes) refl
 
 module _ {reading : Reading} {bytes : List ℕ} {entries : List Entry} {layers : Layers} (a : Accepts reading bytes entries layers) where
   is-read : accepted (a .streams) ≡ loopRead reading bytes
-  is-read = answer-only mostEmbedded reading bytes (a .answer)
+  is-read = answer-only reading bytes (a .answer)
 
   outcome-is : IsAccepted reading bytes
   outcome-is = sym (ap (λ (r : LoopRead). r .outcome) is-read)

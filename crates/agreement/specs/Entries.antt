@@ -3,7 +3,7 @@
 -- Assumes nothing.
 use Prim.Native.Nat.{ℕ, suc, _<_}
 use mathlib.Core.Path.{_≡_, refl, sym, _∙_, ap, ap₂, subst}
-use mathlib.Core.Bool.{Bool, true, false, cond, _||_, true≢false, false≢true, not-eq-not}
+use mathlib.Core.Bool.{Bool, true, false, cond, _||_, true≢false, not-eq-not}
 use mathlib.Core.List.{List, [], _∷_, map, nil≢cons, head-eq-of-cons-eq}
 use native.Mathlib.Omega.{arith}
 use mathlib.Core.Logic.{⊎-elim}
@@ -28,16 +28,14 @@ use Rattle.descriptors.specs.declared.extension.ExtensionRecord.{ExtensionRecor
 use Rattle.descriptors.proofs.Meant.{descriptors-meant, descriptors-only}
 use Rattle.descriptors.specs.Extension.{noLayer}
 use Rattle.descriptors.specs.Looking.{Kind, does-not-fit, skipped, wrong-length, hierarchy, extension, kindsOf, Held, heldIn, isWrongLength, firstRecord, firstLayers, seenOf, nothingSeen, is-wrong-length}
-use Rattle.judging.specs.Judging.{mostEmbedded}
-use Rattle.judging.specs.Meaning.{TypeNotAllowed, hierarchy-type, extension-on-avc, extension-on-svc, extension-on-mvc, unknown-type, WrongFlags, type-9, more-than-one, Flag, view, temporal, spatial, quality, flag, WrongEmbedded, not-below, listed-twice, TooManyEmbedded}
-use Rattle.judging.proofs.Meant.{refusal-10}
+use Rattle.judging.specs.Meaning.{TypeNotAllowed, hierarchy-type, extension-on-avc, extension-on-svc, extension-on-mvc, unknown-type, WrongFlags, type-9, more-than-one, Flag, view, temporal, spatial, quality, flag, WrongEmbedded, not-below, listed-twice}
 use Rattle.descriptors.specs.Records.{indexOf}
 use Rattle.es_loop.specs.declared.entries.Entry.{Entry}
 use Rattle.es_loop.specs.declared.reader.Outcome.the-variants.{Accepted}
 use Rattle.es_loop.specs.declared.reader.LoopRead.{LoopRead}
 use Rattle.es_loop.specs.Entries.{streamType, elementaryPid, streamOf, entryOf}
 use Rattle.es_loop.specs.Reading.{accepted, loopRead}
-use Rattle.es_loop.specs.Meaning.{KnownAt, LayerAt, Condition, entry-unfit, descriptor-unfit, pid-seen, length-wrong, two-records, type-wrong, flags-wrong, index-held, embedded-wrong, embedded-many, Answers, too-long, refuses, accepts}
+use Rattle.es_loop.specs.Meaning.{KnownAt, LayerAt, Condition, entry-unfit, descriptor-unfit, pid-seen, length-wrong, two-records, type-wrong, flags-wrong, index-held, embedded-wrong, Answers, too-long, refuses, accepts}
 use Rattle.es_loop.proofs.Meant.{answer-meant, answer-only}
 use Rattle.loop_layers.specs.Closures.{entriesRead}
 use Rattle.loop_layers.proofs.Meant.{entries-read}
@@ -60,7 +58,7 @@ was-wrong wrong-length e = refl
 was-wrong (hierarchy h) e = let z : _≡_ {A = ℕ} 0 1 = cc in absurd (omega arith)
 was-wrong (extension x layers) e = let z : _≡_ {A = ℕ} 0 1 = cc in absurd (omega arith)
 
--- ---- what 6, 7, 9 and 10 refuse of a record in the 2009 reading, they refuse of it in the 2015 reading
+-- ---- what 6, 7 and 9 refuse of a record in the 2009 reading, they refuse of it in the 2015 reading
 
 type-refused : (t : ℕ) (r : Record) → TypeNotAllowed t (recordIn2009 r) → TypeNotAllowed t r
 type-refused t (Hierarchy h) (hierarchy-type p) = hierarchy-type p
@@ -86,14 +84,6 @@ embedded-refused (Hierarchy h) layers (listed-twice i j l k p) = listed-twice i 
 embedded-refused (Extension x) layers (not-below i l p) = absurd (not-suc-le-zero l)
 embedded-refused (Extension x) layers (listed-twice i j l k p) = absurd (not-suc-le-zero k)
 
-many-refused : (r : Record) → TooManyEmbedded mostEmbedded (recordIn2009 r) → TooManyEmbedded mostEmbedded r
-many-refused NoRecord w = w
-many-refused (Hierarchy h) w = absurd (none w)
-  where
-    none : {h : HierarchyRecord} → TooManyEmbedded mostEmbedded (Hierarchy h) → ⊥
-    none w = false≢true ((refusal-10 mostEmbedded _) .1 w)
-many-refused (Extension x) w = absurd (false≢true ((refusal-10 mostEmbedded NoRecord) .1 w))
-
 same-index : (r : Record) → isExtension r ≡ false → indexOf (recordIn2009 r) ≡ indexOf r
 same-index NoRecord e = refl
 same-index (Hierarchy h) e = refl
@@ -101,7 +91,7 @@ same-index (Extension x) e = absurd (true≢false e)
 
 -- ---- the conditions of an accepted loop: none holds in the 2015 reading
 
-module _ (items : List Item) (none : (n k : ℕ) → Condition Edition2015 items mostEmbedded n k → ⊥) where
+module _ (items : List Item) (none : (n k : ℕ) → Condition Edition2015 items n k → ⊥) where
   known-too : {k t : ℕ} {info : List ℕ} → KnownAt Edition2009 items k t info → KnownAt Edition2015 items k t info
   known-too {t = t} s = record { head = s .head; entry = s .entry; type = s .type; is-known = known-later t (s .is-known) }
 
@@ -178,7 +168,7 @@ module _ (items : List Item) (none : (n k : ℕ) → Condition Edition2015 items
           }
 
   -- NONE HOLDS IN THE 2009 READING.
-  none-in-2009 : {n k : ℕ} → Condition Edition2009 items mostEmbedded n k → ⊥
+  none-in-2009 : {n k : ℕ} → Condition Edition2009 items n k → ⊥
   none-in-2009 (entry-unfit {k} e) = none 2 k (entry-unfit e)
   none-in-2009 (descriptor-unfit {k} {info = info} s ds {i} d) =
       let w = nth-of-map kindIn2009 (kindsOf Edition2015 info)
@@ -209,9 +199,6 @@ module _ (items : List Item) (none : (n k : ℕ) → Condition Edition2015 items
       let v = later l in
       none 9 k (embedded-wrong (v .layer)
       (embedded-refused (v .was) (padTo 63 noLayer layers) (subst (λ (x : Record). WrongEmbedded x (padTo 63 noLayer layers)) (sym (v .same)) w)))
-  none-in-2009 (embedded-many {k} l w) =
-      let v = later l in
-      none 10 k (embedded-many (v .layer) (many-refused (v .was) (subst (TooManyEmbedded mostEmbedded) (sym (v .same)) w)))
 
   -- THE SAME ENTRIES, but for what Records says.
   entry-alike : {k : ℕ} (x : Item) → Nth items k x → entryOf (streamOf Edition2009 x) ≡ entryIn2009 (entryOf (streamOf Edition2015 x))
@@ -275,10 +262,10 @@ module _ (bytes : List ℕ) (is-accepted : IsAccepted Edition2015 bytes) where
     items : List Item
     in-2015 : loopRead Edition2015 bytes ≡ accepted (map (streamOf Edition2015) items)
     in-2009 : loopRead Edition2009 bytes ≡ accepted (map (streamOf Edition2009) items)
-    none : (n k : ℕ) → Condition Edition2015 items mostEmbedded n k → ⊥
+    none : (n k : ℕ) → Condition Edition2015 items n k → ⊥
 
   both : Both
-  both = go (answer-meant mostEmbedded Edition2015 bytes) is-accepted
+  both = go (answer-meant Edition2015 bytes) is-accepted
     where
       go : {read : LoopRead} → Answers Edition2015 bytes read → read .outcome ≡ Accepted → Both
       go (too-long h) e = let z : _≡_ {A = ℕ} 0 1 = cc in absurd (omega arith)
@@ -286,8 +273,8 @@ module _ (bytes : List ℕ) (is-accepted : IsAccepted Edition2015 bytes) where
       go (accepts {entries} short c none) e =
           record {
             items = entries;
-            in-2015 = sym (answer-only mostEmbedded Edition2015 bytes (accepts short c none));
-            in-2009 = sym (answer-only mostEmbedded Edition2009 bytes (accepts short c (λ n k. none-in-2009 entries none)));
+            in-2015 = sym (answer-only Edition2015 bytes (accepts short c none));
+            in-2009 = sym (answer-only Edition2009 bytes (accepts short c (λ n k. none-in-2009 entries none)));
             none = none;
           }
 

@@ -1,15 +1,16 @@
 -- LOOPS, pinned: derived by hand from document 01, each number given and narrowly not given; and one loop in which every field differs from every
 -- other, read, listed and written.
 -- Assumes nothing.
-use Prim.Native.Nat.{ℕ}
+use Prim.Native.Nat.{ℕ, _+_}
 use mathlib.Core.Bool.{Bool, true, false}
 use mathlib.Core.List.{List, [], _∷_, _++_, map}
 use mathlib.Core.Path.{_≡_, refl}
-use lib.ListN.{take, replicate}
+use lib.ListN.{length, take, replicate}
 use Rattle.vocabulary.specs.declared.stream_types.Reading.{Reading}
 use Rattle.vocabulary.specs.declared.stream_types.Reading.the-variants.{Edition2009, Edition2015}
-use Rattle.vocabulary.specs.declared.refusal.Refusal.the-variants.{DoesNotFit, LoopTooLong, NoRoom, RepeatedLayerIndex, RepeatedPid, SecondRecord, TooManyEmbedded, TooWide, TypeNotAllowed, WrongEmbeddedIndex, WrongFlags, WrongLength}
+use Rattle.vocabulary.specs.declared.refusal.Refusal.the-variants.{DoesNotFit, EmbeddedLayerAbsent, LoopTooLong, NoRoom, RepeatedLayerIndex, RepeatedPid, SecondRecord, TooWide, TypeNotAllowed, WrongEmbeddedIndex, WrongFlags, WrongLength}
 use Rattle.combinators.specs.Padding.{padTo}
+use Rattle.combinators.specs.Those.{those}
 use Rattle.sets.specs.Sets.{size}
 use Rattle.text.specs.Text.{ascii, decimal, decimalWidth, texts}
 use Rattle.descriptors.specs.declared.«record».Record.the-variants.{NoRecord, Hierarchy, Extension}
@@ -17,7 +18,7 @@ use Rattle.es_loop.specs.declared.entries.Entry.{Entry}
 use Rattle.es_loop.specs.declared.reader.Outcome.{Outcome}
 use Rattle.es_loop.specs.declared.reader.Outcome.the-variants.{Accepted, Refused}
 use Rattle.es_loop.specs.Reading.{loopRead}
-use Rattle.closure.specs.declared.Closure.the-variants.{Complete}
+use Rattle.closure.specs.declared.Closure.the-variants.{Complete, Refused as NoClosure}
 use Rattle.loop_layers.specs.Closures.{loopClosure}
 use Rattle.loop_writer.specs.declared.writer.Written.{Written}
 use Rattle.loop_writer.specs.declared.writer.Written.the-variants as Written
@@ -32,6 +33,19 @@ pub record Case : Type 0 where
 
 abbrev pub case : Reading → List ℕ → Outcome → Case
 case reading bytes outcome = record { reading = reading; bytes = bytes; outcome = outcome }
+
+-- 0, 1, 2 and so on, so many
+abbrev pub first : ℕ → List ℕ
+first count = those (λ i. true) count
+
+-- the bytes of a list of embedded layers
+abbrev pub indexBytes : List ℕ → List ℕ
+indexBytes indices = map (λ (i : ℕ). 0xC0 + i) indices
+
+-- a layer of index 63 with an extension that counts so many embedded layers, and has these
+abbrev pub layer63 : ℕ → List ℕ → List ℕ
+layer63 count list =
+    (0x28 ∷ 0xE1 ∷ 0x00 ∷ 0xF0 ∷ (9 + length list) ∷ 0x3F ∷ (7 + length list) ∷ 0x06 ∷ 0x00 ∷ 0x01 ∷ 0xFC ∷ 0x02 ∷ (0xC0 + count) ∷ 0xC0 ∷ []) ++ indexBytes list
 
 abbrev pub loops : List Case
 loops =
@@ -92,9 +106,17 @@ loops =
     ∷ case Edition2015 (0x1B ∷ 0xE1 ∷ 0x00 ∷ 0xF0 ∷ 0x06 ∷ 0x04 ∷ 0x04 ∷ 0xFF ∷ 0xC5 ∷ 0x7F ∷ 0xC0 ∷ []) Accepted
     ∷ case Edition2015 (0x28 ∷ 0xE1 ∷ 0x00 ∷ 0xF0 ∷ 0x0B ∷ 0x3F ∷ 0x09 ∷ 0x06 ∷ 0x00 ∷ 0x01 ∷ 0x0C ∷ 0x02 ∷ 0xC2 ∷ 0xC0 ∷ 0xC1 ∷ 0xC0 ∷ []) Accepted
     ∷ case Edition2015 (0x28 ∷ 0xE1 ∷ 0x00 ∷ 0xF0 ∷ 0x0B ∷ 0x3F ∷ 0x09 ∷ 0x06 ∷ 0x00 ∷ 0x01 ∷ 0x0C ∷ 0x02 ∷ 0xC2 ∷ 0xC0 ∷ 0xC0 ∷ 0xC0 ∷ []) (Refused (WrongEmbeddedIndex 0))
-    -- 10: 8 embedded layers, and 9
+    -- 8 embedded layers, and 9
     ∷ case Edition2015 (0x28 ∷ 0xE1 ∷ 0x00 ∷ 0xF0 ∷ 0x11 ∷ 0x3F ∷ 0x0F ∷ 0x06 ∷ 0x00 ∷ 0x01 ∷ 0x20 ∷ 0x02 ∷ 0xC8 ∷ 0xC0 ∷ 0xC0 ∷ 0xC1 ∷ 0xC2 ∷ 0xC3 ∷ 0xC4 ∷ 0xC5 ∷ 0xC6 ∷ 0xC7 ∷ []) Accepted
-    ∷ case Edition2015 (0x28 ∷ 0xE1 ∷ 0x00 ∷ 0xF0 ∷ 0x12 ∷ 0x3F ∷ 0x10 ∷ 0x06 ∷ 0x00 ∷ 0x01 ∷ 0x24 ∷ 0x02 ∷ 0xC9 ∷ 0xC0 ∷ 0xC0 ∷ 0xC1 ∷ 0xC2 ∷ 0xC3 ∷ 0xC4 ∷ 0xC5 ∷ 0xC6 ∷ 0xC7 ∷ 0xC8 ∷ []) (Refused (TooManyEmbedded 0))
+    ∷ case Edition2015 (0x28 ∷ 0xE1 ∷ 0x00 ∷ 0xF0 ∷ 0x12 ∷ 0x3F ∷ 0x10 ∷ 0x06 ∷ 0x00 ∷ 0x01 ∷ 0x24 ∷ 0x02 ∷ 0xC9 ∷ 0xC0 ∷ 0xC0 ∷ 0xC1 ∷ 0xC2 ∷ 0xC3 ∷ 0xC4 ∷ 0xC5 ∷ 0xC6 ∷ 0xC7 ∷ 0xC8 ∷ []) Accepted
+    -- 12, 62 and 63 of them; one of 63 listed twice; 63 counted where 62 are listed, and 62 counted where 63 are
+    ∷ case Edition2015 (layer63 12 (first 12)) Accepted
+    ∷ case Edition2015 (layer63 62 (first 62)) Accepted
+    ∷ case Edition2015 (layer63 63 (first 63)) Accepted
+    ∷ case Edition2009 (layer63 63 (first 63)) Accepted
+    ∷ case Edition2015 (layer63 63 (first 62 ++ 61 ∷ [])) (Refused (WrongEmbeddedIndex 0))
+    ∷ case Edition2015 (layer63 63 (first 62)) (Refused (WrongLength 0))
+    ∷ case Edition2015 (layer63 62 (first 63)) (Refused (WrongLength 0))
     ∷ []
 
 -- A loop in which every field differs from every other:
@@ -163,6 +185,7 @@ layer streamType pid type temporal index embedded =
       embedded = replicate 63 (record { 0 = 0 });
     }
 
+-- layer 63 on so many
 abbrev pub onMany : ℕ → Entry
 onMany count =
     record {
@@ -170,15 +193,20 @@ onMany count =
       pid = 301;
       «record» = Extension (record {
         «dimension_bits» = 0xABCD;
-        «layer_index» = record { 0 = 12 };
+        «layer_index» = record { 0 = 63 };
         «temporal_id» = record { 0 = 6 };
         «nuh_layer_id» = record { 0 = 33 };
         «tref_present_flag» = true;
         «num_embedded_layers» = count;
         channel = record { 0 = 47 };
       });
-      embedded = padTo 63 (record { 0 = 0 }) (map (λ (i : ℕ). record { 0 = i }) (0 ∷ 1 ∷ 2 ∷ 3 ∷ 4 ∷ 5 ∷ 6 ∷ 7 ∷ 8 ∷ 9 ∷ []));
+      embedded = padTo 63 (record { 0 = 0 }) (map (λ (i : ℕ). record { 0 = i }) (first 63));
     }
+
+-- its bytes on 63
+abbrev pub onAll : List ℕ
+onAll =
+    (0x28 ∷ 0xE1 ∷ 0x2D ∷ 0xF0 ∷ 0x48 ∷ 0x3F ∷ 0x46 ∷ 0x06 ∷ 0xAB ∷ 0xCD ∷ 0xFF ∷ 0x43 ∷ 0xFF ∷ 0xEF ∷ []) ++ indexBytes (first 63)
 
 -- entries, how many of them, the places of the buffer, and what is answered
 pub record Write : Type 0 where
@@ -214,9 +242,12 @@ writes =
     ∷ write (layer 31 300 1 true 9 7 ∷ layer 31 301 1 true 10 7 ∷ []) 2 22 (Written.Bytes 22)
     -- 9: on itself
     ∷ write (layer 31 300 1 true 9 9 ∷ []) 1 11 (Written.Refused (WrongEmbeddedIndex 0))
-    -- 10: on 8 layers, and on 9
+    -- on 8 layers, on 9 and on 63; 25: on 64
     ∷ write (onMany 8 ∷ []) 1 22 (Written.Bytes 22)
-    ∷ write (onMany 9 ∷ []) 1 23 (Written.Refused (TooManyEmbedded 0))
+    ∷ write (onMany 9 ∷ []) 1 23 (Written.Bytes 23)
+    ∷ write (onMany 63 ∷ []) 1 77 (Written.Bytes 77)
+    ∷ write (onMany 63 ∷ []) 1 76 (Written.Refused NoRoom)
+    ∷ write (onMany 64 ∷ []) 1 78 (Written.Refused TooWide)
     -- 17: one place too few
     ∷ write (plainEntry 300 ∷ []) 1 4 (Written.Refused NoRoom)
     ∷ []
@@ -231,6 +262,10 @@ pub record LoopsPinned : Type 0 where
   pub answers : map (λ (w : Write). answer (w .room) (w .count) (w .entries)) writes ≡ map (λ (w : Write). w .written) writes
   pub written : (answer 38 3 distinctEntries ≡ Written.Bytes 38) × (content 3 distinctEntries (replicate 40 5) ≡ distinct ++ 5 ∷ 5 ∷ [])
   pub closures : (loopClosure Edition2015 distinct 12 ≡ Complete 0b1001010000000) × (loopClosure Edition2009 distinct 9 ≡ Complete 0b1010000000)
+  -- layer 63 on the 63 others, none of which is in the loop
+  pub long-list-read : take 1 (loopRead Edition2015 onAll .entries) ≡ onMany 63 ∷ []
+  pub long-list-written : content 1 (onMany 63 ∷ []) (replicate 78 5) ≡ onAll ++ 5 ∷ []
+  pub long-list-absent : loopClosure Edition2015 onAll 63 ≡ NoClosure (EmbeddedLayerAbsent (record { 0 = 0 }))
   pub listed : loopText Edition2015 distinct
       ≡ ascii "accepted 3\nlayer 7 pid 298 type 27 channel 21 closure 7\nlayer 9 pid 300 type 31 channel 42 closure 7 9\nlayer 12 pid 301 type 41 channel 47 closure 7 9 12\n"
   pub listed-in-2009 : loopText Edition2009 distinct
@@ -244,4 +279,4 @@ pub record LoopsPinned : Type 0 where
 
 pub loops-pinned : LoopsPinned
 unfolding loopText size acceptedText refusedText layersText lineAt layerLine members texts decimal decimalWidth
-loops-pinned = record { outcomes = refl; read = refl; answers = refl; written = (refl, refl); closures = (refl, refl); listed = refl; listed-in-2009 = refl; listed-absent = refl; listed-refusal = refl }
+loops-pinned = record { outcomes = refl; read = refl; answers = refl; written = (refl, refl); closures = (refl, refl); long-list-read = refl; long-list-written = refl; long-list-absent = refl; listed = refl; listed-in-2009 = refl; listed-absent = refl; listed-refusal = refl }

@@ -16,13 +16,13 @@ use Rattle.demands.specs.ForC.{thqReadLoop, thqWriteLoop, thqClosure, th
 use Rattle.demands.specs.ForCShown.{thq-loop-read, thq-loop-written, thq-closure-found, thq-times-read, thq-times-written, thq-rows-joined, thq-loop-imported}
 
 pub record Demand-1 : Type 0 where
-  -- 1 to 10
+  -- 1 to 9
   pub reading-a-loop : Promised readLoop
-  -- 1, 3, 6 to 10, 17, 25
+  -- 1, 3, 6 to 9, 17, 25
   pub writing-a-loop : Promised writeLoop
   -- 11 and 12
   pub closure-of-a-target : Promised closureOfTarget
-  -- 1 to 12
+  -- 1 to 9, 11, 12
   pub closure-from-a-loop : Promised closureOfLoop
   -- 20 to 24
   pub reading-times : Promised readTimes
@@ -32,13 +32,13 @@ pub record Demand-1 : Type 0 where
   pub joining-a-table : Promised joinTable
   -- 11 to 17
   pub joining-rows : Promised joinRows
-  -- 1 to 17
+  -- 1 to 9, 11 to 17
   pub importing : Promised importLoop
-  -- 1 to 10, 17, 255
+  -- 1 to 9, 17, 255
   pub thq-read-loop : Promised (forC thqReadLoop)
-  -- 1, 3, 6 to 10, 17, 25
+  -- 1, 3, 6 to 9, 17, 25
   pub thq-write-loop : Promised (forC thqWriteLoop)
-  -- 1 to 12, 17, 255
+  -- 1 to 9, 11, 12, 17, 255
   pub thq-closure : Promised (forC thqClosure)
   -- 17, 20 to 24
   pub thq-read-times : Promised (forC thqReadTimes)
@@ -46,7 +46,7 @@ pub record Demand-1 : Type 0 where
   pub thq-write-times : Promised (forC thqWriteTimes)
   -- 11 to 17
   pub thq-join : Promised (forC thqJoin)
-  -- 1 to 17, 255
+  -- 1 to 9, 11 to 17, 255
   pub thq-import : Promised (forC thqImport)
   -- none
   pub others : RefuseNothing

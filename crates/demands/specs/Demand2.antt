@@ -152,7 +152,7 @@ pub record Demand-2 : Type 0 where
   pub joins : Joins
 
 -- the round trips of loops, from what the two functions ensure
-read-back : LoopReadBack
+pub read-back : LoopReadBack
 read-back wrote written n is-bytes typed read ensured same =
     let g = writeLoop .given wrote in
     let w = loopWrittenComputed .ensured wrote written in
@@ -162,7 +162,7 @@ read-back wrote written n is-bytes typed read ensured same =
     ∙ ap (loopRead Edition2015) (ap (take n) (w .1) ∙ loops.buffer-holds (g .count) (g .array) (g .out) accepted)
     ∙ loops.read-back (length (g .out)) (g .count) (g .array) typed accepted
 
-rewritten : LoopRewritten
+pub rewritten : LoopRewritten
 rewritten read ensured in-2015 bytes own is-accepted wrote written same-count same-array large =
     let loop = readLoop .given read .bytes in
     let out = writeLoop .given wrote .out in

@@ -54,7 +54,7 @@ pub record ReadLoopGiven : Type 0 where
   pub bytes : List ℕ
   pub entries : List ℕ
 
--- '`entries` receives 80 numbers for each entry, in loop order. Counts the entries. Refusals: 1 to 10, at an entry; 17 where `entries_length` is
+-- '`entries` receives 80 numbers for each entry, in loop order. Counts the entries. Refusals: 1 to 9, at an entry; 17 where `entries_length` is
 -- below 80 numbers for each entry.'
 abbrev pub loopTold : Outcome → ℕ → List Entry → List ℕ → Told (List ℕ)
 loopTold (Outcome.Refused refusal) count entries room = refuses refusal
@@ -94,7 +94,7 @@ writtenTold (Written.Bytes count) left = counts count left
 writtenTold (Written.Refused refusal) left = refuses refusal
 
 -- 'one entry for each 80 numbers of `entries`'; 'Refusals: 25 first, where a value is too wide for its field, a `record` above 2 and a flag above 1
--- among them; then 1, which more than 201 entries give too; then 3 and 6 to 10, at an entry; then 17.'
+-- among them; then 1, which more than 201 entries give too; then 3 and 6 to 9, at an entry; then 17.'
 abbrev pub thqWriteLoop : ForC
 thqWriteLoop =
     record {
@@ -120,7 +120,7 @@ pub record ClosureGiven : Type 0 where
   pub target : ℕ
   pub set : List ℕ
 
--- '`set` receives one number, whose bit i is 1 when layer index i is one of them. Counts the layers. Refusals: 1 to 12; then 17 where `set_length`
+-- '`set` receives one number, whose bit i is 1 when layer index i is one of them. Counts the layers. Refusals: 1 to 9, 11, 12; then 17 where `set_length`
 -- is 0.'
 abbrev pub closureTold : Closure → List ℕ → Told (List ℕ)
 closureTold (Closure.Refused refusal) room = refuses refusal
@@ -291,7 +291,7 @@ pub record ImportGiven : Type 0 where
   pub rows : Table
   pub lists : Three
 
--- 'Refusals: 1 to 12; then 13 to 16; then 17'
+-- 'Refusals: 1 to 9, 11, 12; then 13 to 16; then 17'
 abbrev pub thqImport : ForC
 thqImport =
     record {

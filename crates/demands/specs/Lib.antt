@@ -6,5 +6,6 @@ pub mod Others
 pub mod Demand1
 pub mod Demand2
 pub mod Demand3
+pub mod Embedding
 pub mod Starred
 pub mod Pins

@@ -8,7 +8,6 @@ use lib.ListN.{length, take, drop, length-map}
 use lib.Seq.{length-take-le, take-all}
 use Rattle.combinators.specs.Lists.{gather, gather-map, gather-next}
 use Rattle.buffers.specs.Buffers.{over}
-use Rattle.judging.specs.Judging.{mostEmbedded}
 use Rattle.vocabulary.specs.declared.stream_types.Reading.{Reading}
 use Rattle.es_loop.specs.declared.entries.Stream.{Stream}
 use Rattle.es_loop.specs.declared.verdict.Verdict.the-variants.{Entries}
@@ -40,8 +39,8 @@ module _ (reading : Reading) (bytes old : List ℕ) (judged : verdictOf reading 
   abbrev all : List Stream
   all = streamsOf reading bytes
 
-  accepted : Sound mostEmbedded reading bytes (length all)
-  accepted = sound mostEmbedded reading bytes (length all) judged
+  accepted : Sound reading bytes (length all)
+  accepted = sound reading bytes (length all) judged
 
   -- the turn at the byte `at`, where an entry of `size` bytes begins
   pub record Turn (count at size : ℕ) : Type 0 where
@@ -56,7 +55,7 @@ module _ (reading : Reading) (bytes old : List ℕ) (judged : verdictOf reading 
   module _ (count at : ℕ) (cursor : Cursor reading bytes count at) (more : at < length bytes) (size : ℕ)
       (is-size : size ≡ sizeOf (leftAt reading bytes at)) where
     here-fits : size ≤ length (leftAt reading bytes at)
-    here-fits = size-fits reading bytes mostEmbedded (length all) accepted count at cursor more size is-size
+    here-fits = size-fits reading bytes (length all) accepted count at cursor more size is-size
 
     here-inside : count < length all
     here-inside = inside-here reading bytes count at cursor more size is-size here-fits _ refl

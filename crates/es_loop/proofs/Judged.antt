@@ -18,46 +18,46 @@ use Rattle.es_loop.specs.declared.verdict.Verdict.the-variants.{Entries,
 use Rattle.es_loop.specs.Entries.{streamsOf}
 use Rattle.es_loop.specs.Conditions.{applies, refusalOf}
 use Rattle.es_loop.specs.declared.reader.Outcome.the-variants.{Accepted, Refused as OutcomeRefused}
-use Rattle.es_loop.specs.Reading.{verdictAt, judged, verdictUpTo, answerBy, readUpTo, accepted as accepted-read}
+use Rattle.es_loop.specs.Reading.{verdictAt, judged, verdictOf, answerBy, loopRead, accepted as accepted-read}
 
-module _ (most : ℕ) (streams : List Stream) where
+module _ (streams : List Stream) where
   -- the verdict, given the lowest number and its place
-  pub judged-refused : (number place : ℕ) → Lowest (applies most streams) 11 (length streams) number place → number < 11
-      → Refuses (refusalOf number place) ≡ judged most streams
+  pub judged-refused : (number place : ℕ) → Lowest (applies streams) 10 (length streams) number place → number < 10
+      → Refuses (refusalOf number place) ≡ judged streams
   judged-refused number place b h =
-      sym (ap (λ (t : Bool). cond t (Refuses (refusalOf number place)) (Entries (length streams))) (lt-ltb number 11 h))
-      ∙ ap (λ (p : ℕ). verdictAt (length streams) number p) (earliest-place (applies most streams) 11 (length streams) number place b h)
-      ∙ ap (λ (n : ℕ). verdictAt (length streams) n (earliestPlace (applies most streams) n (length streams)))
-      (lowest-number (applies most streams) 11 (length streams) number place b)
+      sym (ap (λ (t : Bool). cond t (Refuses (refusalOf number place)) (Entries (length streams))) (lt-ltb number 10 h))
+      ∙ ap (λ (p : ℕ). verdictAt (length streams) number p) (earliest-place (applies streams) 10 (length streams) number place b h)
+      ∙ ap (λ (n : ℕ). verdictAt (length streams) n (earliestPlace (applies streams) n (length streams)))
+      (lowest-number (applies streams) 10 (length streams) number place b)
 
-  pub judged-accepted : (place : ℕ) → Lowest (applies most streams) 11 (length streams) 11 place → Entries (length streams) ≡ judged most streams
+  pub judged-accepted : (place : ℕ) → Lowest (applies streams) 10 (length streams) 10 place → Entries (length streams) ≡ judged streams
   judged-accepted place b =
-      ap (λ (n : ℕ). verdictAt (length streams) n (earliestPlace (applies most streams) n (length streams)))
-      (lowest-number (applies most streams) 11 (length streams) 11 place b)
+      ap (λ (n : ℕ). verdictAt (length streams) n (earliestPlace (applies streams) n (length streams)))
+      (lowest-number (applies streams) 10 (length streams) 10 place b)
 
   -- a verdict of entries: no number applies at any of them, and they are all
   abbrev lowest : ℕ
-  lowest = lowestNumber (applies most streams) 11 (length streams)
+  lowest = lowestNumber (applies streams) 10 (length streams)
 
   abbrev Accepting : Verdict → Type 0
   Accepting (Refuses r) = Unit {0}
-  Accepting (Entries count) = (count ≡ length streams) × ((n k : ℕ) → n < 11 → k < length streams → applies most streams n k ≡ false)
+  Accepting (Entries count) = (count ≡ length streams) × ((n k : ℕ) → n < 10 → k < length streams → applies streams n k ≡ false)
 
-  accepting : Accepting (judged most streams)
-  accepting = go (ltb lowest 11) refl
+  accepting : Accepting (judged streams)
+  accepting = go (ltb lowest 10) refl
     where
-      go : (b : Bool) → ltb lowest 11 ≡ b → Accepting (judged most streams)
+      go : (b : Bool) → ltb lowest 10 ≡ b → Accepting (judged streams)
       go true p = rw p tt
       go false p =
           rw p
-          (refl, λ n k h l. lowest-is (applies most streams) 11 (length streams) .lower n k (omega (arith, ltb-false lowest 11 p)) l)
+          (refl, λ n k h l. lowest-is (applies streams) 10 (length streams) .lower n k (omega (arith, ltb-false lowest 10 p)) l)
 
 -- the same of a loop's bytes
-module _ (most : ℕ) (reading : Reading) (bytes : List ℕ) where
+module _ (reading : Reading) (bytes : List ℕ) where
   pub record Sound (count : ℕ) : Type 0 where
     pub short : length bytes ≤ 1008
     pub counted : count ≡ length (streamsOf reading bytes)
-    pub none : (n k : ℕ) → n < 11 → k < length (streamsOf reading bytes) → applies most (streamsOf reading bytes) n k ≡ false
+    pub none : (n k : ℕ) → n < 10 → k < length (streamsOf reading bytes) → applies (streamsOf reading bytes) n k ≡ false
 
   abbrev Holds : Verdict → Type 0
   Holds (Refuses r) = Unit {0}
@@ -68,34 +68,34 @@ module _ (most : ℕ) (reading : Reading) (bytes : List ℕ) where
   IsEntries (Entries n) = Unit {0}
 
   abbrev By : Bool → Verdict
-  By b = cond b (Refuses LoopTooLong) (judged most (streamsOf reading bytes))
+  By b = cond b (Refuses LoopTooLong) (judged (streamsOf reading bytes))
 
-  accepted : (v : Verdict) → length bytes ≤ 1008 → Accepting most (streamsOf reading bytes) v → Holds v
+  accepted : (v : Verdict) → length bytes ≤ 1008 → Accepting (streamsOf reading bytes) v → Holds v
   accepted (Refuses r) short a = tt
   accepted (Entries n) short a = record { short = short; counted = a .0; none = a .1 }
 
-  pub sound : (count : ℕ) → verdictUpTo most reading bytes ≡ Entries count → Sound count
+  pub sound : (count : ℕ) → verdictOf reading bytes ≡ Entries count → Sound count
   sound count e = go (ltb 1008 (length bytes)) refl
     where
       go : (b : Bool) → ltb 1008 (length bytes) ≡ b → Sound count
       go true p = absurd (subst IsEntries (sym (sym (ap By p) ∙ e)) tt)
       go false p =
           subst Holds (sym (ap By p) ∙ e)
-          (accepted (judged most (streamsOf reading bytes)) (ltb-false 1008 (length bytes) p) (accepting most (streamsOf reading bytes)))
+          (accepted (judged (streamsOf reading bytes)) (ltb-false 1008 (length bytes) p) (accepting (streamsOf reading bytes)))
 
   -- a loop that is accepted: every entry is answered, and no number applies at any
   pub record Taken : Type 0 where
     pub short : length bytes ≤ 1008
-    pub is-read : readUpTo most reading bytes ≡ accepted-read (streamsOf reading bytes)
-    pub none : (n k : ℕ) → n < 11 → k < length (streamsOf reading bytes) → applies most (streamsOf reading bytes) n k ≡ false
+    pub is-read : loopRead reading bytes ≡ accepted-read (streamsOf reading bytes)
+    pub none : (n k : ℕ) → n < 10 → k < length (streamsOf reading bytes) → applies (streamsOf reading bytes) n k ≡ false
 
-  pub taken : (readUpTo most reading bytes) .outcome ≡ Accepted → Taken
-  taken is-accepted = go (verdictUpTo most reading bytes) refl is-accepted
+  pub taken : (loopRead reading bytes) .outcome ≡ Accepted → Taken
+  taken is-accepted = go (verdictOf reading bytes) refl is-accepted
     where
       never : {r : Refusal} → OutcomeRefused r ≡ Accepted → Taken
       never e = let z : _≡_ {A = ℕ} 0 1 = cc in absurd (omega arith)
 
-      go : (v : Verdict) → verdictUpTo most reading bytes ≡ v → (answerBy (streamsOf reading bytes) v) .outcome ≡ Accepted → Taken
+      go : (v : Verdict) → verdictOf reading bytes ≡ v → (answerBy (streamsOf reading bytes) v) .outcome ≡ Accepted → Taken
       go (Refuses r) e o = never o
       go (Entries count) e o =
           let s = sound count e in

@@ -47,14 +47,14 @@ held-before streams n r held small m = go (isLayer r) refl
         (λ k h. rw (and-false (isLayer (recordAt streams k))))))
 
 -- The conditions at an entry, with both marks for what is said before it.
-module _ (most : ℕ) (all : List Stream) (count : ℕ) (marks held : List Bool) (pids : Marks 8192 (pidAt all) count marks)
+module _ (all : List Stream) (count : ℕ) (marks held : List Bool) (pids : Marks 8192 (pidAt all) count marks)
     (indices : Marks 257 (λ j. slotOf (recordAt all j)) count held) (s : Stream) (here : streamAt all count ≡ s) (pid-small : s .pid < 8192)
     (index-small : indexOf (s .seen .«record») < 256) where
-  pub marked-tests : conditions most (repeatedPid all count) (repeatedIndex all count) (streamAt all count)
-      ≡ conditions most (getD marks (s .pid) false) (isLayer (s .seen .«record») && getD held (slotOf (s .seen .«record»)) false) s
+  pub marked-tests : conditions (repeatedPid all count) (repeatedIndex all count) (streamAt all count)
+      ≡ conditions (getD marks (s .pid) false) (isLayer (s .seen .«record») && getD held (slotOf (s .seen .«record»)) false) s
   marked-tests =
       ap
-      (λ (t : Stream). conditions most (some (λ j. eqb (pidAt all j) (t .pid)) count) (some (λ j. sameIndex (recordAt all j) (t .seen .«record»)) count) t)
+      (λ (t : Stream). conditions (some (λ j. eqb (pidAt all j) (t .pid)) count) (some (λ j. sameIndex (recordAt all j) (t .seen .«record»)) count) t)
       here
-      ∙ ap (λ (b : Bool). conditions most b (some (λ j. sameIndex (recordAt all j) (s .seen .«record»)) count) s) (sym (pids .marked (s .pid) pid-small))
-      ∙ ap (λ (b : Bool). conditions most (getD marks (s .pid) false) b s) (sym (held-before all count (s .seen .«record») held index-small indices))
+      ∙ ap (λ (b : Bool). conditions b (some (λ j. sameIndex (recordAt all j) (s .seen .«record»)) count) s) (sym (pids .marked (s .pid) pid-small))
+      ∙ ap (λ (b : Bool). conditions (getD marks (s .pid) false) b s) (sym (held-before all count (s .seen .«record») held index-small indices))

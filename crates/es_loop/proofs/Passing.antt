@@ -19,21 +19,21 @@ use Rattle.es_loop.specs.declared.faults.Fault.{Fault}
 use Rattle.es_loop.specs.Conditions.{streamAt, pidAt, recordAt, conditions, applies, faultAt, slotOf, lowerOf}
 use Rattle.es_loop.proofs.Marked.{marked-tests}
 
-module _ (most : ℕ) (all : List Stream) where
+module _ (all : List Stream) where
   -- what is known after `count` streams
   pub record Passed (marks held : List Bool) (fault : Fault) (count : ℕ) : Type 0 where
     pub pids : Marks 8192 (pidAt all) count marks
     pub indices : Marks 257 (λ j. slotOf (recordAt all j)) count held
-    pub lowest : Lowest (applies most all) 11 count (fault .number) (fault .place)
+    pub lowest : Lowest (applies all) 10 count (fault .number) (fault .place)
     -- past all numbers the place is 0
-    pub unset : 11 ≤ fault .number → fault .place ≡ 0
+    pub unset : 10 ≤ fault .number → fault .place ≡ 0
 
-  pub passed-start : Passed (replicate 8192 false) (replicate 257 false) (record { number = 11; place = 0 }) 0
+  pub passed-start : Passed (replicate 8192 false) (replicate 257 false) (record { number = 10; place = 0 }) 0
   passed-start =
       record {
         pids = marks-start 8192 (pidAt all);
         indices = marks-start 257 (λ j. slotOf (recordAt all j));
-        lowest = lowest-start (applies most all) 11 0;
+        lowest = lowest-start (applies all) 10 0;
         unset = λ h. refl;
       }
 
@@ -41,22 +41,22 @@ module _ (most : ℕ) (all : List Stream) where
   module _ (marks held : List Bool) (fault : Fault) (count : ℕ) (known : Passed marks held fault count) (s : Stream) (here : streamAt all count ≡ s)
       (pid-small : s .pid < 8192) (index-small : indexOf (s .seen .«record») < 256) where
     abbrev number : ℕ
-    number = faultAt most marks held s
+    number = faultAt marks held s
 
-    pub first-here : First (λ n. applies most all n count) 11 number
+    pub first-here : First (λ n. applies all n count) 10 number
     first-here =
-        subst (λ (ts : List Bool). First (λ n. getD ts n false) 11 number)
-        (sym (marked-tests most all count marks held (known .pids) (known .indices) s here pid-small index-small))
-        (first-true (conditions most _ _ s))
+        subst (λ (ts : List Bool). First (λ n. getD ts n false) 10 number)
+        (sym (marked-tests all count marks held (known .pids) (known .indices) s here pid-small index-small))
+        (first-true (conditions _ _ s))
 
     lower : Dec (number < fault .number)
-        → Lowest (applies most all) 11 (count + 1) ((lowerOf fault number count) .number) ((lowerOf fault number count) .place)
+        → Lowest (applies all) 10 (count + 1) ((lowerOf fault number count) .number) ((lowerOf fault number count) .place)
     lower (yes h) =
         rw (lt-ltb number (fault .number) h)
-        (lowest-replace (applies most all) 11 count (fault .number) (fault .place) number (known .lowest) first-here h)
+        (lowest-replace (applies all) 10 count (fault .number) (fault .place) number (known .lowest) first-here h)
     lower (no h) =
         rw (le-ltb number (fault .number) (omega arith))
-        (lowest-keep (applies most all) 11 count (fault .number) (fault .place) number (known .lowest) first-here (omega arith))
+        (lowest-keep (applies all) 10 count (fault .number) (fault .place) number (known .lowest) first-here (omega arith))
 
     -- with the values that the code holds
     pub passed-next : (after : Fault) (marks₂ held₂ : List Bool) → after ≡ lowerOf fault number count → marks₂ ≡ set marks (s .pid) true
@@ -71,7 +71,7 @@ module _ (most : ℕ) (all : List Stream) where
           unset = still-unset (decLt number (fault .number));
         })
       where
-        still-unset : Dec (number < fault .number) → 11 ≤ (lowerOf fault number count) .number → (lowerOf fault number count) .place ≡ 0
+        still-unset : Dec (number < fault .number) → 10 ≤ (lowerOf fault number count) .number → (lowerOf fault number count) .place ≡ 0
         still-unset (yes h) = rw (lt-ltb number (fault .number) h) (λ l. absurd (omega (arith, known .lowest .within)))
         still-unset (no h) = rw (le-ltb number (fault .number) (omega arith)) (known .unset)
 

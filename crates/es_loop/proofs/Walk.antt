@@ -37,16 +37,16 @@ pub pid-below : (reading : Reading) (head info : List ℕ) → (streamOf reading
 pid-below reading head info = omega arith
 
 -- The first entry that does not fit, where all before it have only higher numbers.
-pub does-not-fit : (most : ℕ) (streams : List Stream) (number place count : ℕ) → count < length streams → (streamAt streams count) .fits ≡ false
-    → 3 ≤ number → Lowest (applies most streams) 11 count number place → Refuses (DoesNotFit count) ≡ judged most streams
-does-not-fit most streams number place count inside unfit above b = judged-refused most streams 2 count two (omega arith)
+pub does-not-fit : (streams : List Stream) (number place count : ℕ) → count < length streams → (streamAt streams count) .fits ≡ false
+    → 3 ≤ number → Lowest (applies streams) 10 count number place → Refuses (DoesNotFit count) ≡ judged streams
+does-not-fit streams number place count inside unfit above b = judged-refused streams 2 count two (omega arith)
   where
-    none : (n k : ℕ) → n < 2 → applies most streams n k ≡ false
+    none : (n k : ℕ) → n < 2 → applies streams n k ≡ false
     none zero k h = refl
     none (suc zero) k h = refl
     none (suc (suc n)) k h = absurd (omega arith)
 
-    two : Lowest (applies most streams) 11 (length streams) 2 count
+    two : Lowest (applies streams) 10 (length streams) 2 count
     two =
         record {
           within = omega arith;
@@ -98,19 +98,19 @@ module _ (reading : Reading) (bytes : List ℕ) where
       let left : length all - count ≡ 0 = sym (length-drop count all) ∙ ap length nothing-left in
       omega (arith, cursor .counted)
 
-  module _ (most : ℕ) (fault : Fault) (count at : ℕ) (cursor : Cursor count at) (known : Lowest (applies most all) 11 count (fault .number) (fault .place))
+  module _ (fault : Fault) (count at : ℕ) (cursor : Cursor count at) (known : Lowest (applies all) 10 count (fault .number) (fault .place))
       (done : length bytes ≤ at) where
-    over-all : Lowest (applies most all) 11 (length all) (fault .number) (fault .place)
-    over-all = subst (λ (n : ℕ). Lowest (applies most all) 11 n (fault .number) (fault .place)) (counted-all count at cursor done) known
+    over-all : Lowest (applies all) 10 (length all) (fault .number) (fault .place)
+    over-all = subst (λ (n : ℕ). Lowest (applies all) 10 n (fault .number) (fault .place)) (counted-all count at cursor done) known
 
-    pub end-refused : fault .number < 11 → Refuses (refusalOf (fault .number) (fault .place)) ≡ judged most all
-    end-refused h = judged-refused most all (fault .number) (fault .place) over-all h
+    pub end-refused : fault .number < 10 → Refuses (refusalOf (fault .number) (fault .place)) ≡ judged all
+    end-refused h = judged-refused all (fault .number) (fault .place) over-all h
 
-    pub end-accepted : 11 ≤ fault .number → Entries count ≡ judged most all
+    pub end-accepted : 10 ≤ fault .number → Entries count ≡ judged all
     end-accepted h =
-        let eleven : fault .number ≡ 11 = omega (arith, known .within) in
+        let ten : fault .number ≡ 10 = omega (arith, known .within) in
         ap (λ (n : ℕ). Entries n) (counted-all count at cursor done)
-        ∙ judged-accepted most all (fault .place) (subst (λ (m : ℕ). Lowest (applies most all) 11 (length all) m (fault .place)) eleven over-all)
+        ∙ judged-accepted all (fault .place) (subst (λ (m : ℕ). Lowest (applies all) 10 (length all) m (fault .place)) ten over-all)
 
   -- What stands at the front of the bytes that are left.
   module _ (left : List ℕ) (count at : ℕ) (is-left : left ≡ drop at bytes) (rest : drop count all ≡ streamsOf reading (drop at bytes))
@@ -192,7 +192,7 @@ module _ (reading : Reading) (bytes : List ℕ) where
       next-here = cursor-next count at cursor s size front-here size-5 (omega (arith, left-long at))
 
   -- In a loop that was accepted every entry fits: a second walk meets no other.
-  module _ (most total : ℕ) (accepted : Sound most reading bytes total) (count at : ℕ) (cursor : Cursor count at) (more : at < length bytes)
+  module _ (total : ℕ) (accepted : Sound reading bytes total) (count at : ℕ) (cursor : Cursor count at) (more : at < length bytes)
       (size : ℕ) (is-size : size ≡ sizeOf (leftAt at)) where
     pub size-fits : size ≤ length (leftAt at)
     size-fits = go (decLe size (length (leftAt at)))

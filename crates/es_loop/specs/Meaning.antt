@@ -21,8 +21,7 @@ use Rattle.descriptors.specs.Extension.{noLayer}
 use Rattle.descriptors.specs.Looking.{Kind, does-not-fit, wrong-length, Held, heldIn}
 use Rattle.descriptors.specs.Meaning.{Descriptors}
 use Rattle.descriptors.specs.Records.{indexOf}
-use Rattle.judging.specs.Judging.{mostEmbedded}
-use Rattle.judging.specs.Meaning.{TypeNotAllowed, WrongFlags, WrongEmbedded, TooManyEmbedded}
+use Rattle.judging.specs.Meaning.{TypeNotAllowed, WrongFlags, WrongEmbedded}
 use Rattle.es_loop.specs.declared.reader.LoopRead.{LoopRead}
 use Rattle.es_loop.specs.Entries.{streamType, elementaryPid, esInfoLength, streamOf}
 use Rattle.es_loop.specs.Reading.{refusedWith, accepted}
@@ -44,48 +43,43 @@ module _ (reading : Reading) (entries : List Item) where
     pub others : List Held
     pub first : gather heldIn kinds ≡ record { held = r; layers = layers } ∷ others
 
-  -- The table 'Refusal numbers', 2 to 10: the condition of each number, and the entry that is its place. `most` is the greatest number of embedded
-  -- layers, 8 in that table.
-  pub data Condition (most : ℕ) : ℕ → ℕ → Type 0 where
+  -- The table 'Refusal numbers', 2 to 9: the condition of each number, and the entry that is its place. 10 is withdrawn: an extension lists as many
+  -- layers as its six bits allow.
+  pub data Condition : ℕ → ℕ → Type 0 where
     -- 2: an entry or a descriptor doesn't fit in the bytes that hold it
-    entry-unfit : {k : ℕ} → Nth entries k broken → Condition most 2 k
+    entry-unfit : {k : ℕ} → Nth entries k broken → Condition 2 k
     descriptor-unfit : {k t : ℕ} {info : List ℕ} {kinds : List Kind} → KnownAt k t info → Descriptors reading info kinds → {i : ℕ} → Nth kinds i does-not-fit
-        → Condition most 2 k
+        → Condition 2 k
     -- 3: a PID seen in an earlier entry
     pid-seen : {j k : ℕ} {head info head′ info′ : List ℕ} → j < k → Nth entries j (whole head info) → Nth entries k (whole head′ info′)
-        → elementaryPid head ≡ elementaryPid head′ → Condition most 3 k
+        → elementaryPid head ≡ elementaryPid head′ → Condition 3 k
     -- 4: on a known stream, tag 4 with length not 4, or the extension with another length than its count demands or too short to hold its count
     length-wrong : {k t : ℕ} {info : List ℕ} {kinds : List Kind} → KnownAt k t info → Descriptors reading info kinds → {i : ℕ} → Nth kinds i wrong-length
-        → Condition most 4 k
+        → Condition 4 k
     -- 5: two hierarchy records on one known stream
     two-records : {k t : ℕ} {info : List ℕ} {kinds : List Kind} → KnownAt k t info → Descriptors reading info kinds → 2 ≤ length (gather heldIn kinds)
-        → Condition most 5 k
+        → Condition 5 k
     -- 6: type not allowed on this stream, or an extension on 0x1B, 0x1F, 0x20
-    type-wrong : {k t : ℕ} {r : Record} {layers : List LayerIndex} → LayerAt k t r layers → TypeNotAllowed t r → Condition most 6 k
+    type-wrong : {k t : ℕ} {r : Record} {layers : List LayerIndex} → LayerAt k t r layers → TypeNotAllowed t r → Condition 6 k
     -- 7: type 9 with a flag at 0, or more than one flag at 0 and type not 8
-    flags-wrong : {k t : ℕ} {r : Record} {layers : List LayerIndex} → LayerAt k t r layers → WrongFlags r → Condition most 7 k
+    flags-wrong : {k t : ℕ} {r : Record} {layers : List LayerIndex} → LayerAt k t r layers → WrongFlags r → Condition 7 k
     -- 8: a layer index held by an earlier layer
     index-held : {j k t t′ : ℕ} {r r′ : Record} {layers layers′ : List LayerIndex} → j < k → LayerAt j t r layers → LayerAt k t′ r′ layers′
-        → indexOf r ≡ indexOf r′ → Condition most 8 k
+        → indexOf r ≡ indexOf r′ → Condition 8 k
     -- 9: an embedded index not below the layer's own, or listed twice
     embedded-wrong : {k t : ℕ} {r : Record} {layers : List LayerIndex} → LayerAt k t r layers → WrongEmbedded r (padTo 63 noLayer layers)
-        → Condition most 9 k
-    -- 10: more embedded layers than the most that there may be
-    embedded-many : {k t : ℕ} {r : Record} {layers : List LayerIndex} → LayerAt k t r layers → TooManyEmbedded most r → Condition most 10 k
+        → Condition 9 k
 
 -- The answer of reading a loop. A refusal is the one that has the number and the place.
-pub data AnswersUpTo (most : ℕ) (reading : Reading) (bytes : List ℕ) : LoopRead → Type 0 where
+pub data Answers (reading : Reading) (bytes : List ℕ) : LoopRead → Type 0 where
   -- 1: the loop is longer than 1,008 bytes
-  too-long : 1008 < length bytes → AnswersUpTo most reading bytes (refusedWith LoopTooLong)
+  too-long : 1008 < length bytes → Answers reading bytes (refusedWith LoopTooLong)
   -- the lowest number that applies, at its earliest place
   refuses : {entries : List Item} {refusal : Refusal} → length bytes ≤ 1008 → Cuts 5 esInfoLength bytes entries
-      → Condition reading entries most (numberOf refusal) (placeOf refusal)
-      → ((m j : ℕ) → m < numberOf refusal → Condition reading entries most m j → ⊥)
-      → ((j : ℕ) → j < placeOf refusal → Condition reading entries most (numberOf refusal) j → ⊥)
-      → AnswersUpTo most reading bytes (refusedWith refusal)
+      → Condition reading entries (numberOf refusal) (placeOf refusal)
+      → ((m j : ℕ) → m < numberOf refusal → Condition reading entries m j → ⊥)
+      → ((j : ℕ) → j < placeOf refusal → Condition reading entries (numberOf refusal) j → ⊥)
+      → Answers reading bytes (refusedWith refusal)
   -- every entry, in loop order, where no number applies
   accepts : {entries : List Item} → length bytes ≤ 1008 → Cuts 5 esInfoLength bytes entries
-      → ((n k : ℕ) → Condition reading entries most n k → ⊥) → AnswersUpTo most reading bytes (accepted (map (streamOf reading) entries))
-
-abbrev pub Answers : Reading → List ℕ → LoopRead → Type 0
-Answers reading bytes answer = AnswersUpTo mostEmbedded reading bytes answer
+      → ((n k : ℕ) → Condition reading entries n k → ⊥) → Answers reading bytes (accepted (map (streamOf reading) entries))

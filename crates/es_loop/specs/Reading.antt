@@ -9,7 +9,6 @@ use Rattle.combinators.specs.Lowest.{lowestNumber, earliestPlace}
 use Rattle.vocabulary.specs.declared.stream_types.Reading.{Reading}
 use Rattle.vocabulary.specs.declared.refusal.Refusal.{Refusal}
 use Rattle.vocabulary.specs.declared.refusal.Refusal.the-variants.{LoopTooLong}
-use Rattle.judging.specs.Judging.{mostEmbedded}
 use Rattle.es_loop.specs.declared.entries.Stream.{Stream}
 use Rattle.es_loop.specs.declared.verdict.Verdict.{Verdict}
 use Rattle.es_loop.specs.declared.verdict.Verdict.the-variants.{Entries, Refused as Refuses}
@@ -21,18 +20,17 @@ use Rattle.es_loop.specs.Conditions.{applies, refusalOf}
 
 -- THE VERDICT for the lowest number and its place, or past all numbers: then so many entries are accepted
 abbrev pub verdictAt : ℕ → ℕ → ℕ → Verdict
-verdictAt count number place = cond (ltb number 11) (Refuses (refusalOf number place)) (Entries count)
+verdictAt count number place = cond (ltb number 10) (Refuses (refusalOf number place)) (Entries count)
 
-module _ (most : ℕ) where
-  -- 'Several at once: the lowest number that applies, at the earliest place.'
-  abbrev pub judged : List Stream → Verdict
-  judged streams =
-      let number : ℕ = lowestNumber (applies most streams) 11 (length streams) in
-      verdictAt (length streams) number (earliestPlace (applies most streams) number (length streams))
+-- 'Several at once: the lowest number that applies, at the earliest place.'
+abbrev pub judged : List Stream → Verdict
+judged streams =
+    let number : ℕ = lowestNumber (applies streams) 10 (length streams) in
+    verdictAt (length streams) number (earliestPlace (applies streams) number (length streams))
 
-  -- 'loop longer than 1,008 bytes' ends the reading.
-  abbrev pub verdictUpTo : Reading → List ℕ → Verdict
-  verdictUpTo reading bytes = cond (ltb 1008 (length bytes)) (Refuses LoopTooLong) (judged (streamsOf reading bytes))
+-- 'loop longer than 1,008 bytes' ends the reading.
+abbrev pub verdictOf : Reading → List ℕ → Verdict
+verdictOf reading bytes = cond (ltb 1008 (length bytes)) (Refuses LoopTooLong) (judged (streamsOf reading bytes))
 
 -- THE ANSWER. 'A refusal returns number and place and no other content.'
 abbrev pub refusedWith : Refusal → LoopRead
@@ -46,12 +44,5 @@ abbrev pub answerBy : List Stream → Verdict → LoopRead
 answerBy streams (Refuses r) = refusedWith r
 answerBy streams (Entries count) = accepted streams
 
-abbrev pub readUpTo : ℕ → Reading → List ℕ → LoopRead
-readUpTo most reading bytes = answerBy (streamsOf reading bytes) (verdictUpTo most reading bytes)
-
--- with as many embedded layers as there may be
-abbrev pub verdictOf : Reading → List ℕ → Verdict
-verdictOf reading bytes = verdictUpTo mostEmbedded reading bytes
-
 abbrev pub loopRead : Reading → List ℕ → LoopRead
-loopRead reading bytes = readUpTo mostEmbedded reading bytes
+loopRead reading bytes = answerBy (streamsOf reading bytes) (verdictOf reading bytes)

@@ -3,7 +3,6 @@ ghost use mathlib.Core.Path.{_≡_};
 ghost use Prim.Native.Nat.{_+_, _<_};
 ghost use Rattle.combinators.specs.Lists.{firstTrue};
 ghost use Rattle.descriptors.specs.Records.{indexOf};
-ghost use Rattle.judging.specs.Judging.{mostEmbedded};
 ghost use Rattle.es_loop.specs.Conditions.{conditions, recordConditions, lowerOf, refusalOf, slotOf};
 use super::entries::Stream;
 use super::entries::wide;
@@ -12,7 +11,7 @@ use descriptors::Seen;
 use vocabulary::Refusal;
 
 // Past all numbers that are judged at an entry.
-pub const NO_FAULT: u8 = 11;
+pub const NO_FAULT: u8 = 10;
 
 // A number that applies, and the entry at which it does.
 pub struct Fault {
@@ -20,10 +19,10 @@ pub struct Fault {
     pub place: usize,
 }
 
-// The lowest number, from 2 to 10, that applies at an entry, or 11 where none does. The caller says whether an earlier entry has its
+// The lowest number, from 2 to 9, that applies at an entry, or 10 where none does. The caller says whether an earlier entry has its
 // PID, and whether an earlier layer holds its index.
 pub fn lowest_fault(pid_seen: bool, index_held: bool, stream: Stream) -> u8
-    ensures { λ r. ⌜ r ≡ firstTrue (conditions mostEmbedded «pid_seen» «index_held» stream) ⌝ }
+    ensures { λ r. ⌜ r ≡ firstTrue (conditions «pid_seen» «index_held» stream) ⌝ }
 {
     let seen = stream.seen;
     if !stream.fits {
@@ -41,9 +40,9 @@ pub fn lowest_fault(pid_seen: bool, index_held: bool, stream: Stream) -> u8
     judged_fault(index_held, stream.stream_type, seen)
 }
 
-// The same of what is judged on the record alone, and of its index: 6 to 10.
+// The same of what is judged on the record alone, and of its index: 6 to 9.
 fn judged_fault(index_held: bool, stream_type: u8, seen: Seen) -> u8
-    ensures { λ r. ⌜ r ≡ 6 + firstTrue (recordConditions mostEmbedded «index_held» «stream_type» seen) ⌝ }
+    ensures { λ r. ⌜ r ≡ 6 + firstTrue (recordConditions «index_held» «stream_type» seen) ⌝ }
 {
     let record = seen.record;
     let embedded = seen.embedded;
@@ -58,9 +57,6 @@ fn judged_fault(index_held: bool, stream_type: u8, seen: Seen) -> u8
     }
     if judging::wrong_embedded(record, embedded) {
         return 9;
-    }
-    if judging::too_many_embedded(record) {
-        return 10;
     }
     NO_FAULT
 }
@@ -99,7 +95,6 @@ pub fn refusal_of(number: u8, place: usize) -> Refusal
         7 => Refusal::WrongFlags(place),
         8 => Refusal::RepeatedLayerIndex(place),
         9 => Refusal::WrongEmbeddedIndex(place),
-        10 => Refusal::TooManyEmbedded(place),
         _ => Refusal::LoopTooLong,
     }
 }

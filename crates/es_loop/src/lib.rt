@@ -1,5 +1,5 @@
 // The elementary-stream loop of a program map section, read in either edition: every entry with its record, or the refusal (1 to
-// 10) with its place.
+// 9) with its place.
 mod entries;
 mod faults;
 mod reader;

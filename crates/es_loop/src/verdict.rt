@@ -5,7 +5,6 @@ ghost use mathlib.Core.Bool.{true, false};
 ghost use Prim.Native.Nat.{_≤_, _<_};
 ghost use lib.ListN.{length, replicate, set};
 ghost use Rattle.descriptors.specs.Records.{indexOf};
-ghost use Rattle.judging.specs.Judging.{mostEmbedded};
 ghost use Rattle.es_loop.specs.Entries.{streamsOf};
 ghost use Rattle.es_loop.specs.Conditions.{slotOf, faultAt, lowerOf};
 ghost use Rattle.es_loop.specs.Reading.{judged, verdictOf};
@@ -44,7 +43,7 @@ pub fn no_indices() -> [bool; 257]
 
 // Before any stream: a number past all that are judged.
 pub fn no_fault() -> Fault
-    ensures { λ r. ⌜ r ≡ record { number = 11; place = 0 } ⌝ }
+    ensures { λ r. ⌜ r ≡ record { number = 10; place = 0 } ⌝ }
 {
     Fault {
         number: NO_FAULT,
@@ -61,7 +60,7 @@ pub fn judge_next(
     place: usize,
 ) -> Fault
     requires { ⌜ stream .pid < 8192 ⌝ }
-    ensures { λ r. ⌜ (r ≡ lowerOf «so_far» (faultAt mostEmbedded (now (pids .entry)) (now (indices .entry)) stream) place) × (indexOf (stream .seen .«record») < 256) ⌝ }
+    ensures { λ r. ⌜ (r ≡ lowerOf «so_far» (faultAt (now (pids .entry)) (now (indices .entry)) stream) place) × (indexOf (stream .seen .«record») < 256) ⌝ }
     ensures { λ r. ⌜ (now (pids .exit) ≡ set (now (pids .entry)) (stream .pid) true) × (now (indices .exit) ≡ set (now (indices .entry)) (slotOf (stream .seen .«record»)) true) ⌝ }
 {
     let seen = stream.seen;
@@ -78,7 +77,7 @@ pub fn judge_next(
 // A loop of at most 1,008 bytes.
 fn judge_entries(reading: Reading, bytes: &[u8]) -> Verdict
     requires { ⌜ length (now bytes) ≤ 1008 ⌝ }
-    ensures { λ r. ⌜ r ≡ judged mostEmbedded (streamsOf reading (now (bytes .entry))) ⌝ }
+    ensures { λ r. ⌜ r ≡ judged (streamsOf reading (now (bytes .entry))) ⌝ }
 {
     let mut pids = no_pids();
     let mut indices = no_indices();

@@ -6,7 +6,6 @@ use mathlib.Core.Path.{_≡_, refl, sym, _∙_, ap, subst}
 use lib.IntN.{ℤ}
 use lib.ListN.{length}
 use Rattle.vocabulary.specs.declared.stream_types.Reading.{Reading}
-use Rattle.judging.specs.Judging.{mostEmbedded}
 use Rattle.es_loop.specs.declared.entries.Stream.{Stream}
 use Rattle.es_loop.specs.declared.entries.Entry.{Entry}
 use Rattle.es_loop.specs.declared.reader.LoopRead.{LoopRead}
@@ -58,7 +57,7 @@ module _ (reading : Reading) (bytes : List ℕ) (target : ℕ) (t : Table) (numb
   read-right (accepts {entries} short c none) = accepted-right (map (streamOf reading) entries) (accepts short c none)
 
   computed-right : Right (loopRead reading bytes)
-  computed-right = read-right (answer-meant mostEmbedded reading bytes)
+  computed-right = read-right (answer-meant reading bytes)
 
   -- WHAT IS PROMISED IS RIGHT,
   pub import-meant : {answer : Joined} {numbers₂ : List ℕ} {lags₂ : List ℤ} → Computed answer numbers₂ lags₂
@@ -74,14 +73,14 @@ module _ (reading : Reading) (bytes : List ℕ) (target : ℕ) (t : Table) (numb
       → Computed answer numbers₂ lags₂
   import-only (loop-refused a) =
       record {
-        is-answer = ap (λ (r : LoopRead). importIn r target t (length numbers) (length lags)) (answer-only mostEmbedded reading bytes a);
+        is-answer = ap (λ (r : LoopRead). importIn r target t (length numbers) (length lags)) (answer-only reading bytes a);
         is-numbers = refl;
         is-lags = refl;
       }
   import-only {answer} (loop-accepted streams {layers} a m j) =
       let only = joined-only layers target t numbers lags j in
       let same = same-layers streams m in
-      let read = answer-only mostEmbedded reading bytes a in
+      let read = answer-only reading bytes a in
       record {
         is-answer = only .is-answer
             ∙ ap (λ (l : Layers). joinedOf l target t (length numbers) (length lags)) same

@@ -1,5 +1,5 @@
 -- THE WHOLE IMPORT: from the bytes of a loop, a target and a row table to the closure with the answer of joining, or the refusal with its
--- place; and what the two lists then hold. Refusals 1 to 10 are those of reading the loop, 11 and 12 those of the target in the layers of
+-- place; and what the two lists then hold. Refusals 1 to 9 are those of reading the loop, 11 and 12 those of the target in the layers of
 -- the loop that was read, 13 to 17 those of joining.
 -- Assumes nothing.
 use Prim.Native.Nat.{ℕ}
@@ -22,7 +22,7 @@ use Rattle.joining.specs.Joining.{joinedOf, numbersAfter, lagsAfter}
 abbrev pub layersRead : LoopRead → Layers
 layersRead read = layersOf (entriesRead read)
 
--- 'Loop reading uses 1 to 10, the target 11 and 12, joining 13 to 17 after these': a refused loop gives its refusal, and an accepted one
+-- Loop reading uses 1 to 9, 'the target 11 and 12, joining 13 to 17 after these': a refused loop gives its refusal, and an accepted one
 -- the answer of joining in its layers, which asks for the target first
 abbrev pub importFor : Outcome → Layers → ℕ → Table → ℕ → ℕ → Joined
 importFor Accepted layers target t numberRoom lagRoom = joinedOf layers target t numberRoom lagRoom

@@ -1,5 +1,5 @@
--- WHAT IS RIGHT, in the words of document 01: the answer of the whole import, and what the two lists hold after it. 'Loop reading uses 1 to 10,
--- the target 11 and 12, joining 13 to 17 after these.'
+-- WHAT IS RIGHT, in the words of document 01: the answer of the whole import, and what the two lists hold after it. Loop reading uses 1 to 9,
+-- 'the target 11 and 12, joining 13 to 17 after these'.
 -- proofs/Meant.antt has the laws that join this to what is computed: the computed answer has this meaning, and no other answer has it.
 -- Assumes nothing.
 use Prim.Native.Nat.{ℕ}
@@ -22,7 +22,7 @@ use Rattle.joining.specs.Meaning as Joining
 -- the answer of joining, or the refusal with its place'.
 pub data Answers (reading : Reading) (bytes : List ℕ) (target : ℕ) (t : Table) (numbers : List ℕ) (lags : List ℤ)
     : Joined → List ℕ → List ℤ → Type 0 where
-  -- 1 to 10: a loop that is refused gives its refusal, and 'every output buffer is untouched'
+  -- 1 to 9: a loop that is refused gives its refusal, and 'every output buffer is untouched'
   loop-refused : {refusal : Refusal} → Loop.Answers reading bytes (refusedWith refusal)
       → Answers reading bytes target t numbers lags (Refused refusal) numbers lags
   -- 11 to 17, or the closure with its units: the answer of joining in the layers of the loop's entries

@@ -11,7 +11,7 @@ use vocabulary::Reading;
 
 // THE CALL. A reading, the bytes of a loop, the index of a target layer, the three columns of the row table, and the two lists for the
 // answer, of any lengths: the row numbers of the units and the lag beside each. The answer is the closure with the answer of joining, or the
-// refusal, 1 to 17, with its place. After a refusal both lists are as they were.
+// refusal, 1 to 9 or 11 to 17, with its place. After a refusal both lists are as they were.
 pub fn import(
     reading: Reading,
     bytes: &[u8],

@@ -23,7 +23,7 @@ use Rattle.combinators.specs.Below.{seek-first}
 use Rattle.combinators.specs.Bools.{either-left, either-right}
 use Rattle.combinators.specs.Those.{length-those}
 use Rattle.vocabulary.specs.declared.LayerIndex.{LayerIndex}
-use Rattle.vocabulary.specs.declared.refusal.Refusal.the-variants.{LoopTooLong, DoesNotFit, RepeatedPid, WrongLength, SecondRecord, TypeNotAllowed, WrongFlags, RepeatedLayerIndex, WrongEmbeddedIndex, TooManyEmbedded, NotVideoHeader, NoPts, FieldsDoNotFit, WrongMarker, PtsBeforeDts, TooWide, NoSuchLayer, EmbeddedLayerAbsent, OutOfRange, TimeOrderBroken, Unpaired, UsedTwice, NoRoom}
+use Rattle.vocabulary.specs.declared.refusal.Refusal.the-variants.{LoopTooLong, DoesNotFit, RepeatedPid, WrongLength, SecondRecord, TypeNotAllowed, WrongFlags, RepeatedLayerIndex, WrongEmbeddedIndex, NotVideoHeader, NoPts, FieldsDoNotFit, WrongMarker, PtsBeforeDts, TooWide, NoSuchLayer, EmbeddedLayerAbsent, OutOfRange, TimeOrderBroken, Unpaired, UsedTwice, NoRoom}
 use Rattle.joining.specs.declared.answer.Joined.{Joined}
 use Rattle.joining.specs.declared.answer.Joined.the-variants.{Units, Refused}
 use Rattle.rows.specs.Table.{Table, rowsIn, layerOf, decodingOf, matchOf, wrongShape, outOfRange, firstOutOfRange, breaksOrder, firstBroken, mostRows}
@@ -508,7 +508,6 @@ module _ (layers : Layers) (target : ℕ) (t : Table) (numbers : List ℕ) (lags
   Given (Refused (WrongFlags entry)) = ⊥
   Given (Refused (RepeatedLayerIndex entry)) = ⊥
   Given (Refused (WrongEmbeddedIndex entry)) = ⊥
-  Given (Refused (TooManyEmbedded entry)) = ⊥
   Given (Refused NotVideoHeader) = ⊥
   Given (Refused NoPts) = ⊥
   Given (Refused FieldsDoNotFit) = ⊥

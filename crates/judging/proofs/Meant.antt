@@ -21,8 +21,8 @@ use Rattle.descriptors.specs.declared.extension.ExtensionRecord.{ExtensionRecor
 use Rattle.descriptors.specs.declared.«record».Record.{Record}
 use Rattle.descriptors.specs.declared.«record».Record.the-variants.{NoRecord, Hierarchy, Extension}
 use Rattle.descriptors.specs.Records.{isLayer, indexOf, named}
-use Rattle.judging.specs.Judging.{extensionOn, typeNotAllowed, flagsAt0, wrongFlags, wrongAt, wrongEmbedded, tooManyEmbedded}
-use Rattle.judging.specs.Meaning.{TypeNotAllowed, hierarchy-type, extension-on-avc, extension-on-svc, extension-on-mvc, unknown-type, Flag, view, temporal, spatial, quality, flag, WrongFlags, type-9, more-than-one, WrongEmbedded, not-below, listed-twice, TooManyEmbedded, more-than-most}
+use Rattle.judging.specs.Judging.{extensionOn, typeNotAllowed, flagsAt0, wrongFlags, wrongAt, wrongEmbedded}
+use Rattle.judging.specs.Meaning.{TypeNotAllowed, hierarchy-type, extension-on-avc, extension-on-svc, extension-on-mvc, unknown-type, Flag, view, temporal, spatial, quality, flag, WrongFlags, type-9, more-than-one, WrongEmbedded, not-below, listed-twice}
 
 -- one of two tests holds
 which : {A : Type 0} (a b : Bool) → a || b ≡ true → (a ≡ true → A) → (b ≡ true → A) → A
@@ -211,15 +211,3 @@ module _ (r : Record) (layers : List LayerIndex) where
 
   pub refusal-9 : wrongEmbedded r layers ≡ true ↔ WrongEmbedded r layers
   refusal-9 = (embedded-means, embedded-test)
-
-module _ (most : ℕ) where
-  many-means : (r : Record) → tooManyEmbedded most r ≡ true → TooManyEmbedded most r
-  many-means NoRecord e = apart e
-  many-means (Hierarchy h) e = apart e
-  many-means (Extension x) e = more-than-most (ltb-true most (x .«num_embedded_layers») e)
-
-  many-test : {r : Record} → TooManyEmbedded most r → tooManyEmbedded most r ≡ true
-  many-test (more-than-most {x} h) = lt-ltb most (x .«num_embedded_layers») h
-
-  pub refusal-10 : (r : Record) → tooManyEmbedded most r ≡ true ↔ TooManyEmbedded most r
-  refusal-10 r = (many-means r, many-test)

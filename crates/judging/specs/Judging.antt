@@ -1,4 +1,4 @@
--- One record on one stream, judged by the refusals of document 01 that look at nothing else: 6, 7, 9 and 10.
+-- One record on one stream, judged by the refusals of document 01 that look at nothing else: 6, 7 and 9.
 -- Assumes nothing.
 use Prim.Native.Nat.{ℕ, _+_}
 use mathlib.Core.Bool.{Bool, true, false, not, _&&_, _||_}
@@ -56,12 +56,3 @@ wrongList own indices = some (wrongAt own indices) (length indices)
 
 abbrev pub wrongEmbedded : Record → List LayerIndex → Bool
 wrongEmbedded r layers = wrongList (indexOf r) (named r layers)
-
--- 10. 'more than 8 embedded layers': the greatest number is a parameter of what is said of a loop, and 8 here
-abbrev pub mostEmbedded : ℕ
-mostEmbedded = 8
-
-abbrev pub tooManyEmbedded : ℕ → Record → Bool
-tooManyEmbedded most NoRecord = false
-tooManyEmbedded most (Hierarchy h) = false
-tooManyEmbedded most (Extension x) = ltb most (x .«num_embedded_layers»)

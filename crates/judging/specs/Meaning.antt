@@ -1,4 +1,4 @@
--- What refusals 6, 7, 9 and 10 mean: document 01's row of each as a relation, with one case for each 'or' of the row. proofs/Meant.antt has the
+-- What refusals 6, 7 and 9 mean: document 01's row of each as a relation, with one case for each 'or' of the row. proofs/Meant.antt has the
 -- laws: the computed test is true exactly when the relation holds.
 -- Assumes nothing.
 use Prim.Native.Nat.{ℕ, _≤_, _<_}
@@ -45,7 +45,3 @@ pub data WrongFlags : Record → Type 0 where
 pub data WrongEmbedded (r : Record) (layers : List LayerIndex) : Type 0 where
   not-below : (i : ℕ) → i < length (named r layers) → indexOf r ≤ getD (named r layers) i 0 → WrongEmbedded r layers
   listed-twice : (i j : ℕ) → i < j → j < length (named r layers) → getD (named r layers) i 0 ≡ getD (named r layers) j 0 → WrongEmbedded r layers
-
--- 10. 'more than 8 embedded layers', where 8 is the most that there may be
-pub data TooManyEmbedded (most : ℕ) : Record → Type 0 where
-  more-than-most : {x : ExtensionRecord} → most < x .«num_embedded_layers» → TooManyEmbedded most (Extension x)

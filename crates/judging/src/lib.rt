@@ -1,4 +1,4 @@
-// One record on one stream, judged by the refusals of document 01 that look at nothing else: 6, 7, 9 and 10. The reader and the
+// One record on one stream, judged by the refusals of document 01 that look at nothing else: 6, 7 and 9. The reader and the
 // writer of a loop judge by the same functions.
 //
 // Each answers for every value that the types can hold, also for one that no six bits can: a writer may be handed any.
@@ -9,7 +9,7 @@ ghost use Prim.Native.Nat.{_≤_, _<_};
 ghost use lib.ListN.{take, replicate};
 ghost use Rattle.combinators.specs.Members.{member};
 ghost use Rattle.descriptors.specs.Records.{plain};
-ghost use Rattle.judging.specs.Judging.{extensionOn, typeNotAllowed, at0, flagsAt0, flagsWrongFor, wrongFlags, wrongList, wrongEmbedded, mostEmbedded, tooManyEmbedded};
+ghost use Rattle.judging.specs.Judging.{extensionOn, typeNotAllowed, at0, flagsAt0, flagsWrongFor, wrongFlags, wrongList, wrongEmbedded};
 use descriptors::HierarchyRecord;
 use descriptors::Record;
 use vocabulary::LayerIndex;
@@ -131,19 +131,5 @@ pub fn wrong_embedded(record: Record, embedded: [LayerIndex; 63]) -> bool
                 embedded,
             )
         }
-    }
-}
-
-// The most embedded layers that an extension may list.
-const MOST_EMBEDDED: u8 = 8;
-
-// Refusal 10.
-pub fn too_many_embedded(record: Record) -> bool
-    ensures { λ r. ⌜ r ≡ tooManyEmbedded mostEmbedded «record» ⌝ }
-{
-    match record {
-        Record::NoRecord => false,
-        Record::Hierarchy(_) => false,
-        Record::Extension(extension) => MOST_EMBEDDED < extension.num_embedded_layers,
     }
 }

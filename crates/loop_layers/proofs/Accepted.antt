@@ -26,7 +26,7 @@ use Rattle.descriptors.specs.Extension.{extensionOf, embeddedOf}
 use Rattle.descriptors.specs.Looking.{Kind, does-not-fit, skipped, wrong-length, hierarchy, extension, tag4Kind, tag63Kind, kindOf, Held, heldIn, firstRecord, seenOf, nothingSeen}
 use Rattle.descriptors.specs.Head.{descriptorTag, descriptorLength}
 use Rattle.descriptors.specs.Records.{indexOf, named}
-use Rattle.judging.specs.Judging.{mostEmbedded, sameIndex, wrongAt, wrongEmbedded}
+use Rattle.judging.specs.Judging.{sameIndex, wrongAt, wrongEmbedded}
 use Rattle.es_loop.specs.declared.entries.Entry.{Entry}
 use Rattle.es_loop.specs.declared.entries.Stream.{Stream}
 use Rattle.es_loop.specs.declared.reader.Outcome.the-variants.{Accepted}
@@ -102,8 +102,8 @@ module _ (reading : Reading) (bytes : List ℕ) (is-accepted : (loopRead reading
   abbrev streams : List Stream
   streams = streamsOf reading bytes
 
-  fine : Taken mostEmbedded reading bytes
-  fine = taken mostEmbedded reading bytes is-accepted
+  fine : Taken reading bytes
+  fine = taken reading bytes is-accepted
 
   are-entries : entries ≡ map entryOf streams
   are-entries = ap entriesRead (fine .is-read) ∙ entries-read streams

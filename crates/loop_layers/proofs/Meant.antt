@@ -16,7 +16,6 @@ use Rattle.sets.proofs.Laws.{has-none, has-within, same-members}
 use Rattle.vocabulary.specs.declared.stream_types.Reading.{Reading}
 use Rattle.vocabulary.specs.declared.refusal.Refusal.{Refusal}
 use Rattle.descriptors.specs.Records.{named, channelOf}
-use Rattle.judging.specs.Judging.{mostEmbedded}
 use Rattle.judging.proofs.Sets.{indices-in, indices-within, names-in}
 use Rattle.es_loop.specs.declared.entries.Entry.{Entry}
 use Rattle.es_loop.specs.declared.entries.Stream.{Stream}
@@ -135,7 +134,7 @@ cases {reading} (accepts {entries} short c none) = is-accepted (map (streamOf re
 -- THE ANSWER TO A TARGET: what is computed is right,
 module _ (reading : Reading) (bytes : List ℕ) (target : ℕ) where
   pub loop-answer-meant : Answers reading bytes target (loopClosure reading bytes target)
-  loop-answer-meant = go (loopRead reading bytes) (answer-meant mostEmbedded reading bytes) (cases (answer-meant mostEmbedded reading bytes))
+  loop-answer-meant = go (loopRead reading bytes) (answer-meant reading bytes) (cases (answer-meant reading bytes))
     where
       go : (read : LoopRead) → Loop.Answers reading bytes read → Cases read → Answers reading bytes target (closureIn read target)
       go read a (is-refused refusal e) =
@@ -147,9 +146,9 @@ module _ (reading : Reading) (bytes : List ℕ) (target : ℕ) where
 
   -- and nothing else is.
   pub loop-answer-only : {answer : Closure} → Answers reading bytes target answer → answer ≡ loopClosure reading bytes target
-  loop-answer-only (loop-refused a) = ap (λ (r : LoopRead). closureIn r target) (answer-only mostEmbedded reading bytes a)
+  loop-answer-only (loop-refused a) = ap (λ (r : LoopRead). closureIn r target) (answer-only reading bytes a)
   loop-answer-only (loop-accepted streams {layers} a m t) =
       closure-only layers target t
       ∙ ap (λ (l : Layers). closureOf l target) (layers-only (map entryOf streams) m)
       ∙ ap (λ (l : List Entry). closureOf (layersOf l) target) (sym (entries-read streams))
-      ∙ ap (λ (r : LoopRead). closureIn r target) (answer-only mostEmbedded reading bytes a)
+      ∙ ap (λ (r : LoopRead). closureIn r target) (answer-only reading bytes a)

@@ -12,7 +12,6 @@ use lib.Seq.{length-take-le, set-out}
 use Rattle.combinators.specs.Lists.{part-to-end}
 use Rattle.framing.specs.Pieces.{whole}
 use Rattle.vocabulary.specs.declared.stream_types.Reading.{Reading}
-use Rattle.judging.specs.Judging.{mostEmbedded}
 use Rattle.sets.specs.Sets.{added}
 use Rattle.descriptors.specs.Records.{withIndices, channelOf}
 use Rattle.es_loop.specs.declared.entries.Entry.{Entry}
@@ -87,7 +86,7 @@ module _ (reading : Reading) (bytes : List ℕ) where
 
   -- a loop that was accepted has all its entries
   pub counted-verdict : {total : ℕ} → verdictOf reading bytes ≡ Entries total → verdictOf reading bytes ≡ Entries (length (streamsOf reading bytes))
-  counted-verdict {total} e = e ∙ ap (λ (n : ℕ). Entries n) (sound mostEmbedded reading bytes total e .counted)
+  counted-verdict {total} e = e ∙ ap (λ (n : ℕ). Entries n) (sound reading bytes total e .counted)
 
   -- the entries that are left
   abbrev pub leftFrom : ℕ → List Entry
@@ -115,9 +114,9 @@ module _ (reading : Reading) (bytes : List ℕ) where
   turn {total} accepted at standing more size is-size =
       let count : ℕ = standing .count in
       let cursor = standing .cursor in
-      let is-sound : Sound mostEmbedded reading bytes total = sound mostEmbedded reading bytes total accepted in
+      let is-sound : Sound reading bytes total = sound reading bytes total accepted in
       let long : length (leftAt reading bytes at) ≡ length bytes - at = left-long reading bytes at in
-      let room : size ≤ length (leftAt reading bytes at) = size-fits reading bytes mostEmbedded total is-sound count at cursor more size is-size in
+      let room : size ≤ length (leftAt reading bytes at) = size-fits reading bytes total is-sound count at cursor more size is-size in
       record {
         short = is-sound .short;
         large = size-5 reading bytes count at cursor more size is-size;

@@ -1,4 +1,4 @@
--- What is answered straight from the bytes of a loop: its layers, their table, and the closure of a target; or the refusal. Refusals 1 to 10 are
+-- What is answered straight from the bytes of a loop: its layers, their table, and the closure of a target; or the refusal. Refusals 1 to 9 are
 -- those of reading the loop, 11 and 12 those of the target in the layers of the loop that was read.
 -- Assumes nothing.
 use Prim.Native.Nat.{ℕ}

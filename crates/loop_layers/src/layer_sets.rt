@@ -67,7 +67,7 @@ fn layers_in(reading: Reading, bytes: &[u8]) -> Layers
     Layers { present, embedded }
 }
 
-// The layers of the loop that these bytes are, or the refusal, 1 to 10.
+// The layers of the loop that these bytes are, or the refusal, 1 to 9.
 pub fn read_layers(reading: Reading, bytes: &[u8]) -> LayersRead
     ensures { λ r. ⌜ r ≡ loopLayers reading (now (bytes .entry)) ⌝ }
 {

@@ -16,7 +16,7 @@ pub use table::layers_of;
 pub use table::read_table;
 pub use table::table_of;
 
-// What a target rests on in the loop that these bytes are: its closure, or the refusal, 1 to 12.
+// What a target rests on in the loop that these bytes are: its closure, or the refusal, 1 to 9, 11, 12.
 pub fn closure_of_loop(reading: Reading, bytes: &[u8], target: u64) -> Closure
     ensures { λ r. ⌜ r ≡ loopClosure reading (now (bytes .entry)) target ⌝ }
 {

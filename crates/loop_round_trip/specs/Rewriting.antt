@@ -42,7 +42,6 @@ use Rattle.es_loop.specs.declared.reader.LoopRead.{LoopRead}
 use Rattle.es_loop.specs.Conditions.{streamAt, applies, refusalOf}
 use Rattle.es_loop.specs.Reading.{refusedWith, accepted, loopRead}
 use Rattle.es_loop.proofs.Judged.{Taken, taken}
-use Rattle.judging.specs.Judging.{mostEmbedded}
 use Rattle.descriptors.proofs.Meant.{by-tag}
 use Rattle.es_loop.specs.Entries.{entryHead, streamType, elementaryPid, esInfoLength, seenIn, streamOf, streamsOf, noStream, entryOf, blankEntry}
 use Rattle.es_loop.proofs.Meant.{by-head}
@@ -349,8 +348,8 @@ module _ (loop : List ℕ) (b : AreBytes loop) (own : OwnShape loop) (ok : (loop
   abbrev streams : List Stream
   streams = streamsOf Edition2015 loop
 
-  known-taken : Taken mostEmbedded Edition2015 loop
-  known-taken = taken mostEmbedded Edition2015 loop ok
+  known-taken : Taken Edition2015 loop
+  known-taken = taken Edition2015 loop ok
 
   fine : (k : ℕ) (i : Item) → Nth items k i → Fine i
   fine k i n =

@@ -1,6 +1,6 @@
 -- THE ROUND TRIPS OF THE WRITER, under the 2015 reading.
 -- * `read-back`: what the writer accepts is read again, and the entries come back as they were given (`read-back-exactly`, `buffer-holds`).
--- * `same-refusal`: what the writer refuses with 1, 3 or 6 to 10, reading the same entries' bytes refuses with the same number and place. The
+-- * `same-refusal`: what the writer refuses with 1, 3 or 6 to 9, reading the same entries' bytes refuses with the same number and place. The
 --   exception is a record on a stream type that the 2015 reading does not know: the writer refuses it with 6, and reading does not look at it.
 --   (25 is of values that no bytes hold, and 17 of the buffer: reading has neither.)
 -- Assumes nothing.
@@ -29,7 +29,6 @@ use Rattle.es_loop.specs.Conditions.{applies, refusalOf}
 use Rattle.es_loop.specs.declared.reader.LoopRead.{LoopRead}
 use Rattle.es_loop.specs.declared.verdict.Verdict.the-variants.{Refused as VerdictRefused}
 use Rattle.es_loop.specs.Reading.{refusedWith, judged, answerBy, loopRead}
-use Rattle.judging.specs.Judging.{mostEmbedded}
 use Rattle.es_loop.proofs.Judged.{judged-refused, judged-accepted}
 use Rattle.loop_writer.specs.Layout.{loopBytes, tooWide}
 use Rattle.loop_writer.specs.Verdict.{streamFor, appliesTo}
@@ -44,7 +43,7 @@ pub record Writes (room count : ℕ) (array : List Entry) (n : ℕ) : Type 0 whe
   pub none-wide : any tooWide (take count array) ≡ false
   pub few : count ≤ 201
   pub short : length (loopBytes (take count array)) ≤ 1008
-  pub none-applies : 11 ≤ lowestNumber (appliesTo (take count array)) 11 (length (take count array))
+  pub none-applies : 10 ≤ lowestNumber (appliesTo (take count array)) 10 (length (take count array))
   pub fits : length (loopBytes (take count array)) ≤ room
   pub size : n ≡ length (loopBytes (take count array))
 
@@ -53,7 +52,7 @@ pub data Refuses (room count : ℕ) (array : List Entry) : Refusal → Type 0 wh
   too-long : any tooWide (take count array) ≡ false → (ltb 201 count || ltb 1008 (length (loopBytes (take count array)))) ≡ true
       → Refuses room count array LoopTooLong
   judged-by : {n k : ℕ} → any tooWide (take count array) ≡ false → count ≤ 201 → length (loopBytes (take count array)) ≤ 1008
-      → Lowest (appliesTo (take count array)) 11 (length (take count array)) n k → n < 11 → Refuses room count array (refusalOf n k)
+      → Lowest (appliesTo (take count array)) 10 (length (take count array)) n k → n < 10 → Refuses room count array (refusalOf n k)
   no-room : any tooWide (take count array) ≡ false → room < length (loopBytes (take count array)) → Refuses room count array NoRoom
 
 -- which of the two it is
@@ -66,21 +65,21 @@ module _ (room count : ℕ) (array : List Entry) where
   given = take count array
 
   abbrev lowest : ℕ
-  lowest = lowestNumber (appliesTo given) 11 (length given)
+  lowest = lowestNumber (appliesTo given) 10 (length given)
 
   answer-case : Case room count array (answer room count array)
   answer-case =
-      go (any tooWide given) refl (ltb 201 count || ltb 1008 (length (loopBytes given))) refl (ltb lowest 11) refl (ltb room (length (loopBytes given))) refl
+      go (any tooWide given) refl (ltb 201 count || ltb 1008 (length (loopBytes given))) refl (ltb lowest 10) refl (ltb room (length (loopBytes given))) refl
     where
       go : (a : Bool) → any tooWide given ≡ a → (b : Bool) → (ltb 201 count || ltb 1008 (length (loopBytes given))) ≡ b → (c : Bool)
-          → ltb lowest 11 ≡ c → (d : Bool) → ltb room (length (loopBytes given)) ≡ d → Case room count array (answer room count array)
+          → ltb lowest 10 ≡ c → (d : Bool) → ltb room (length (loopBytes given)) ≡ d → Case room count array (answer room count array)
       go true p b q c s d t = rw p (wide p)
       go false p true q c s d t = rw (p, q) (too-long p q)
       go false p false q true s d t =
           let few : count ≤ 201 = ltb-false 201 count (neither-left (ltb 201 count) (ltb 1008 (length (loopBytes given))) q) in
           let short : length (loopBytes given) ≤ 1008 =
           ltb-false 1008 (length (loopBytes given)) (neither-right (ltb 201 count) (ltb 1008 (length (loopBytes given))) q) in
-          rw (p, q, s) (judged-by p few short (lowest-is (appliesTo given) 11 (length given)) (ltb-true lowest 11 s))
+          rw (p, q, s) (judged-by p few short (lowest-is (appliesTo given) 10 (length given)) (ltb-true lowest 10 s))
       go false p false q false s true t = rw (p, q, s, t) (no-room p (ltb-true room (length (loopBytes given)) t))
       go false p false q false s false t =
           rw (p, q, s, t)
@@ -88,7 +87,7 @@ module _ (room count : ℕ) (array : List Entry) where
             none-wide = p;
             few = ltb-false 201 count (neither-left (ltb 201 count) (ltb 1008 (length (loopBytes given))) q);
             short = ltb-false 1008 (length (loopBytes given)) (neither-right (ltb 201 count) (ltb 1008 (length (loopBytes given))) q);
-            none-applies = ltb-false lowest 11 s;
+            none-applies = ltb-false lowest 10 s;
             fits = ltb-false room (length (loopBytes given)) t;
             size = refl;
           })
@@ -120,35 +119,35 @@ module _ {es : List Entry} (typed : Typed es) (fit : any tooWide es ≡ false) w
   abbrev by-length : Bool → LoopRead
   by-length b =
       let all : List Stream = streamsOf Edition2015 (loopBytes es) in
-      answerBy all (cond b (VerdictRefused LoopTooLong) (judged mostEmbedded all))
+      answerBy all (cond b (VerdictRefused LoopTooLong) (judged all))
 
-  reading : length (loopBytes es) ≤ 1008 → loopRead Edition2015 (loopBytes es) ≡ answerBy seen (judged mostEmbedded seen)
+  reading : length (loopBytes es) ≤ 1008 → loopRead Edition2015 (loopBytes es) ≡ answerBy seen (judged seen)
   reading short =
-      ap by-length (le-ltb 1008 (length (loopBytes es)) short) ∙ ap (λ (ss : List Stream). answerBy ss (judged mostEmbedded ss)) (read-written typed fit)
+      ap by-length (le-ltb 1008 (length (loopBytes es)) short) ∙ ap (λ (ss : List Stream). answerBy ss (judged ss)) (read-written typed fit)
 
   reading-long : 1008 < length (loopBytes es) → loopRead Edition2015 (loopBytes es) ≡ refusedWith LoopTooLong
   reading-long long = ap by-length (lt-ltb 1008 (length (loopBytes es)) long)
 
-  module _ (number place : ℕ) (low : Lowest (appliesTo es) 11 (length es) number place) (u : NotBySix es typed fit number place) where
-    seen-lowest : Lowest (applies mostEmbedded seen) 11 (length seen) number place
-    seen-lowest = subst (λ (n : ℕ). Lowest (applies mostEmbedded seen) 11 n number place) (sym as-long) (same-lowest es typed fit number place low u)
+  module _ (number place : ℕ) (low : Lowest (appliesTo es) 10 (length es) number place) (u : NotBySix es typed fit number place) where
+    seen-lowest : Lowest (applies seen) 10 (length seen) number place
+    seen-lowest = subst (λ (n : ℕ). Lowest (applies seen) 10 n number place) (sym as-long) (same-lowest es typed fit number place low u)
 
   -- no number applies: the reader accepts, and answers the entries
-  reading-accepts : (place : ℕ) → Lowest (appliesTo es) 11 (length es) 11 place → length (loopBytes es) ≤ 1008
+  reading-accepts : (place : ℕ) → Lowest (appliesTo es) 10 (length es) 10 place → length (loopBytes es) ≤ 1008
       → loopRead Edition2015 (loopBytes es) ≡ record { outcome = Accepted; count = length es; entries = padTo 201 blankEntry (map normal es) }
   reading-accepts place low short =
       let unknown : (k : ℕ) (e : Entry) → Nth es k e → onUnknownType e ≡ false =
-      λ k e n. sym (ap onUnknownType (nth-getD blankEntry n)) ∙ none-unknown es typed fit 11 place low (omega arith) k (nth-inside n) in
-      let low-seen = seen-lowest 11 place low (λ six. absurd (omega arith)) in
-      reading short ∙ sym (ap (answerBy seen) (judged-accepted mostEmbedded seen place low-seen))
+      λ k e n. sym (ap onUnknownType (nth-getD blankEntry n)) ∙ none-unknown es typed fit 10 place low (omega arith) k (nth-inside n) in
+      let low-seen = seen-lowest 10 place low (λ six. absurd (omega arith)) in
+      reading short ∙ sym (ap (answerBy seen) (judged-accepted seen place low-seen))
       ∙ ap₂ (λ (n : ℕ) (l : List Entry). record { outcome = Accepted; count = n; entries = padTo 201 blankEntry l }) as-long
       (entries-back (map readAs es) ∙ all-normal es unknown)
 
 -- ---- the numbers that apply are those of their refusals
 
-pub numbered : (n k : ℕ) → n < 11 → 2 ≤ n → (numberOf (refusalOf n k) ≡ n) × (placeOf (refusalOf n k) ≡ k)
+pub numbered : (n k : ℕ) → n < 10 → 2 ≤ n → (numberOf (refusalOf n k) ≡ n) × (placeOf (refusalOf n k) ≡ k)
 numbered n k h l =
-    handled (λ m. 2 ≤ m → (numberOf (refusalOf m k) ≡ m) × (placeOf (refusalOf m k) ≡ k)) (replicate 11 true) (
+    handled (λ m. 2 ≤ m → (numberOf (refusalOf m k) ≡ m) × (placeOf (refusalOf m k) ≡ k)) (replicate 10 true) (
       (λ t i. absurd (omega arith)),
       (
         (λ t i. absurd (omega arith)),
@@ -158,13 +157,13 @@ numbered n k h l =
             (λ t i. (refl, refl)),
             (
               (λ t i. (refl, refl)),
-              ((λ t i. (refl, refl)), ((λ t i. (refl, refl)), ((λ t i. (refl, refl)), ((λ t i. (refl, refl)), ((λ t i. (refl, refl)), ((λ t i. (refl, refl)), tt)))))),
+              ((λ t i. (refl, refl)), ((λ t i. (refl, refl)), ((λ t i. (refl, refl)), ((λ t i. (refl, refl)), ((λ t i. (refl, refl)), tt))))),
             ),
           ),
         ),
       ),
     )
-    n (getD-replicate 11 n true false h) l
+    n (getD-replicate 10 n true false h) l
 
 pub none-below : (es : List Entry) (n k : ℕ) → appliesTo es n k ≡ true → 2 ≤ n
 none-below es zero k t = let z : _≡_ {A = ℕ} 0 1 = cc in absurd (omega arith)
@@ -181,11 +180,11 @@ module _ (room count : ℕ) (array : List Entry) (typed : Typed (take count arra
   read-back e =
       let es : List Entry = take count array in
       let w = writes room count array e in
-      let low = lowest-is (appliesTo es) 11 (length es) in
-      let number : ℕ = lowestNumber (appliesTo es) 11 (length es) in
-      let eleven : number ≡ 11 = omega (arith, low .within, w .none-applies) in
+      let low = lowest-is (appliesTo es) 10 (length es) in
+      let number : ℕ = lowestNumber (appliesTo es) 10 (length es) in
+      let ten : number ≡ 10 = omega (arith, low .within, w .none-applies) in
       reading-accepts typed (w .none-wide) (earliestPlace (appliesTo es) number (length es))
-      (subst (λ (m : ℕ). Lowest (appliesTo es) 11 (length es) m (earliestPlace (appliesTo es) number (length es))) eleven low) (w .short)
+      (subst (λ (m : ℕ). Lowest (appliesTo es) 10 (length es) m (earliestPlace (appliesTo es) number (length es))) ten low) (w .short)
 
   -- Where each array has blanks beyond its count, as the reader leaves it, these are exactly the entries that were given.
   pub read-back-exactly : {n : ℕ} → map normal (take count array) ≡ take count array → answer room count array ≡ Bytes n
@@ -195,8 +194,8 @@ module _ (room count : ℕ) (array : List Entry) (typed : Typed (take count arra
       read-back e
       ∙ ap (λ (l : List Entry). record { outcome = Accepted; count = length (take count array); entries = padTo 201 blankEntry l }) blank
 
-  -- A REFUSAL IS THE SAME: 1, 3 and 7 to 10 in every case, 6 where the record at its place stands on a known stream type.
-  pub same-refusal : {r : Refusal} → count ≤ 201 → answer room count array ≡ Refused r → numberOf r ≤ 10
+  -- A REFUSAL IS THE SAME: 1, 3 and 7 to 9 in every case, 6 where the record at its place stands on a known stream type.
+  pub same-refusal : {r : Refusal} → count ≤ 201 → answer room count array ≡ Refused r → numberOf r ≤ 9
       → (numberOf r ≡ 6 → onUnknownType (getD (take count array) (placeOf r) blankEntry) ≡ false)
       → loopRead Edition2015 (loopBytes (take count array)) ≡ refusedWith r
   same-refusal few e small six = go (refuses room count array e) small six
@@ -204,7 +203,7 @@ module _ (room count : ℕ) (array : List Entry) (typed : Typed (take count arra
       es : List Entry
       es = take count array
 
-      go : {r : Refusal} → Refuses room count array r → numberOf r ≤ 10 → (numberOf r ≡ 6 → onUnknownType (getD es (placeOf r) blankEntry) ≡ false)
+      go : {r : Refusal} → Refuses room count array r → numberOf r ≤ 9 → (numberOf r ≡ 6 → onUnknownType (getD es (placeOf r) blankEntry) ≡ false)
           → loopRead Edition2015 (loopBytes es) ≡ refusedWith r
       go (wide p) h s = absurd (omega arith)
       go (too-long p q) h s =
@@ -212,7 +211,7 @@ module _ (room count : ℕ) (array : List Entry) (typed : Typed (take count arra
       go (judged-by {n} {k} p f short low l) h s =
           let named = numbered n k l (none-below es n k (low .holds l)) in
           reading typed p short
-          ∙ sym (ap (answerBy (map streamFor (map readAs es))) (judged-refused mostEmbedded (map streamFor (map readAs es)) n k
+          ∙ sym (ap (answerBy (map streamFor (map readAs es))) (judged-refused (map streamFor (map readAs es)) n k
           (seen-lowest typed p n k low (λ is-six. rw (← named .1) (s (named .0 ∙ is-six)))) l))
       go (no-room p q) h s = absurd (omega arith)
 

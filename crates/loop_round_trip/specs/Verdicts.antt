@@ -23,7 +23,7 @@ use Rattle.descriptors.specs.declared.«record».Record.{Record}
 use Rattle.descriptors.specs.declared.«record».Record.the-variants.{NoRecord, Hierarchy, Extension}
 use Rattle.descriptors.specs.Extension.{noLayer}
 use Rattle.descriptors.specs.Records.{isLayer, indexOf, plain, recordTables}
-use Rattle.judging.specs.Judging.{sameIndex, typeNotAllowed, wrongFlags, wrongList, wrongEmbedded, mostEmbedded, tooManyEmbedded}
+use Rattle.judging.specs.Judging.{sameIndex, typeNotAllowed, wrongFlags, wrongList, wrongEmbedded}
 use Rattle.judging.specs.Meaning.{unknown-type}
 use Rattle.judging.proofs.Meant.{refusal-6}
 use Rattle.es_loop.specs.declared.entries.Entry.{Entry}
@@ -139,23 +139,23 @@ module _ (es : List Entry) (typed : Typed es) (fit : any tooWide es ≡ false) w
 
   -- the conditions at an entry, as it was given and as it is read
   abbrev givenTests : ℕ → List Bool
-  givenTests k = conditions mostEmbedded (repeatedPid given k) (repeatedIndex given k) (streamFor (entryAt k))
+  givenTests k = conditions (repeatedPid given k) (repeatedIndex given k) (streamFor (entryAt k))
 
   abbrev seenTests : ℕ → List Bool
-  seenTests k = conditions mostEmbedded (repeatedPid seen k) (repeatedIndex seen k) (streamFor (readAs (entryAt k)))
+  seenTests k = conditions (repeatedPid seen k) (repeatedIndex seen k) (streamFor (readAs (entryAt k)))
 
-  given-tests : {k : ℕ} → k < length es → (n : ℕ) → applies mostEmbedded given n k ≡ getD (givenTests k) n false
-  given-tests {k} h n = ap (λ (s : Stream). getD (conditions mostEmbedded (repeatedPid given k) (repeatedIndex given k) s) n false) (given-at h)
+  given-tests : {k : ℕ} → k < length es → (n : ℕ) → applies given n k ≡ getD (givenTests k) n false
+  given-tests {k} h n = ap (λ (s : Stream). getD (conditions (repeatedPid given k) (repeatedIndex given k) s) n false) (given-at h)
 
-  seen-tests : {k : ℕ} → k < length es → (n : ℕ) → applies mostEmbedded seen n k ≡ getD (seenTests k) n false
-  seen-tests {k} h n = ap (λ (s : Stream). getD (conditions mostEmbedded (repeatedPid seen k) (repeatedIndex seen k) s) n false) (seen-at h)
+  seen-tests : {k : ℕ} → k < length es → (n : ℕ) → applies seen n k ≡ getD (seenTests k) n false
+  seen-tests {k} h n = ap (λ (s : Stream). getD (conditions (repeatedPid seen k) (repeatedIndex seen k) s) n false) (seen-at h)
 
   -- WHAT APPLIES IN READING APPLIES IN WRITING.
-  reads-writes : (n k : ℕ) → k < length es → applies mostEmbedded seen n k ≡ true → applies mostEmbedded given n k ≡ true
+  reads-writes : (n k : ℕ) → k < length es → applies seen n k ≡ true → applies given n k ≡ true
   reads-writes n k h t =
       given-tests h n
       ∙ handled (λ m. getD (givenTests k) m false ≡ true) (seenTests k)
-      (apart, (apart, (apart, ((λ p. sym (pids-alike h) ∙ p), (apart, (apart, (six, (seven, ((λ p. index-given h p), (nine, (ten, tt))))))))))) n
+      (apart, (apart, (apart, ((λ p. sym (pids-alike h) ∙ p), (apart, (apart, (six, (seven, ((λ p. index-given h p), (nine, tt)))))))))) n
       (sym (seen-tests h n) ∙ t)
     where
       e : Entry
@@ -174,10 +174,7 @@ module _ (es : List Entry) (typed : Typed es) (fit : any tooWide es ≡ false) w
           by-type e (λ x. wrongEmbedded (x .«record») (x .embedded) ≡ true → wrongEmbedded (e .«record») (e .embedded) ≡ true)
           (λ p q. sym (named-alike h) ∙ q) (λ p q. apart q)
 
-      ten : tooManyEmbedded mostEmbedded ((readAs e) .«record») ≡ true → tooManyEmbedded mostEmbedded (e .«record») ≡ true
-      ten = by-type e (λ x. tooManyEmbedded mostEmbedded (x .«record») ≡ true → tooManyEmbedded mostEmbedded (e .«record») ≡ true) (λ p q. q) (λ p q. apart q)
-
-  -- WHAT APPLIES IN WRITING APPLIES IN READING: 3 in any case, 6 unless the record stands on an unknown type, 7 to 10 where no record up to
+  -- WHAT APPLIES IN WRITING APPLIES IN READING: 3 in any case, 6 unless the record stands on an unknown type, 7 to 9 where no record up to
   -- there does.
   abbrev pub NotBySix : ℕ → ℕ → Type 0
   NotBySix n k = n ≡ 6 → onUnknownType (entryAt k) ≡ false
@@ -185,13 +182,13 @@ module _ (es : List Entry) (typed : Typed es) (fit : any tooWide es ≡ false) w
   abbrev KnownUpTo : ℕ → ℕ → Type 0
   KnownUpTo n k = 6 < n → (j : ℕ) → j ≤ k → onUnknownType (entryAt j) ≡ false
 
-  writes-reads : (n k : ℕ) → k < length es → NotBySix n k → KnownUpTo n k → applies mostEmbedded given n k ≡ true → applies mostEmbedded seen n k ≡ true
+  writes-reads : (n k : ℕ) → k < length es → NotBySix n k → KnownUpTo n k → applies given n k ≡ true → applies seen n k ≡ true
   writes-reads n k h u v t =
       seen-tests h n
       ∙ handled
       (λ m. NotBySix m k → KnownUpTo m k → getD (seenTests k) m false ≡ true)
       (givenTests k)
-      (apart, (apart, (apart, ((λ p x y. pids-alike h ∙ p), (apart, (apart, (six, (seven, (eight, (nine, (ten, tt))))))))))) n
+      (apart, (apart, (apart, ((λ p x y. pids-alike h ∙ p), (apart, (apart, (six, (seven, (eight, (nine, tt)))))))))) n
       (sym (given-tests h n) ∙ t) u v
     where
       e : Entry
@@ -213,13 +210,9 @@ module _ (es : List Entry) (typed : Typed es) (fit : any tooWide es ≡ false) w
           → wrongEmbedded ((readAs e) .«record») ((readAs e) .embedded) ≡ true
       nine p x y = rw (read-normal e (y (omega arith) k (omega arith))) (named-alike h ∙ p)
 
-      ten : tooManyEmbedded mostEmbedded (e .«record») ≡ true → NotBySix 10 k → KnownUpTo 10 k
-          → tooManyEmbedded mostEmbedded ((readAs e) .«record») ≡ true
-      ten p x y = rw (read-normal e (y (omega arith) k (omega arith))) p
-
   -- THE LOWEST NUMBER IS THE SAME.
-  not-read : (n k : ℕ) → k < length es → appliesTo es n k ≡ false → applies mostEmbedded seen n k ≡ false
-  not-read n k h f = false-unless (applies mostEmbedded seen n k) (λ t. both-ways (reads-writes n k h t) f)
+  not-read : (n k : ℕ) → k < length es → appliesTo es n k ≡ false → applies seen n k ≡ false
+  not-read n k h f = false-unless (applies seen n k) (λ t. both-ways (reads-writes n k h t) f)
 
   -- 6 applies to no entry, so no record stands on an unknown type
   all-known : (k : ℕ) → k < length es → appliesTo es 6 k ≡ false → onUnknownType (entryAt k) ≡ false
@@ -233,8 +226,8 @@ module _ (es : List Entry) (typed : Typed es) (fit : any tooWide es ≡ false) w
       (unknown-type (both-left layer unknown u) (not-true (known Edition2015 (e .«stream_type»)) (both-right layer unknown u))))
       (sym (ap (λ (s : Stream). typeNotAllowed (s .«stream_type») (s .seen .«record»)) (given-at h)) ∙ f))
 
-  module _ (number place : ℕ) (lowest : Lowest (appliesTo es) 11 (length es) number place) where
-    pub same-lowest : NotBySix number place → Lowest (applies mostEmbedded seen) 11 (length es) number place
+  module _ (number place : ℕ) (lowest : Lowest (appliesTo es) 10 (length es) number place) where
+    pub same-lowest : NotBySix number place → Lowest (applies seen) 10 (length es) number place
     same-lowest u =
         record {
           within = lowest .within;
@@ -248,5 +241,5 @@ module _ (es : List Entry) (typed : Typed es) (fit : any tooWide es ≡ false) w
           earlier = λ l k h. not-read number k (let p = lowest .inside l in omega arith) (lowest .earlier l k h);
         }
 
-    pub none-unknown : 11 ≤ number → (k : ℕ) → k < length es → onUnknownType (entryAt k) ≡ false
+    pub none-unknown : 10 ≤ number → (k : ℕ) → k < length es → onUnknownType (entryAt k) ≡ false
     none-unknown h k l = all-known k l (lowest .lower 6 k (omega arith) l)

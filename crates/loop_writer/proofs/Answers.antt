@@ -47,26 +47,26 @@ module _ (count : ℕ) (array : List Entry) (old : List ℕ) where
     too-large h = too-long (either-right (ltb 201 count) (ltb 1008 (length (loopBytes given))) (lt-ltb 1008 (length (loopBytes given)) h))
 
     module _ (few : count ≤ 201) (short : length (loopBytes given) ≤ 1008) (number place : ℕ)
-        (lowest : Lowest (appliesTo given) 11 (length given) number place) where
-      is-lowest : number ≡ lowestNumber (appliesTo given) 11 (length given)
-      is-lowest = lowest-number (appliesTo given) 11 (length given) number place lowest
+        (lowest : Lowest (appliesTo given) 10 (length given) number place) where
+      is-lowest : number ≡ lowestNumber (appliesTo given) 10 (length given)
+      is-lowest = lowest-number (appliesTo given) 10 (length given) number place lowest
 
       -- the answer at the number that was found
       abbrev answerAt : ℕ → Written
       answerAt n =
-          cond (ltb n 11) (Refused (refusalOf n (earliestPlace (appliesTo given) n (length given)))) (inRoom (length old) (length (loopBytes given)))
+          cond (ltb n 10) (Refused (refusalOf n (earliestPlace (appliesTo given) n (length given)))) (inRoom (length old) (length (loopBytes given)))
 
       found : answer (length old) count array ≡ answerAt number
       found = rw (none-wide, le-ltb 201 count few, le-ltb 1008 (length (loopBytes given)) short) (ap answerAt (sym is-lowest))
 
-      pub applies-to-one : number < 11 → Promised (Refused (refusalOf number place)) old
+      pub applies-to-one : number < 10 → Promised (Refused (refusalOf number place)) old
       applies-to-one h =
           refused (refusalOf number place)
-          (found ∙ rw (lt-ltb number 11 h, ← earliest-place (appliesTo given) 11 (length given) number place lowest h))
+          (found ∙ rw (lt-ltb number 10 h, ← earliest-place (appliesTo given) 10 (length given) number place lowest h))
 
-      module _ (none : 11 ≤ number) where
+      module _ (none : 10 ≤ number) where
         in-room : answer (length old) count array ≡ inRoom (length old) (length (loopBytes given))
-        in-room = found ∙ rw (le-ltb number 11 none)
+        in-room = found ∙ rw (le-ltb number 10 none)
 
         pub no-room : length old < length (loopBytes given) → Promised (Refused NoRoom) old
         no-room h = refused NoRoom (in-room ∙ rw (lt-ltb (length old) (length (loopBytes given)) h))

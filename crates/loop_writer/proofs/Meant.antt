@@ -17,127 +17,120 @@ use Rattle.syntax.proofs.Laws.{fits-fit, fit-fits}
 use Rattle.vocabulary.specs.declared.stream_types.Reading.the-variants.{Edition2015}
 use Rattle.vocabulary.specs.StreamTypes.{known}
 use Rattle.descriptors.specs.Records.{isLayer, indexOf}
-use Rattle.judging.specs.Judging.{sameIndex, typeNotAllowed, wrongFlags, wrongEmbedded, tooManyEmbedded}
-use Rattle.judging.proofs.Meant.{refusal-6, refusal-7, refusal-9, refusal-10}
+use Rattle.judging.specs.Judging.{sameIndex, typeNotAllowed, wrongFlags, wrongEmbedded}
+use Rattle.judging.proofs.Meant.{refusal-6, refusal-7, refusal-9}
 use Rattle.es_loop.specs.declared.entries.Entry.{Entry}
 use Rattle.es_loop.specs.declared.entries.Stream.{Stream}
 use Rattle.es_loop.specs.Entries.{noStream, blankEntry}
 use Rattle.es_loop.specs.Conditions.{refusalOf, streamAt, pidAt, recordAt, repeatedPid, repeatedIndex, conditions, applies}
 use Rattle.syntax.specs.Filled.{Filled, valuesIn, tooWideIn}
 use Rattle.loop_writer.specs.Layout.{entryTables, loopBytes, tooWide}
-use Rattle.loop_writer.specs.Verdict.{streamFor, appliesUpTo}
+use Rattle.loop_writer.specs.Verdict.{streamFor, appliesTo}
 use Rattle.es_loop.proofs.Meant.{named-refusal}
 use Rattle.vocabulary.specs.Refusals.{numberOf, placeOf}
 use Rattle.vocabulary.specs.declared.refusal.Refusal.{Refusal}
 use Rattle.loop_writer.specs.declared.writer.Written.{Written}
 use Rattle.loop_writer.specs.declared.writer.Written.the-variants.{Bytes, Refused}
 use Rattle.loop_writer.proofs.Writes.{bytes-meant, bytes-only}
-use Rattle.loop_writer.specs.Writing.{answerUpTo, contentAfter}
-use Rattle.loop_writer.specs.Meaning.{SomeTooWide, too-wide-at, EachFits, Condition, pid-seen, type-wrong, flags-wrong, index-held, embedded-wrong, embedded-many, AnswersUpTo, too-wide, too-many, too-long, refuses, no-room, accepts}
+use Rattle.loop_writer.specs.Writing.{answer, contentAfter}
+use Rattle.loop_writer.specs.Meaning.{SomeTooWide, too-wide-at, EachFits, Condition, pid-seen, type-wrong, flags-wrong, index-held, embedded-wrong, Answers, too-wide, too-many, too-long, refuses, no-room, accepts}
 
-module _ (most : ℕ) where
-  module _ (es : List Entry) where
-    -- 25
-    wide-means : any tooWide es ≡ true → SomeTooWide es
-    wide-means e =
-        let w = any-which tooWide es e in
-        let v = any-which tooWideIn (entryTables (w .1)) (w .3) in
-        let f : Filled = v .1 in
-        too-wide-at (w .2) (v .2) (λ fit. both-ways (fit-fits fit) (not-true (fits (f .table) (valuesIn f)) (v .3)))
+module _ (es : List Entry) where
+  -- 25
+  wide-means : any tooWide es ≡ true → SomeTooWide es
+  wide-means e =
+      let w = any-which tooWide es e in
+      let v = any-which tooWideIn (entryTables (w .1)) (w .3) in
+      let f : Filled = v .1 in
+      too-wide-at (w .2) (v .2) (λ fit. both-ways (fit-fits fit) (not-true (fits (f .table) (valuesIn f)) (v .3)))
 
-    wide-test : SomeTooWide es → any tooWide es ≡ true
-    wide-test (too-wide-at {f = f} n m misfit) =
-        any-true tooWide n (any-true tooWideIn m (ap not (false-unless (fits (f .table) (valuesIn f)) (λ t. misfit (fits-fit (f .table) (valuesIn f) t)))))
+  wide-test : SomeTooWide es → any tooWide es ≡ true
+  wide-test (too-wide-at {f = f} n m misfit) =
+      any-true tooWide n (any-true tooWideIn m (ap not (false-unless (fits (f .table) (valuesIn f)) (λ t. misfit (fits-fit (f .table) (valuesIn f) t)))))
 
-    fine-means : any tooWide es ≡ false → EachFits es
-    fine-means e k i x f n m =
-        fits-fit (f .table) (valuesIn f) (not-false (fits (f .table) (valuesIn f)) (any-false tooWideIn (any-false tooWide e n) m))
+  fine-means : any tooWide es ≡ false → EachFits es
+  fine-means e k i x f n m =
+      fits-fit (f .table) (valuesIn f) (not-false (fits (f .table) (valuesIn f)) (any-false tooWideIn (any-false tooWide e n) m))
 
-    fine-test : EachFits es → any tooWide es ≡ false
-    fine-test each = false-unless (any tooWide es) (λ t. no-wide (wide-means t))
-      where
-        no-wide : SomeTooWide es → ⊥
-        no-wide (too-wide-at {k} {i} {e} {f} n m misfit) = misfit (each k i e f n m)
+  fine-test : EachFits es → any tooWide es ≡ false
+  fine-test each = false-unless (any tooWide es) (λ t. no-wide (wide-means t))
+    where
+      no-wide : SomeTooWide es → ⊥
+      no-wide (too-wide-at {k} {i} {e} {f} n m misfit) = misfit (each k i e f n m)
 
-    -- 3 and 6 to 10
-    abbrev given : List Stream
-    given = map streamFor es
+  -- 3 and 6 to 9
+  abbrev given : List Stream
+  given = map streamFor es
 
-    at : {k : ℕ} {e : Entry} → Nth es k e → streamAt given k ≡ streamFor e
-    at n = getD-map streamFor noStream n
+  at : {k : ℕ} {e : Entry} → Nth es k e → streamAt given k ≡ streamFor e
+  at n = getD-map streamFor noStream n
 
-    record-of : {k : ℕ} {e : Entry} → Nth es k e → recordAt given k ≡ e .«record»
-    record-of n = ap (λ (s : Stream). s .seen .«record») (at n)
+  record-of : {k : ℕ} {e : Entry} → Nth es k e → recordAt given k ≡ e .«record»
+  record-of n = ap (λ (s : Stream). s .seen .«record») (at n)
 
-    tested : {n k : ℕ} → Condition es most n k → appliesUpTo most es n k ≡ true
-    tested (pid-seen {j} {k} h n m p) =
-        (some-at (λ j. eqb (pidAt given j) (pidAt given k)) k j h
-        (eq-eqb (pidAt given j) (pidAt given k) (ap (λ (s : Stream). s .pid) (at n) ∙ p ∙ sym (ap (λ (s : Stream). s .pid) (at m)))))
-    tested (type-wrong {k} {e} n w) =
-        (ap (λ (s : Stream). typeNotAllowed (s .«stream_type») (s .seen .«record»)) (at n) ∙ (refusal-6 (e .«stream_type») (e .«record»)) .1 w)
-    tested (flags-wrong {k} {e} n w) =
-        (ap (λ (s : Stream). wrongFlags (s .seen .«record»)) (at n) ∙ (refusal-7 (e .«record»)) .1 w)
-    tested (index-held {j} {k} {e} {e′} h n m l l′ p) =
-        (some-at (λ j. sameIndex (recordAt given j) (recordAt given k)) k j h
-        (ap₂ sameIndex (record-of n) (record-of m) ∙ rw (l, l′, eq-eqb (indexOf (e .«record»)) (indexOf (e′ .«record»)) p)))
-    tested (embedded-wrong {k} {e} n w) =
-        (ap (λ (s : Stream). wrongEmbedded (s .seen .«record») (s .seen .embedded)) (at n) ∙ (refusal-9 (e .«record») (e .embedded)) .1 w)
-    tested (embedded-many {k} {e} n w) =
-        (ap (λ (s : Stream). tooManyEmbedded most (s .seen .«record»)) (at n) ∙ (refusal-10 most (e .«record»)) .1 w)
+  tested : {n k : ℕ} → Condition es n k → appliesTo es n k ≡ true
+  tested (pid-seen {j} {k} h n m p) =
+      (some-at (λ j. eqb (pidAt given j) (pidAt given k)) k j h
+      (eq-eqb (pidAt given j) (pidAt given k) (ap (λ (s : Stream). s .pid) (at n) ∙ p ∙ sym (ap (λ (s : Stream). s .pid) (at m)))))
+  tested (type-wrong {k} {e} n w) =
+      (ap (λ (s : Stream). typeNotAllowed (s .«stream_type») (s .seen .«record»)) (at n) ∙ (refusal-6 (e .«stream_type») (e .«record»)) .1 w)
+  tested (flags-wrong {k} {e} n w) =
+      (ap (λ (s : Stream). wrongFlags (s .seen .«record»)) (at n) ∙ (refusal-7 (e .«record»)) .1 w)
+  tested (index-held {j} {k} {e} {e′} h n m l l′ p) =
+      (some-at (λ j. sameIndex (recordAt given j) (recordAt given k)) k j h
+      (ap₂ sameIndex (record-of n) (record-of m) ∙ rw (l, l′, eq-eqb (indexOf (e .«record»)) (indexOf (e′ .«record»)) p)))
+  tested (embedded-wrong {k} {e} n w) =
+      (ap (λ (s : Stream). wrongEmbedded (s .seen .«record») (s .seen .embedded)) (at n) ∙ (refusal-9 (e .«record») (e .embedded)) .1 w)
 
-    module _ (k : ℕ) (h : k < length es) where
-      abbrev e : Entry
-      e = getD es k blankEntry
+  module _ (k : ℕ) (h : k < length es) where
+    abbrev e : Entry
+    e = getD es k blankEntry
 
-      n : Nth es k e
-      n = getD-nth es k blankEntry h
+    n : Nth es k e
+    n = getD-nth es k blankEntry h
 
-      repeated : repeatedPid given k ≡ true → Condition es most 3 k
-      repeated t =
-          let w = some-which (λ j. eqb (pidAt given j) (pidAt given k)) k t in
-          let m : Nth es (w .0) (getD es (w .0) blankEntry) = getD-nth es (w .0) blankEntry (omega (arith, w .1)) in
-          pid-seen (w .1) m n
-          (sym (ap (λ (s : Stream). s .pid) (at m)) ∙ eqb-true (pidAt given (w .0)) (pidAt given k) (w .2) ∙ ap (λ (s : Stream). s .pid) (at n))
+    repeated : repeatedPid given k ≡ true → Condition es 3 k
+    repeated t =
+        let w = some-which (λ j. eqb (pidAt given j) (pidAt given k)) k t in
+        let m : Nth es (w .0) (getD es (w .0) blankEntry) = getD-nth es (w .0) blankEntry (omega (arith, w .1)) in
+        pid-seen (w .1) m n
+        (sym (ap (λ (s : Stream). s .pid) (at m)) ∙ eqb-true (pidAt given (w .0)) (pidAt given k) (w .2) ∙ ap (λ (s : Stream). s .pid) (at n))
 
-      held : repeatedIndex given k ≡ true → Condition es most 8 k
-      held t =
-          let w = some-which (λ j. sameIndex (recordAt given j) (recordAt given k)) k t in
-          let x : Entry = getD es (w .0) blankEntry in
-          let m : Nth es (w .0) x = getD-nth es (w .0) blankEntry (omega (arith, w .1)) in
-          let same : sameIndex (x .«record») (e .«record») ≡ true = sym (ap₂ sameIndex (record-of m) (record-of n)) ∙ w .2 in
-          let a : Bool = isLayer (x .«record») in
-          let b : Bool = isLayer (e .«record») in
-          let i : Bool = eqb (indexOf (x .«record»)) (indexOf (e .«record»)) in
-          let layers : (a && b) ≡ true = both-left (a && b) i same in
-          index-held (w .1) m n (both-left a b layers) (both-right a b layers) (eqb-true (indexOf (x .«record»)) (indexOf (e .«record»)) (both-right (a && b) i same))
+    held : repeatedIndex given k ≡ true → Condition es 8 k
+    held t =
+        let w = some-which (λ j. sameIndex (recordAt given j) (recordAt given k)) k t in
+        let x : Entry = getD es (w .0) blankEntry in
+        let m : Nth es (w .0) x = getD-nth es (w .0) blankEntry (omega (arith, w .1)) in
+        let same : sameIndex (x .«record») (e .«record») ≡ true = sym (ap₂ sameIndex (record-of m) (record-of n)) ∙ w .2 in
+        let a : Bool = isLayer (x .«record») in
+        let b : Bool = isLayer (e .«record») in
+        let i : Bool = eqb (indexOf (x .«record»)) (indexOf (e .«record»)) in
+        let layers : (a && b) ≡ true = both-left (a && b) i same in
+        index-held (w .1) m n (both-left a b layers) (both-right a b layers) (eqb-true (indexOf (x .«record»)) (indexOf (e .«record»)) (both-right (a && b) i same))
 
-      named : (number : ℕ) → applies most given number k ≡ true → Condition es most number k
-      named number t =
-          handled (λ m. Condition es most m k) (conditions most (repeatedPid given k) (repeatedIndex given k) (streamFor e)) (
+    named : (number : ℕ) → applies given number k ≡ true → Condition es number k
+    named number t =
+        handled (λ m. Condition es m k) (conditions (repeatedPid given k) (repeatedIndex given k) (streamFor e)) (
+          apart,
+          (
             apart,
             (
               apart,
               (
-                apart,
+                repeated,
                 (
-                  repeated,
+                  apart,
                   (
                     apart,
                     (
-                      apart,
+                      (λ p. type-wrong n ((refusal-6 (e .«stream_type») (e .«record»)) .0 p)),
                       (
-                        (λ p. type-wrong n ((refusal-6 (e .«stream_type») (e .«record»)) .0 p)),
+                        (λ p. flags-wrong n ((refusal-7 (e .«record»)) .0 p)),
                         (
-                          (λ p. flags-wrong n ((refusal-7 (e .«record»)) .0 p)),
+                          held,
                           (
-                            held,
-                            (
-                              (λ p. embedded-wrong n ((refusal-9 (e .«record») (e .embedded)) .0 p)),
-                              (
-                                (λ p. embedded-many n ((refusal-10 most (e .«record»)) .0 p)),
-                                tt,
-                              ),
-                            ),
+                            (λ p. embedded-wrong n ((refusal-9 (e .«record») (e .embedded)) .0 p)),
+                            tt,
                           ),
                         ),
                       ),
@@ -146,140 +139,138 @@ module _ (most : ℕ) where
                 ),
               ),
             ),
-          ) number
-          (sym (ap (λ (s : Stream). getD (conditions most (repeatedPid given k) (repeatedIndex given k) s) number false) (at n)) ∙ t)
+          ),
+        ) number
+        (sym (ap (λ (s : Stream). getD (conditions (repeatedPid given k) (repeatedIndex given k) s) number false) (at n)) ∙ t)
 
-    inside : {m k : ℕ} → Condition es most m k → k < length es
-    inside (pid-seen h a b p) = nth-inside b
-    inside (type-wrong a w) = nth-inside a
-    inside (flags-wrong a w) = nth-inside a
-    inside (index-held h a b l l′ p) = nth-inside b
-    inside (embedded-wrong a w) = nth-inside a
-    inside (embedded-many a w) = nth-inside a
+  inside : {m k : ℕ} → Condition es m k → k < length es
+  inside (pid-seen h a b p) = nth-inside b
+  inside (type-wrong a w) = nth-inside a
+  inside (flags-wrong a w) = nth-inside a
+  inside (index-held h a b l l′ p) = nth-inside b
+  inside (embedded-wrong a w) = nth-inside a
 
-    numbers : {m k : ℕ} → Condition es most m k → m < 11
-    numbers (pid-seen h a b p) = omega arith
-    numbers (type-wrong a w) = omega arith
-    numbers (flags-wrong a w) = omega arith
-    numbers (index-held h a b l l′ p) = omega arith
-    numbers (embedded-wrong a w) = omega arith
-    numbers (embedded-many a w) = omega arith
+  numbers : {m k : ℕ} → Condition es m k → m < 10
+  numbers (pid-seen h a b p) = omega arith
+  numbers (type-wrong a w) = omega arith
+  numbers (flags-wrong a w) = omega arith
+  numbers (index-held h a b l l′ p) = omega arith
+  numbers (embedded-wrong a w) = omega arith
 
-    -- the refusal of a number whose condition holds at an entry has that number, and that entry for its place
-    named-place : {m k : ℕ} → Condition es most m k → (numberOf (refusalOf m k) ≡ m) × (placeOf (refusalOf m k) ≡ k)
-    named-place (pid-seen h a b p) = (refl, refl)
-    named-place (type-wrong a w) = (refl, refl)
-    named-place (flags-wrong a w) = (refl, refl)
-    named-place (index-held h a b l l′ p) = (refl, refl)
-    named-place (embedded-wrong a w) = (refl, refl)
-    named-place (embedded-many a w) = (refl, refl)
+  -- the refusal of a number whose condition holds at an entry has that number, and that entry for its place
+  named-place : {m k : ℕ} → Condition es m k → (numberOf (refusalOf m k) ≡ m) × (placeOf (refusalOf m k) ≡ k)
+  named-place (pid-seen h a b p) = (refl, refl)
+  named-place (type-wrong a w) = (refl, refl)
+  named-place (flags-wrong a w) = (refl, refl)
+  named-place (index-held h a b l l′ p) = (refl, refl)
+  named-place (embedded-wrong a w) = (refl, refl)
 
-  -- THE ANSWER COMPUTED HAS THE MEANING.
-  module _ (count : ℕ) (array : List Entry) (old : List ℕ) where
-    abbrev room : ℕ
-    room = length old
+-- THE ANSWER COMPUTED HAS THE MEANING.
+module _ (count : ℕ) (array : List Entry) (old : List ℕ) where
+  abbrev room : ℕ
+  room = length old
 
-    abbrev entries : List Entry
-    entries = take count array
+  abbrev entries : List Entry
+  entries = take count array
 
-    abbrev size : ℕ
-    size = length (loopBytes entries)
+  abbrev size : ℕ
+  size = length (loopBytes entries)
 
-    abbrev lowest : ℕ
-    lowest = lowestNumber (appliesUpTo most entries) 11 (length entries)
+  abbrev lowest : ℕ
+  lowest = lowestNumber (appliesTo entries) 10 (length entries)
 
-    abbrev place : ℕ
-    place = earliestPlace (appliesUpTo most entries) lowest (length entries)
+  abbrev place : ℕ
+  place = earliestPlace (appliesTo entries) lowest (length entries)
 
-    abbrev written : Written
-    written = answerUpTo most room count array
+  abbrev written : Written
+  written = answer room count array
 
-    low : Lowest (appliesUpTo most entries) 11 (length entries) lowest place
-    low = lowest-is (appliesUpTo most entries) 11 (length entries)
+  low : Lowest (appliesTo entries) 10 (length entries) lowest place
+  low = lowest-is (appliesTo entries) 10 (length entries)
 
-    abbrev Meets : Written → Type 0
-    Meets w = AnswersUpTo most count array old w (contentAfter w (loopBytes entries) old)
+  abbrev Meets : Written → Type 0
+  Meets w = Answers count array old w (contentAfter w (loopBytes entries) old)
 
-    pub answer-meant : Meets written
-    answer-meant = go (any tooWide entries) refl (ltb 201 count) refl (ltb 1008 size) refl (ltb lowest 11) refl (ltb room size) refl
-      where
-        none : ltb lowest 11 ≡ false → (m k : ℕ) → Condition entries most m k → ⊥
-        none s m k c =
-            both-ways (tested entries c) (low .lower m k (omega (arith, numbers entries c, ltb-false lowest 11 s)) (inside entries c))
+  pub answer-meant : Meets written
+  answer-meant = go (any tooWide entries) refl (ltb 201 count) refl (ltb 1008 size) refl (ltb lowest 10) refl (ltb room size) refl
+    where
+      none : ltb lowest 10 ≡ false → (m k : ℕ) → Condition entries m k → ⊥
+      none s m k c =
+          both-ways (tested entries c) (low .lower m k (omega (arith, numbers entries c, ltb-false lowest 10 s)) (inside entries c))
 
-        go : (a : Bool) → any tooWide entries ≡ a → (m : Bool) → ltb 201 count ≡ m → (b : Bool) → ltb 1008 size ≡ b → (c : Bool) → ltb lowest 11 ≡ c → (d : Bool)
-            → ltb room size ≡ d → Meets written
-        go true p m i b q c s d t = rw p (too-wide (wide-means entries p))
-        go false p true i b q c s d t = rw (p, i) (too-many (fine-means entries p) (ltb-true 201 count i))
-        go false p false i true q c s d t = rw (p, i, q) (too-long (fine-means entries p) (bytes-meant entries p) (ltb-true 1008 size q))
-        go false p false i false q true s d t =
-            let h : lowest < 11 = ltb-true lowest 11 s in
-            let held : Condition entries most lowest place = named entries place (low .inside h) lowest (low .holds h) in
-            let r = named-place entries held in
-            rw (p, i, q, s)
-            (refuses {refusal = refusalOf lowest place} (fine-means entries p) (ltb-false 201 count i) (bytes-meant entries p) (ltb-false 1008 size q) (rw (r .0, r .1) held)
-            (λ m j l c. both-ways (tested entries c) (low .lower m j (rw (r .0) at l) (inside entries c)))
-            (λ j l c. both-ways (tested entries (rw (r .0) at c)) (low .earlier h j (rw (r .1) at l))))
-        go false p false i false q false s true t =
-            rw (p, i, q, s, t)
-            (no-room (fine-means entries p) (ltb-false 201 count i) (bytes-meant entries p) (ltb-false 1008 size q) (none s) (ltb-true room size t))
-        go false p false i false q false s false t =
-            rw (p, i, q, s, t)
-            (accepts (fine-means entries p) (ltb-false 201 count i) (bytes-meant entries p) (ltb-false 1008 size q) (none s) (ltb-false room size t))
+      go : (a : Bool) → any tooWide entries ≡ a → (m : Bool) → ltb 201 count ≡ m → (b : Bool) → ltb 1008 size ≡ b → (c : Bool) → ltb lowest 10 ≡ c → (d : Bool)
+          → ltb room size ≡ d → Meets written
+      go true p m i b q c s d t = rw p (too-wide (wide-means entries p))
+      go false p true i b q c s d t = rw (p, i) (too-many (fine-means entries p) (ltb-true 201 count i))
+      go false p false i true q c s d t = rw (p, i, q) (too-long (fine-means entries p) (bytes-meant entries p) (ltb-true 1008 size q))
+      go false p false i false q true s d t =
+          let h : lowest < 10 = ltb-true lowest 10 s in
+          let held : Condition entries lowest place = named entries place (low .inside h) lowest (low .holds h) in
+          let r = named-place entries held in
+          rw (p, i, q, s)
+          (refuses {refusal = refusalOf lowest place} (fine-means entries p) (ltb-false 201 count i) (bytes-meant entries p) (ltb-false 1008 size q) (rw (r .0, r .1) held)
+          (λ m j l c. both-ways (tested entries c) (low .lower m j (rw (r .0) at l) (inside entries c)))
+          (λ j l c. both-ways (tested entries (rw (r .0) at c)) (low .earlier h j (rw (r .1) at l))))
+      go false p false i false q false s true t =
+          rw (p, i, q, s, t)
+          (no-room (fine-means entries p) (ltb-false 201 count i) (bytes-meant entries p) (ltb-false 1008 size q) (none s) (ltb-true room size t))
+      go false p false i false q false s false t =
+          rw (p, i, q, s, t)
+          (accepts (fine-means entries p) (ltb-false 201 count i) (bytes-meant entries p) (ltb-false 1008 size q) (none s) (ltb-false room size t))
 
-    -- AND NO OTHER ANSWER HAS IT, nor does another content of the buffer.
-    none-lowest : ((m k : ℕ) → Condition entries most m k → ⊥) → 11 ≡ lowest
-    none-lowest none =
-        lowest-number (appliesUpTo most entries) 11 (length entries) 11 0
-        (record {
-          within = omega arith;
-          lower = λ m j l h. false-unless (appliesUpTo most entries m j) (λ t. none m j (named entries j h m t));
-          inside = λ h. absurd (omega arith);
-          holds = λ h. absurd (omega arith);
-          earlier = λ h. absurd (omega arith);
-        })
+  -- AND NO OTHER ANSWER HAS IT, nor does another content of the buffer.
+  none-lowest : ((m k : ℕ) → Condition entries m k → ⊥) → 10 ≡ lowest
+  none-lowest none =
+      lowest-number (appliesTo entries) 10 (length entries) 10 0
+      (record {
+        within = omega arith;
+        lower = λ m j l h. false-unless (appliesTo entries m j) (λ t. none m j (named entries j h m t));
+        inside = λ h. absurd (omega arith);
+        holds = λ h. absurd (omega arith);
+        earlier = λ h. absurd (omega arith);
+      })
 
-    abbrev Only : Written → List ℕ → Type 0
-    Only w new = (w ≡ written) × (new ≡ contentAfter written (loopBytes entries) old)
+  abbrev Only : Written → List ℕ → Type 0
+  Only w new = (w ≡ written) × (new ≡ contentAfter written (loopBytes entries) old)
 
-    refused : {r : Refusal} → written ≡ Refused r → Only (Refused r) old
-    refused e = (sym e, sym (ap (λ (w : Written). contentAfter w (loopBytes entries) old) e))
+  refused : {r : Refusal} → written ≡ Refused r → Only (Refused r) old
+  refused e = (sym e, sym (ap (λ (w : Written). contentAfter w (loopBytes entries) old) e))
 
-    pub answer-only : {w : Written} {new : List ℕ} → AnswersUpTo most count array old w new → Only w new
-    answer-only (too-wide s) = refused (rw (wide-test entries s))
-    answer-only (too-many each h) = refused (rw (fine-test entries each, lt-ltb 201 count h))
-    answer-only (too-long each bytes h) =
-        let large : 1008 < size = rw (bytes-only bytes) at h in
-        refused (rw (fine-test entries each, either-right (ltb 201 count) (ltb 1008 size) (lt-ltb 1008 size large)))
-    answer-only (refuses {refusal = refusal} each few bytes long at-k lower earlier) =
-        let n : ℕ = numberOf refusal in
-        let k : ℕ = placeOf refusal in
-        let short : size ≤ 1008 = rw (bytes-only bytes) at long in
-        let here : k < length entries = inside entries at-k in
-        let found : Lowest (appliesUpTo most entries) 11 (length entries) n k =
-        record {
-          within = omega (arith, numbers entries at-k);
-          lower = λ m j l h. false-unless (appliesUpTo most entries m j) (λ t. lower m j l (named entries j h m t));
-          inside = λ h. here;
-          holds = λ h. tested entries at-k;
-          earlier = λ h j l. false-unless (appliesUpTo most entries n j) (λ t. earlier j l (named entries j (omega arith) n t));
-        } in
-        let is-lowest : n ≡ lowest = lowest-number (appliesUpTo most entries) 11 (length entries) n k found in
-        let is-place : k ≡ earliestPlace (appliesUpTo most entries) n (length entries) =
-        earliest-place (appliesUpTo most entries) 11 (length entries) n k found (numbers entries at-k) in
-        refused
-        (rw (fine-test entries each, le-ltb 201 count few, le-ltb 1008 size short, ← is-lowest, lt-ltb n 11 (numbers entries at-k), ← is-place)
-        (ap (λ (r : Refusal). Refused r) (named-refusal refusal (numbers entries at-k))))
-    answer-only (no-room each few bytes long none h) =
-        let short : size ≤ 1008 = rw (bytes-only bytes) at long in
-        let large : room < size = rw (bytes-only bytes) at h in
-        refused (rw (fine-test entries each, le-ltb 201 count few, le-ltb 1008 size short, ← none-lowest none, lt-ltb room size large))
-    answer-only (accepts {bytes} each few is-bytes long none h) =
-        let same : bytes ≡ loopBytes entries = bytes-only is-bytes in
-        let short : size ≤ 1008 = rw same at long in
-        let enough : size ≤ room = rw same at h in
-        let e : written ≡ Bytes size =
-        rw (fine-test entries each, le-ltb 201 count few, le-ltb 1008 size short, ← none-lowest none, le-ltb room size enough) in (
-          ap (λ (l : List ℕ). Bytes (length l)) same ∙ sym e,
-          ap (λ (l : List ℕ). l ++ drop (length l) old) same ∙ sym (ap (λ (w : Written). contentAfter w (loopBytes entries) old) e),
-        )
+  pub answer-only : {w : Written} {new : List ℕ} → Answers count array old w new → Only w new
+  answer-only (too-wide s) = refused (rw (wide-test entries s))
+  answer-only (too-many each h) = refused (rw (fine-test entries each, lt-ltb 201 count h))
+  answer-only (too-long each bytes h) =
+      let large : 1008 < size = rw (bytes-only bytes) at h in
+      refused (rw (fine-test entries each, either-right (ltb 201 count) (ltb 1008 size) (lt-ltb 1008 size large)))
+  answer-only (refuses {refusal = refusal} each few bytes long at-k lower earlier) =
+      let n : ℕ = numberOf refusal in
+      let k : ℕ = placeOf refusal in
+      let short : size ≤ 1008 = rw (bytes-only bytes) at long in
+      let here : k < length entries = inside entries at-k in
+      let found : Lowest (appliesTo entries) 10 (length entries) n k =
+      record {
+        within = omega (arith, numbers entries at-k);
+        lower = λ m j l h. false-unless (appliesTo entries m j) (λ t. lower m j l (named entries j h m t));
+        inside = λ h. here;
+        holds = λ h. tested entries at-k;
+        earlier = λ h j l. false-unless (appliesTo entries n j) (λ t. earlier j l (named entries j (omega arith) n t));
+      } in
+      let is-lowest : n ≡ lowest = lowest-number (appliesTo entries) 10 (length entries) n k found in
+      let is-place : k ≡ earliestPlace (appliesTo entries) n (length entries) =
+      earliest-place (appliesTo entries) 10 (length entries) n k found (numbers entries at-k) in
+      refused
+      (rw (fine-test entries each, le-ltb 201 count few, le-ltb 1008 size short, ← is-lowest, lt-ltb n 10 (numbers entries at-k), ← is-place)
+      (ap (λ (r : Refusal). Refused r) (named-refusal refusal (numbers entries at-k))))
+  answer-only (no-room each few bytes long none h) =
+      let short : size ≤ 1008 = rw (bytes-only bytes) at long in
+      let large : room < size = rw (bytes-only bytes) at h in
+      refused (rw (fine-test entries each, le-ltb 201 count few, le-ltb 1008 size short, ← none-lowest none, lt-ltb room size large))
+  answer-only (accepts {bytes} each few is-bytes long none h) =
+      let same : bytes ≡ loopBytes entries = bytes-only is-bytes in
+      let short : size ≤ 1008 = rw same at long in
+      let enough : size ≤ room = rw same at h in
+      let e : written ≡ Bytes size =
+      rw (fine-test entries each, le-ltb 201 count few, le-ltb 1008 size short, ← none-lowest none, le-ltb room size enough) in (
+        ap (λ (l : List ℕ). Bytes (length l)) same ∙ sym e,
+        ap (λ (l : List ℕ). l ++ drop (length l) old) same ∙ sym (ap (λ (w : Written). contentAfter w (loopBytes entries) old) e),
+      )

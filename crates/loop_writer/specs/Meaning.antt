@@ -14,8 +14,7 @@ use Rattle.vocabulary.specs.declared.refusal.Refusal.{Refusal}
 use Rattle.vocabulary.specs.declared.refusal.Refusal.the-variants.{LoopTooLong, NoRoom, TooWide}
 use Rattle.vocabulary.specs.Refusals.{numberOf, placeOf}
 use Rattle.descriptors.specs.Records.{isLayer, indexOf, recordTables}
-use Rattle.judging.specs.Judging.{mostEmbedded}
-use Rattle.judging.specs.Meaning.{TypeNotAllowed, WrongFlags, WrongEmbedded, TooManyEmbedded}
+use Rattle.judging.specs.Meaning.{TypeNotAllowed, WrongFlags, WrongEmbedded}
 use Rattle.es_loop.specs.declared.entries.Entry.{Entry}
 use Rattle.loop_writer.specs.Layout.{entryHeadTable, entryTables}
 use Rattle.loop_writer.specs.declared.writer.Written.{Written}
@@ -38,46 +37,40 @@ pub data SomeTooWide (entries : List Entry) : Type 0 where
 abbrev pub EachFits : List Entry → Type 0
 EachFits entries = (k i : ℕ) (e : Entry) (f : Filled) → Nth entries k e → Nth (entryTables e) i f → Fit (f .table) (valuesIn f)
 
--- The table 'Refusal numbers', 3 and 6 to 10: the condition of each number, and the entry that is its place. `most` is the greatest number of embedded
--- layers, 8 in that table.
+-- The table 'Refusal numbers', 3 and 6 to 9: the condition of each number, and the entry that is its place.
 module _ (entries : List Entry) where
-  pub data Condition (most : ℕ) : ℕ → ℕ → Type 0 where
+  pub data Condition : ℕ → ℕ → Type 0 where
     -- 3: a PID seen in an earlier entry
-    pid-seen : {j k : ℕ} {e e′ : Entry} → j < k → Nth entries j e → Nth entries k e′ → e .pid ≡ e′ .pid → Condition most 3 k
+    pid-seen : {j k : ℕ} {e e′ : Entry} → j < k → Nth entries j e → Nth entries k e′ → e .pid ≡ e′ .pid → Condition 3 k
     -- 6: type not allowed on this stream, or an extension on 0x1B, 0x1F, 0x20; also a record on a stream type the 2015 reading doesn't know
-    type-wrong : {k : ℕ} {e : Entry} → Nth entries k e → TypeNotAllowed (e .«stream_type») (e .«record») → Condition most 6 k
+    type-wrong : {k : ℕ} {e : Entry} → Nth entries k e → TypeNotAllowed (e .«stream_type») (e .«record») → Condition 6 k
     -- 7: type 9 with a flag at 0, or more than one flag at 0 and type not 8
-    flags-wrong : {k : ℕ} {e : Entry} → Nth entries k e → WrongFlags (e .«record») → Condition most 7 k
+    flags-wrong : {k : ℕ} {e : Entry} → Nth entries k e → WrongFlags (e .«record») → Condition 7 k
     -- 8: a layer index held by an earlier layer
     index-held : {j k : ℕ} {e e′ : Entry} → j < k → Nth entries j e → Nth entries k e′ → isLayer (e .«record») ≡ true → isLayer (e′ .«record») ≡ true
-        → indexOf (e .«record») ≡ indexOf (e′ .«record») → Condition most 8 k
+        → indexOf (e .«record») ≡ indexOf (e′ .«record») → Condition 8 k
     -- 9: an embedded index not below the layer's own, or listed twice
-    embedded-wrong : {k : ℕ} {e : Entry} → Nth entries k e → WrongEmbedded (e .«record») (e .embedded) → Condition most 9 k
-    -- 10: more embedded layers than the most that there may be
-    embedded-many : {k : ℕ} {e : Entry} → Nth entries k e → TooManyEmbedded most (e .«record») → Condition most 10 k
+    embedded-wrong : {k : ℕ} {e : Entry} → Nth entries k e → WrongEmbedded (e .«record») (e .embedded) → Condition 9 k
 
 -- The answer, and what the buffer then holds, where the entries are the first `count` of the array: on a refusal what it held, and on acceptance the
 -- bytes, and beyond them what it held.
-pub data AnswersUpTo (most count : ℕ) (array : List Entry) (old : List ℕ) : Written → List ℕ → Type 0 where
+pub data Answers (count : ℕ) (array : List Entry) (old : List ℕ) : Written → List ℕ → Type 0 where
   -- 25 before all else
-  too-wide : SomeTooWide (take count array) → AnswersUpTo most count array old (Refused TooWide) old
+  too-wide : SomeTooWide (take count array) → Answers count array old (Refused TooWide) old
   -- 1: more entries than 1,008 bytes can hold, or more bytes
-  too-many : EachFits (take count array) → 201 < count → AnswersUpTo most count array old (Refused LoopTooLong) old
+  too-many : EachFits (take count array) → 201 < count → Answers count array old (Refused LoopTooLong) old
   too-long : {bytes : List ℕ} → EachFits (take count array) → WritesEntries (take count array) bytes → 1008 < length bytes
-      → AnswersUpTo most count array old (Refused LoopTooLong) old
+      → Answers count array old (Refused LoopTooLong) old
   -- the lowest number that applies, at its earliest place
   refuses : {bytes : List ℕ} {refusal : Refusal} → EachFits (take count array) → count ≤ 201 → WritesEntries (take count array) bytes → length bytes ≤ 1008
-      → Condition (take count array) most (numberOf refusal) (placeOf refusal)
-      → ((m j : ℕ) → m < numberOf refusal → Condition (take count array) most m j → ⊥)
-      → ((j : ℕ) → j < placeOf refusal → Condition (take count array) most (numberOf refusal) j → ⊥)
-      → AnswersUpTo most count array old (Refused refusal) old
+      → Condition (take count array) (numberOf refusal) (placeOf refusal)
+      → ((m j : ℕ) → m < numberOf refusal → Condition (take count array) m j → ⊥)
+      → ((j : ℕ) → j < placeOf refusal → Condition (take count array) (numberOf refusal) j → ⊥)
+      → Answers count array old (Refused refusal) old
   -- 17: output room too small
   no-room : {bytes : List ℕ} → EachFits (take count array) → count ≤ 201 → WritesEntries (take count array) bytes → length bytes ≤ 1008
-      → ((n k : ℕ) → Condition (take count array) most n k → ⊥) → length old < length bytes → AnswersUpTo most count array old (Refused NoRoom) old
+      → ((n k : ℕ) → Condition (take count array) n k → ⊥) → length old < length bytes → Answers count array old (Refused NoRoom) old
   -- the number of bytes written
   accepts : {bytes : List ℕ} → EachFits (take count array) → count ≤ 201 → WritesEntries (take count array) bytes → length bytes ≤ 1008
-      → ((n k : ℕ) → Condition (take count array) most n k → ⊥) → length bytes ≤ length old
-      → AnswersUpTo most count array old (Bytes (length bytes)) (bytes ++ drop (length bytes) old)
-
-abbrev pub Answers : ℕ → List Entry → List ℕ → Written → List ℕ → Type 0
-Answers count array old written new = AnswersUpTo mostEmbedded count array old written new
+      → ((n k : ℕ) → Condition (take count array) n k → ⊥) → length bytes ≤ length old
+      → Answers count array old (Bytes (length bytes)) (bytes ++ drop (length bytes) old)

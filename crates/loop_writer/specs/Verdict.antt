@@ -4,7 +4,6 @@
 use Prim.Native.Nat.{ℕ}
 use mathlib.Core.Bool.{Bool, true, false}
 use mathlib.Core.List.{List, map}
-use Rattle.judging.specs.Judging.{mostEmbedded}
 use Rattle.es_loop.specs.declared.entries.Entry.{Entry}
 use Rattle.es_loop.specs.declared.entries.Stream.{Stream}
 use Rattle.es_loop.specs.Conditions.{applies}
@@ -25,8 +24,5 @@ streamFor e =
       };
     }
 
-abbrev pub appliesUpTo : ℕ → List Entry → ℕ → ℕ → Bool
-appliesUpTo most entries number k = applies most (map streamFor entries) number k
-
 abbrev pub appliesTo : List Entry → ℕ → ℕ → Bool
-appliesTo entries number k = appliesUpTo mostEmbedded entries number k
+appliesTo entries number k = applies (map streamFor entries) number k

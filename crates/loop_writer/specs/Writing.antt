@@ -11,8 +11,7 @@ use Rattle.vocabulary.specs.declared.refusal.Refusal.the-variants.{LoopTooLong,
 use Rattle.es_loop.specs.declared.entries.Entry.{Entry}
 use Rattle.es_loop.specs.Conditions.{refusalOf}
 use Rattle.loop_writer.specs.Layout.{loopBytes, tooWide}
-use Rattle.judging.specs.Judging.{mostEmbedded}
-use Rattle.loop_writer.specs.Verdict.{appliesUpTo}
+use Rattle.loop_writer.specs.Verdict.{appliesTo}
 use Rattle.loop_writer.specs.declared.writer.Written.{Written}
 use Rattle.loop_writer.specs.declared.writer.Written.the-variants.{Bytes, Refused}
 
@@ -20,24 +19,20 @@ use Rattle.loop_writer.specs.declared.writer.Written.the-variants.{Bytes
 abbrev pub inRoom : ℕ → ℕ → Written
 inRoom room size = cond (ltb room size) (Refused NoRoom) (Bytes size)
 
-module _ (most : ℕ) where
-  -- The lowest of 3 and 6 to 10 that applies, at its earliest place, then 17.
-  abbrev pub judgedIn : ℕ → List Entry → Written
-  judgedIn room entries =
-      let number : ℕ = lowestNumber (appliesUpTo most entries) 11 (length entries) in
-      cond (ltb number 11) (Refused (refusalOf number (earliestPlace (appliesUpTo most entries) number (length entries))))
-      (inRoom room (length (loopBytes entries)))
+-- The lowest of 3 and 6 to 9 that applies, at its earliest place, then 17.
+abbrev pub judgedIn : ℕ → List Entry → Written
+judgedIn room entries =
+    let number : ℕ = lowestNumber (appliesTo entries) 10 (length entries) in
+    cond (ltb number 10) (Refused (refusalOf number (earliestPlace (appliesTo entries) number (length entries))))
+    (inRoom room (length (loopBytes entries)))
 
-  -- The entries are the first `count` of the array. Its 201 places are as many entries as 1,008 bytes can hold, so a greater count is of a loop
-  -- that would be longer than that. 'Writers test 25 before all else'; then 1 is the lowest number.
-  abbrev pub answerUpTo : ℕ → ℕ → List Entry → Written
-  answerUpTo room count array =
-      cond (any tooWide (take count array)) (Refused TooWide)
-      (cond (ltb 201 count || ltb 1008 (length (loopBytes (take count array)))) (Refused LoopTooLong)
-      (judgedIn room (take count array)))
-
+-- The entries are the first `count` of the array. Its 201 places are as many entries as 1,008 bytes can hold, so a greater count is of a loop
+-- that would be longer than that. 'Writers test 25 before all else'; then 1 is the lowest number.
 abbrev pub answer : ℕ → ℕ → List Entry → Written
-answer room count array = answerUpTo mostEmbedded room count array
+answer room count array =
+    cond (any tooWide (take count array)) (Refused TooWide)
+    (cond (ltb 201 count || ltb 1008 (length (loopBytes (take count array)))) (Refused LoopTooLong)
+    (judgedIn room (take count array)))
 
 -- 'every output buffer is untouched. On acceptance the room beyond what was written is untouched too.'
 abbrev pub contentAfter : Written → List ℕ → List ℕ → List ℕ

@@ -1,4 +1,4 @@
-// The lowest of 3 and 6 to 10 that applies to the entries of a loop that is to be written, and its earliest place: they are judged by the step by which
+// The lowest of 3 and 6 to 9 that applies to the entries of a loop that is to be written, and its earliest place: they are judged by the step by which
 // a loop is read.
 ghost use mathlib.Core.Path.{_≡_};
 ghost use mathlib.Core.Bool.{false};
@@ -39,11 +39,11 @@ fn stream_for(entry: Entry) -> Stream
     }
 }
 
-// The first `count` entries, none with a value that is too wide. Number 11, at place 0, says that none applies.
+// The first `count` entries, none with a value that is too wide. Number 10, at place 0, says that none applies.
 pub fn lowest_of(count: usize, entries: [Entry; MOST_ENTRIES]) -> Fault
     requires { ⌜ (count ≤ 201) × (any tooWide (take count entries) ≡ false) ⌝ }
-    ensures { λ r. ⌜ Lowest (appliesTo (take count entries)) 11 (length (take count entries)) (r .number) (r .place) ⌝ }
-    ensures { λ r. ⌜ (11 ≤ r .number → r .place ≡ 0) ⌝ }
+    ensures { λ r. ⌜ Lowest (appliesTo (take count entries)) 10 (length (take count entries)) (r .number) (r .place) ⌝ }
+    ensures { λ r. ⌜ (10 ≤ r .number → r .place ≡ 0) ⌝ }
 {
     let mut pids = no_pids();
     let mut indices = no_indices();

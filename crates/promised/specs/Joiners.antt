@@ -225,7 +225,7 @@ rowsJoinedComputed =
 pub rows-joined : Promised joinRows
 rows-joined = promised rowsJoinedComputed
 
--- ---- `importing::import`: 1 to 17
+-- ---- `importing::import`: 1 to 9, 11 to 17
 
 pub record ImportGiven : Type 0 where
   pub reading : Reading

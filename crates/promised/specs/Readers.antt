@@ -16,7 +16,6 @@ use Rattle.es_loop.proofs.read_loop.Kinds as read-loop-kinds
 use Rattle.es_loop.proofs.read_loop.Reads as read-loop
 use Rattle.combinators.specs.Members.{member}
 use Rattle.framing.specs.Pieces.{Item}
-use Rattle.judging.specs.Judging.{mostEmbedded}
 use Rattle.es_loop.specs.Meaning as Loop
 use Rattle.es_loop.proofs.Meant as loop
 use Rattle.closure.specs.declared.Layers.{Layers}
@@ -42,7 +41,7 @@ use Rattle.pes_reader.proofs.MeaningLaws as times
 use Rattle.promised.specs.Calls.{Run, Call, isListed, Promised}
 use Rattle.promised.specs.Shown.{Computed, promised, listed-first}
 
--- ---- `es_loop::read_loop`: 'Loop reading uses 1 to 10'
+-- ---- `es_loop::read_loop`: loop reading uses 1 to 9
 
 pub record LoopGiven : Type 0 where
   pub reading : Reading
@@ -66,12 +65,12 @@ readLoop =
       before = λ given. tt;
       after = λ run. tt;
       numberIn = λ answer. outcomeNumber (answer .outcome);
-      numbers = 1 ∷ 2 ∷ 3 ∷ 4 ∷ 5 ∷ 6 ∷ 7 ∷ 8 ∷ 9 ∷ 10 ∷ [];
+      numbers = 1 ∷ 2 ∷ 3 ∷ 4 ∷ 5 ∷ 6 ∷ 7 ∷ 8 ∷ 9 ∷ [];
       Means = λ given answer buffers. Loop.Answers (given .reading) (given .bytes) answer;
     }
 
 -- the number of a condition is one of the list
-condition-listed : {reading : Reading} {entries : List Item} {most n k : ℕ} → Loop.Condition reading entries most n k → member n (readLoop .numbers) ≡ true
+condition-listed : {reading : Reading} {entries : List Item} {n k : ℕ} → Loop.Condition reading entries n k → member n (readLoop .numbers) ≡ true
 condition-listed (Loop.entry-unfit e) = refl
 condition-listed (Loop.descriptor-unfit a b c) = refl
 condition-listed (Loop.pid-seen a b c d) = refl
@@ -81,7 +80,6 @@ condition-listed (Loop.type-wrong a b) = refl
 condition-listed (Loop.flags-wrong a b) = refl
 condition-listed (Loop.index-held a b c d) = refl
 condition-listed (Loop.embedded-wrong a b) = refl
-condition-listed (Loop.embedded-many a b) = refl
 
 pub read-listed : {reading : Reading} {bytes : List ℕ} {answer : LoopRead} → Loop.Answers reading bytes answer
     → isListed (readLoop .numbers) (outcomeNumber (answer .outcome)) ≡ true
@@ -94,9 +92,9 @@ loopReadComputed =
     record {
       asks-nothing = λ run. tt;
       ensured = λ run e. (e, refl);
-      right = λ given. loop.answer-meant mostEmbedded (given .reading) (given .bytes);
-      nothing-else = λ given means. (loop.answer-only mostEmbedded (given .reading) (given .bytes) means, refl);
-      listed = λ given. read-listed (loop.answer-meant mostEmbedded (given .reading) (given .bytes));
+      right = λ given. loop.answer-meant (given .reading) (given .bytes);
+      nothing-else = λ given means. (loop.answer-only (given .reading) (given .bytes) means, refl);
+      listed = λ given. read-listed (loop.answer-meant (given .reading) (given .bytes));
       untouched = λ given number e. refl;
     }
 
@@ -151,7 +149,7 @@ closureComputed =
 pub closure-found : Promised closureOfTarget
 closure-found = promised closureComputed
 
--- ---- `loop_layers::closure_of_loop`: 1 to 12
+-- ---- `loop_layers::closure_of_loop`: 1 to 9, 11, 12
 
 pub record LoopTargetGiven : Type 0 where
   pub reading : Reading

@@ -16,7 +16,6 @@ use Rattle.loop_writer.specs.Writing.{answer, contentAfter, content}
 use Rattle.loop_writer.proofs.write_loop.Kinds as write-loop-kinds
 use Rattle.loop_writer.proofs.write_loop.Reads as write-loop
 use Rattle.combinators.specs.Members.{member}
-use Rattle.judging.specs.Judging.{mostEmbedded}
 use Rattle.loop_writer.specs.Meaning as Loop
 use Rattle.loop_writer.proofs.Meant as loop
 use Rattle.stamps.specs.declared.Times.{Times as HeaderTimes}
@@ -30,7 +29,7 @@ use Rattle.pes_writer.proofs.OwnShapeLaws as times
 use Rattle.promised.specs.Calls.{Run, Call, isListed, Promised}
 use Rattle.promised.specs.Shown.{Computed, promised, not-refused}
 
--- ---- `loop_writer::write_loop`: 'The loop writer .. uses 1, 3, 6 to 10 .., 17, 25'
+-- ---- `loop_writer::write_loop`: the loop writer uses 1, 3, 6 to 9, 17, 25
 
 pub record EntriesGiven : Type 0 where
   pub count : ℕ
@@ -55,18 +54,17 @@ writeLoop =
       before = λ given. given .out;
       after = λ run. now (run .left .1 .1 .0);
       numberIn = writtenNumber;
-      numbers = 1 ∷ 3 ∷ 6 ∷ 7 ∷ 8 ∷ 9 ∷ 10 ∷ 17 ∷ 25 ∷ [];
+      numbers = 1 ∷ 3 ∷ 6 ∷ 7 ∷ 8 ∷ 9 ∷ 17 ∷ 25 ∷ [];
       Means = λ given written after. Loop.Answers (given .count) (given .array) (given .out) written after;
     }
 
 -- the number of a condition is one of the list
-condition-listed : {entries : List Entry} {most n k : ℕ} → Loop.Condition entries most n k → member n (writeLoop .numbers) ≡ true
+condition-listed : {entries : List Entry} {n k : ℕ} → Loop.Condition entries n k → member n (writeLoop .numbers) ≡ true
 condition-listed (Loop.pid-seen a b c d) = refl
 condition-listed (Loop.type-wrong a b) = refl
 condition-listed (Loop.flags-wrong a b) = refl
 condition-listed (Loop.index-held a b c d e f) = refl
 condition-listed (Loop.embedded-wrong a b) = refl
-condition-listed (Loop.embedded-many a b) = refl
 
 written-listed : {count : ℕ} {array : List Entry} {out after : List ℕ} {written : Written} → Loop.Answers count array out written after
     → isListed (writeLoop .numbers) (writtenNumber written) ≡ true
@@ -87,9 +85,9 @@ loopWrittenComputed =
     record {
       asks-nothing = λ run. tt;
       ensured = λ run e. e;
-      right = λ given. loop.answer-meant mostEmbedded (given .count) (given .array) (given .out);
-      nothing-else = λ given means. loop.answer-only mostEmbedded (given .count) (given .array) (given .out) means;
-      listed = λ given. written-listed (loop.answer-meant mostEmbedded (given .count) (given .array) (given .out));
+      right = λ given. loop.answer-meant (given .count) (given .array) (given .out);
+      nothing-else = λ given means. loop.answer-only (given .count) (given .array) (given .out) means;
+      listed = λ given. written-listed (loop.answer-meant (given .count) (given .array) (given .out));
       untouched = λ given number e. written-untouched (answer (length (given .out)) (given .count) (given .array))
           (loopBytes (take (given .count) (given .array))) (given .out) number e;
     }

@@ -13,7 +13,6 @@ use lib.Seq.{take-suc, take-at, length-take-le}
 use Rattle.combinators.specs.Padding.{padTo, store-padTo}
 use Rattle.vocabulary.specs.declared.refusal.Refusal.the-variants.{NoRoom, TooWide}
 use Rattle.vocabulary.specs.declared.stream_types.Reading.{Reading}
-use Rattle.judging.specs.Judging.{mostEmbedded}
 use Rattle.es_loop.specs.declared.entries.Entry.{Entry}
 use Rattle.es_loop.specs.declared.entries.Stream.{Stream}
 use Rattle.es_loop.specs.declared.verdict.Verdict.the-variants.{Entries}
@@ -57,10 +56,10 @@ module _ (count : ℕ) (given : List Entry) (as-many : length given ≡ count) (
 -- how many entries an accepted loop has
 module _ (reading : Reading) (bytes : List ℕ) (count : ℕ) (judged : verdictOf reading bytes ≡ Entries count) where
   pub counted : count ≡ length (streamsOf reading bytes)
-  counted = sound mostEmbedded reading bytes count judged .counted
+  counted = sound reading bytes count judged .counted
 
   pub few-counted : count ≤ 1008
-  few-counted = omega (arith, counted, few-streams reading bytes, sound mostEmbedded reading bytes count judged .short)
+  few-counted = omega (arith, counted, few-streams reading bytes, sound reading bytes count judged .short)
 
 -- what a loop answers by its verdict, laid in: the entries in their array are those of its streams
 pub laid-accepted : (streams : List Stream) (count : ℕ) (buffer : List ℕ) → count ≡ length streams

@@ -21,7 +21,7 @@ use Rattle.sets.specs.Sets.{has, size}
 use Rattle.clock.specs.Clock.{isBefore}
 use Rattle.vocabulary.specs.declared.stream_types.Reading.{Reading}
 use Rattle.vocabulary.specs.declared.refusal.Refusal.{Refusal}
-use Rattle.vocabulary.specs.declared.refusal.Refusal.the-variants.{LoopTooLong, DoesNotFit, RepeatedPid, WrongLength, SecondRecord, TypeNotAllowed, WrongFlags, RepeatedLayerIndex, WrongEmbeddedIndex, TooManyEmbedded, NoSuchLayer, EmbeddedLayerAbsent, OutOfRange, TimeOrderBroken, Unpaired, UsedTwice, NoRoom, NotVideoHeader, NoPts, FieldsDoNotFit, WrongMarker, PtsBeforeDts, TooWide}
+use Rattle.vocabulary.specs.declared.refusal.Refusal.the-variants.{LoopTooLong, DoesNotFit, RepeatedPid, WrongLength, SecondRecord, TypeNotAllowed, WrongFlags, RepeatedLayerIndex, WrongEmbeddedIndex, NoSuchLayer, EmbeddedLayerAbsent, OutOfRange, TimeOrderBroken, Unpaired, UsedTwice, NoRoom, NotVideoHeader, NoPts, FieldsDoNotFit, WrongMarker, PtsBeforeDts, TooWide}
 use Rattle.vocabulary.specs.Refusals.{numberOf, placeOf}
 use Rattle.stamps.specs.declared.Stamps.{Stamps}
 use Rattle.stamps.specs.declared.Times.{Times}
@@ -49,7 +49,6 @@ use Rattle.es_loop.specs.declared.reader.Outcome.the-variants.{Accepted, Refuse
 use Rattle.es_loop.specs.declared.reader.LoopRead.{LoopRead}
 use Rattle.es_loop.specs.Entries.{esInfoLength, streamOf, streamsOf}
 use Rattle.es_loop.specs.Conditions.{applies, refusalOf}
-use Rattle.judging.specs.Judging.{mostEmbedded}
 use Rattle.es_loop.specs.declared.verdict.Verdict.{Verdict as LoopVerdict}
 use Rattle.es_loop.specs.declared.verdict.Verdict.the-variants.{Entries, Refused as Refuses}
 use Rattle.es_loop.specs.Reading.{judged, answerBy, loopRead}
@@ -87,7 +86,6 @@ number-small (TypeNotAllowed entry) = omega arith
 number-small (WrongFlags entry) = omega arith
 number-small (RepeatedLayerIndex entry) = omega arith
 number-small (WrongEmbeddedIndex entry) = omega arith
-number-small (TooManyEmbedded entry) = omega arith
 number-small NoSuchLayer = omega arith
 number-small (EmbeddedLayerAbsent index) = omega arith
 number-small (OutOfRange row) = omega arith
@@ -198,17 +196,17 @@ SmallLoop read = SmallOutcome (read .outcome) × (read .count ≤ 32768)
 abbrev SmallBy : List Stream → LoopVerdict → Type 0
 SmallBy streams verdict = SmallLoop (answerBy streams verdict)
 
-small-entries : (streams : List Stream) → length streams ≤ 1008 → SmallBy streams (judged mostEmbedded streams)
+small-entries : (streams : List Stream) → length streams ≤ 1008 → SmallBy streams (judged streams)
 small-entries streams h =
-    let lowest : ℕ = lowestNumber (applies mostEmbedded streams) 11 (length streams) in
-    let place : ℕ = earliestPlace (applies mostEmbedded streams) lowest (length streams) in
-    let within = seek-first (applies mostEmbedded streams lowest) (length streams) .within in
+    let lowest : ℕ = lowestNumber (applies streams) 10 (length streams) in
+    let place : ℕ = earliestPlace (applies streams) lowest (length streams) in
+    let within = seek-first (applies streams lowest) (length streams) .within in
     let at = refusal-place lowest place in
-    either-way (SmallBy streams) (ltb lowest 11) (Refuses (refusalOf lowest place)) (Entries (length streams)) (omega arith, omega arith) (tt, omega arith)
+    either-way (SmallBy streams) (ltb lowest 10) (Refuses (refusalOf lowest place)) (Entries (length streams)) (omega arith, omega arith) (tt, omega arith)
 
 pub small-loop : (reading : Reading) (bytes : List ℕ) → SmallLoop (loopRead reading bytes)
 small-loop reading bytes =
-    or-else (SmallBy (streamsOf reading bytes)) (ltb 1008 (length bytes)) (Refuses LoopTooLong) (judged mostEmbedded (streamsOf reading bytes)) (omega arith, omega arith)
+    or-else (SmallBy (streamsOf reading bytes)) (ltb 1008 (length bytes)) (Refuses LoopTooLong) (judged (streamsOf reading bytes)) (omega arith, omega arith)
     (λ e. small-entries (streamsOf reading bytes) (omega (arith, few-streams reading bytes, ltb-false 1008 (length bytes) e)))
 
 abbrev pub SmallWritten : Written → Type 0
@@ -218,13 +216,13 @@ SmallWritten (NotWritten refusal) = Placed refusal
 pub small-written : (room count : ℕ) (array : List Entry) → SmallWritten (answer room count array)
 small-written room count array =
     let entries : List Entry = take count array in
-    let lowest : ℕ = lowestNumber (appliesTo entries) 11 (length entries) in
+    let lowest : ℕ = lowestNumber (appliesTo entries) 10 (length entries) in
     let place : ℕ = earliestPlace (appliesTo entries) lowest (length entries) in
     let within = seek-first (appliesTo entries lowest) (length entries) .within in
     let at = refusal-place lowest place in
     or-else SmallWritten (any tooWide entries) (NotWritten TooWide) _ (omega arith) (λ fine.
-    or-else SmallWritten (ltb 201 count || ltb 1008 (length (loopBytes entries))) (NotWritten LoopTooLong) (judgedIn mostEmbedded room entries) (omega arith) (λ short.
-    either-way SmallWritten (ltb lowest 11) (NotWritten (refusalOf lowest place)) (inRoom room (length (loopBytes entries)))
+    or-else SmallWritten (ltb 201 count || ltb 1008 (length (loopBytes entries))) (NotWritten LoopTooLong) (judgedIn room entries) (omega arith) (λ short.
+    either-way SmallWritten (ltb lowest 10) (NotWritten (refusalOf lowest place)) (inRoom room (length (loopBytes entries)))
     (omega (arith, length-take count array, ltb-false 201 count (neither-left (ltb 201 count) (ltb 1008 (length (loopBytes entries))) short)))
     (either-way SmallWritten (ltb room (length (loopBytes entries))) (NotWritten NoRoom) (Bytes (length (loopBytes entries))) (omega arith)
     (omega (arith, ltb-false 1008 (length (loopBytes entries)) (neither-right (ltb 201 count) (ltb 1008 (length (loopBytes entries))) short))))))

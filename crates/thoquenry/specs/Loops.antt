@@ -31,7 +31,7 @@ abbrev pub entriesLaid : ℕ → List Entry → List ℕ → Reply
 entriesLaid count entries buffer =
     cond (ltb (length buffer) (length entries * 80)) (unchanged NoRoom buffer) (reply (accepted count) (over (rowsOf entries) buffer))
 
--- 'Refusals: 1 to 10, at an entry', before it
+-- 'Refusals: 1 to 9, at an entry', before it
 abbrev pub loopLaid : Outcome → ℕ → List Entry → List ℕ → Reply
 loopLaid Accepted count entries buffer = entriesLaid count entries buffer
 loopLaid (Refused refusal) count entries buffer = unchanged refusal buffer
@@ -54,7 +54,7 @@ loopWritten (Bytes count) = accepted count
 loopWritten (NotWritten refusal) = refused refusal
 
 -- 'Refusals: 25 first, where a value is too wide for its field, a `record` above 2 and a flag above 1 among them; then 1, which more than 201
--- entries give too; then 3 and 6 to 10, at an entry; then 17.'
+-- entries give too; then 3 and 6 to 9, at an entry; then 17.'
 abbrev pub writeLoop : List ℕ → List ℕ → Reply
 writeLoop numbers out =
     cond (someTooWide numbers) (unchanged TooWide out)
@@ -62,7 +62,7 @@ writeLoop numbers out =
 
 -- ---- thq_closure
 
--- '`set` receives one number, whose bit i is 1 when layer index i is one of them. Counts the layers. Refusals: 1 to 12; then 17 where `set_length` is 0.'
+-- '`set` receives one number, whose bit i is 1 when layer index i is one of them. Counts the layers. Refusals: 1 to 9, 11, 12; then 17 where `set_length` is 0.'
 abbrev pub closureLaid : Closure → List ℕ → Reply
 closureLaid (Complete members) set =
     cond (ltb (length set) 1) (unchanged NoRoom set) (reply (accepted (size members)) (over (members ∷ []) set))

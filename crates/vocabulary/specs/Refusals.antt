@@ -2,7 +2,7 @@
 -- Assumes nothing.
 use Prim.Native.Nat.{ℕ}
 use Rattle.vocabulary.specs.declared.refusal.Refusal.{Refusal}
-use Rattle.vocabulary.specs.declared.refusal.Refusal.the-variants.{LoopTooLong, DoesNotFit, RepeatedPid, WrongLength, SecondRecord, TypeNotAllowed, WrongFlags, RepeatedLayerIndex, WrongEmbeddedIndex, TooManyEmbedded, NoSuchLayer, EmbeddedLayerAbsent, OutOfRange, TimeOrderBroken, Unpaired, UsedTwice, NoRoom, NotVideoHeader, NoPts, FieldsDoNotFit, WrongMarker, PtsBeforeDts, TooWide}
+use Rattle.vocabulary.specs.declared.refusal.Refusal.the-variants.{LoopTooLong, DoesNotFit, RepeatedPid, WrongLength, SecondRecord, TypeNotAllowed, WrongFlags, RepeatedLayerIndex, WrongEmbeddedIndex, NoSuchLayer, EmbeddedLayerAbsent, OutOfRange, TimeOrderBroken, Unpaired, UsedTwice, NoRoom, NotVideoHeader, NoPts, FieldsDoNotFit, WrongMarker, PtsBeforeDts, TooWide}
 
 -- the column 'No.'
 abbrev pub numberOf : Refusal → ℕ
@@ -15,7 +15,6 @@ numberOf (TypeNotAllowed entry) = 6
 numberOf (WrongFlags entry) = 7
 numberOf (RepeatedLayerIndex entry) = 8
 numberOf (WrongEmbeddedIndex entry) = 9
-numberOf (TooManyEmbedded entry) = 10
 numberOf NoSuchLayer = 11
 numberOf (EmbeddedLayerAbsent index) = 12
 numberOf (OutOfRange row) = 13
@@ -41,7 +40,6 @@ placeOf (TypeNotAllowed entry) = entry
 placeOf (WrongFlags entry) = entry
 placeOf (RepeatedLayerIndex entry) = entry
 placeOf (WrongEmbeddedIndex entry) = entry
-placeOf (TooManyEmbedded entry) = entry
 placeOf NoSuchLayer = 0
 placeOf (EmbeddedLayerAbsent index) = index .0
 placeOf (OutOfRange row) = row

@@ -77,6 +77,23 @@ pub fn two_below(first: u8, second: u8) -> Below {
     Below { count: 2, layers }
 }
 
+// Layers 0 to 11.
+pub fn twelve_below() -> Below {
+    let mut layers = no_layers();
+    layers[1] = LayerIndex(1);
+    layers[2] = LayerIndex(2);
+    layers[3] = LayerIndex(3);
+    layers[4] = LayerIndex(4);
+    layers[5] = LayerIndex(5);
+    layers[6] = LayerIndex(6);
+    layers[7] = LayerIndex(7);
+    layers[8] = LayerIndex(8);
+    layers[9] = LayerIndex(9);
+    layers[10] = LayerIndex(10);
+    layers[11] = LayerIndex(11);
+    Below { count: 12, layers }
+}
+
 pub fn extension(
     stream_type: u8,
     pid: u16,
@@ -104,4 +121,9 @@ pub fn extension(
         record: Record::Extension(record),
         embedded,
     }
+}
+
+// A further view of HEVC: its nuh_layer_id and its channel are its index.
+pub fn view(pid: u16, index: u8, below: Below) -> Entry {
+    extension(0x28, pid, 1, index, 0, index, false, index, below)
 }

@@ -7,7 +7,9 @@ use entries::above;
 use entries::base;
 use entries::enhancement;
 use entries::extension;
+use entries::twelve_below;
 use entries::two_below;
+use entries::view;
 use es_loop::Entry;
 use es_loop::blank_entries;
 
@@ -52,6 +54,25 @@ fn mv_hevc() {
     write(b"mv-hevc", 6, list);
 }
 
+// A base view, eleven views that each rest on it, and a layer that rests on all twelve.
+fn twelve() {
+    let mut list = blank_entries();
+    list[0] = base(0x24, 0x100);
+    list[1] = view(0x101, 1, above(0));
+    list[2] = view(0x102, 2, above(0));
+    list[3] = view(0x103, 3, above(0));
+    list[4] = view(0x104, 4, above(0));
+    list[5] = view(0x105, 5, above(0));
+    list[6] = view(0x106, 6, above(0));
+    list[7] = view(0x107, 7, above(0));
+    list[8] = view(0x108, 8, above(0));
+    list[9] = view(0x109, 9, above(0));
+    list[10] = view(0x10A, 10, above(0));
+    list[11] = view(0x10B, 11, above(0));
+    list[12] = view(0x10C, 12, twelve_below());
+    write(b"twelve", 13, list);
+}
+
 // An enhancement that rests on a layer which is not in the loop: that is no fault of the loop.
 fn absent() {
     let mut list = blank_entries();
@@ -72,6 +93,7 @@ fn main() {
     loop_a();
     mvc();
     mv_hevc();
+    twelve();
     absent();
     refused();
 }

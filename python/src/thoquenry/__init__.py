@@ -23,7 +23,7 @@ __all__ = [
     "Component", "Entry", "Extension", "Header", "Hierarchy", "Number", "Reading", "Refused", "Row", "Times", "Units",
     "closure", "import_", "join", "read_loop", "read_times", "write_loop", "write_times",
 ]
-__version__ = "0.2.0"
+__version__ = "0.3.0"
 
 _LIBRARY = load()
 
@@ -228,7 +228,7 @@ def _entry(entries, at: int) -> Entry:
 
 
 def read_loop(reading: Reading, loop: bytes) -> List[Entry]:
-    """Reads a loop: every entry, in loop order. Refusals: 1 to 10."""
+    """Reads a loop: every entry, in loop order. Refusals: 1 to 9."""
     given, length = _loop(loop)
     entries, room = _room(c_uint16, min(length, _LOOP_BYTES) // _ENTRY_BYTES * _ENTRY_NUMBERS)
     count = _accepted(_LIBRARY.thq_read_loop(_year(reading), given, length, entries, room))
@@ -236,7 +236,7 @@ def read_loop(reading: Reading, loop: bytes) -> List[Entry]:
 
 
 def write_loop(entries: Iterable[Entry]) -> bytes:
-    """Writes a loop, by the 2015 reading's rules. Refusals: 25; then 1, 3, 6 to 10."""
+    """Writes a loop, by the 2015 reading's rules. Refusals: 25; then 1, 3, 6 to 9."""
     left = iter(entries)
     written = _written(islice(left, _ENTRIES + 1))
     # One entry too many is here, and the answer is 1, unless a later value is too wide (25): those are looked at piece by piece, and not kept.
@@ -286,7 +286,7 @@ def join(layers: Mapping[int, Iterable[int]], target: int, rows: Iterable[Row]) 
 
 
 def import_(reading: Reading, loop: bytes, target: int, rows: Iterable[Row]) -> Units:
-    """The whole import: the layers of a loop's bytes, and the rows joined over them. Refusals: 1 to 12; then 13 to 16."""
+    """The whole import: the layers of a loop's bytes, and the rows joined over them. Refusals: 1 to 9, 11, 12; then 13 to 16."""
     return _joined(_LIBRARY.thq_import, (_year(reading), *_loop(loop), _number(target, 64)), rows)
 
 

@@ -11,7 +11,7 @@
 compile_error!("libthoquenry is for x86-64 Linux");
 
 /// The version of the header that these are the declarations of; [`thq_version`] gives the library's.
-pub const THQ_VERSION_NUMBER: u64 = 200;
+pub const THQ_VERSION_NUMBER: u64 = 300;
 
 /// The readings.
 pub const THQ_2009: u64 = 2009;
@@ -27,7 +27,6 @@ pub const THQ_REFUSED_TYPE_NOT_ALLOWED: u64 = 6;
 pub const THQ_REFUSED_WRONG_FLAGS: u64 = 7;
 pub const THQ_REFUSED_REPEATED_LAYER_INDEX: u64 = 8;
 pub const THQ_REFUSED_WRONG_EMBEDDED_INDEX: u64 = 9;
-pub const THQ_REFUSED_TOO_MANY_EMBEDDED: u64 = 10;
 pub const THQ_REFUSED_NO_SUCH_LAYER: u64 = 11;
 pub const THQ_REFUSED_EMBEDDED_LAYER_ABSENT: u64 = 12;
 pub const THQ_REFUSED_OUT_OF_RANGE: u64 = 13;

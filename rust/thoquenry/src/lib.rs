@@ -127,7 +127,7 @@ fn accepted(answer: u64) -> Result<usize, Refusal> {
     }))
 }
 
-/// Reads a loop: every entry, in loop order. Refusals: 1 to 10.
+/// Reads a loop: every entry, in loop order. Refusals: 1 to 9.
 pub fn read_loop(reading: Reading, bytes: &[u8]) -> Result<Vec<Entry>, Refusal> {
     let most = bytes.len().min(LOOP_BYTES) / ENTRY_BYTES;
     let mut numbers = vec![0; most * THQ_ENTRY_NUMBERS];
@@ -146,7 +146,7 @@ pub fn read_loop(reading: Reading, bytes: &[u8]) -> Result<Vec<Entry>, Refusal> 
     Ok(rows.map(Entry::of_numbers).collect())
 }
 
-/// Writes a loop, by the 2015 reading's rules. Refusals: 25; then 1, 3, 6 to 10.
+/// Writes a loop, by the 2015 reading's rules. Refusals: 25; then 1, 3, 6 to 9.
 pub fn write_loop(entries: &[Entry]) -> Result<Vec<u8>, Refusal> {
     let numbers: Vec<u16> = entries.iter().flat_map(Entry::to_numbers).collect();
     let mut out = vec![0; LOOP_BYTES];
@@ -243,7 +243,7 @@ pub fn join(layers: &Layers, target: LayerIndex, rows: &[Row]) -> Result<Units, 
     })
 }
 
-/// The whole import: the layers of a loop's bytes, and the rows joined over them. Refusals: 1 to 12; then 13 to 16.
+/// The whole import: the layers of a loop's bytes, and the rows joined over them. Refusals: 1 to 9, 11, 12; then 13 to 16.
 pub fn import(
     reading: Reading,
     bytes: &[u8],

@@ -123,11 +123,6 @@ refusals! {
         /// The entry, from 0.
         entry: usize
     },
-    /// 10: entry {} has more than 8 embedded layers.
-    10 TooManyEmbedded {
-        /// The entry, from 0.
-        entry: usize
-    },
     /// 11: there is no layer with the target index.
     11 NoSuchLayer,
     /// 12: layer index {} is in the closure, and its layer is not in the loop.

@@ -170,8 +170,12 @@ fn a_list_longer_than_its_count_can_say_is_too_wide() {
     };
     assert_eq!(with_list(64), Err(Refusal::TooWide));
     assert_eq!(with_list(255), Err(Refusal::TooWide));
-    assert_eq!(with_list(63), Err(Refusal::TooManyEmbedded { entry: 2 }));
-    assert!(with_list(8).is_ok());
+    for length in [8, 9, 12, 62, 63] {
+        let bytes = with_list(length).unwrap();
+        assert_eq!(bytes.len(), 11 + 11 + 14 + usize::from(length));
+        let read = read_loop(Reading::Edition2015, &bytes).unwrap();
+        assert_eq!(write_loop(&read).unwrap(), bytes);
+    }
 }
 
 #[test]
@@ -317,13 +321,13 @@ fn headers() {
 #[test]
 fn every_number_has_its_name_and_its_words() {
     let listed: Vec<u8> = (0..=255).filter(|&n| Refusal::of(n, 0).is_some()).collect();
-    let expected: Vec<u8> = (1..=17).chain(20..=25).collect();
+    let expected: Vec<u8> = (1..=9).chain(11..=17).chain(20..=25).collect();
     assert_eq!(listed, expected);
     let mut shown = Vec::new();
     for number in listed {
         let refusal = Refusal::of(number, 7).unwrap();
         assert_eq!(refusal.number(), number);
-        let placed = (2..=10).contains(&number) || (12..=16).contains(&number);
+        let placed = (2..=9).contains(&number) || (12..=16).contains(&number);
         assert_eq!(refusal.place(), if placed { 7 } else { 0 });
         let words = refusal.words();
         assert!(!words.contains("{}"));

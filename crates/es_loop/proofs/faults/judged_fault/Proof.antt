@@ -26,14 +26,8 @@ wrong-embedded-requires c κs = search needs
 returns-4 : tie.Need-returns-4
 returns-4 c = rw (sym (c .before .before .before .before .before .before .type-not-allowed .ensures) ∙ c .before .before .before .before .before .if1 .left, sym (c .before .before .before .before .wrong-flags .ensures) ∙ c .before .before .before .if2 .left, c .before .before .if3 .left, sym (c .before .wrong-embedded .ensures) ∙ c .if4 .taken)
 
-too-many-embedded-requires : tie.Need-too-many-embedded-requires
-too-many-embedded-requires c κs = search needs
-
 returns-5 : tie.Need-returns-5
-returns-5 c = rw (sym (c .before .before .before .before .before .before .before .before .type-not-allowed .ensures) ∙ c .before .before .before .before .before .before .before .if1 .left, sym (c .before .before .before .before .before .before .wrong-flags .ensures) ∙ c .before .before .before .before .before .if2 .left, c .before .before .before .before .if3 .left, sym (c .before .before .before .wrong-embedded .ensures) ∙ c .before .before .if4 .left, sym (c .before .too-many-embedded .ensures) ∙ c .if5 .taken)
-
-returns-6 : tie.Need-returns-6
-returns-6 c = rw (sym (c .before .before .before .before .before .before .before .before .type-not-allowed .ensures) ∙ c .before .before .before .before .before .before .before .if1 .left, sym (c .before .before .before .before .before .before .wrong-flags .ensures) ∙ c .before .before .before .before .before .if2 .left, c .before .before .before .before .if3 .left, sym (c .before .before .before .wrong-embedded .ensures) ∙ c .before .before .if4 .left, sym (c .before .too-many-embedded .ensures) ∙ c .if5 .left)
+returns-5 c = rw (sym (c .before .before .before .before .before .before .type-not-allowed .ensures) ∙ c .before .before .before .before .before .if1 .left, sym (c .before .before .before .before .wrong-flags .ensures) ∙ c .before .before .before .if2 .left, c .before .before .if3 .left, sym (c .before .wrong-embedded .ensures) ∙ c .if4 .left)
 
 pub judged-fault-spec : {M : Type 1} → statement M
 judged-fault-spec =
@@ -46,6 +40,4 @@ judged-fault-spec =
     returns-3
     wrong-embedded-requires
     returns-4
-    too-many-embedded-requires
-    returns-5
-    returns-6)
+    returns-5)

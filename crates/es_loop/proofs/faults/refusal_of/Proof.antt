@@ -9,19 +9,18 @@ use Rattle.es_loop.proofs.faults.refusal_of.Statement.{statement}
 use Rattle.es_loop.proofs.faults.refusal_of.Tie as tie
 
 -- a number that is none of these has no refusal of its own
-other : (n place : ℕ) → n ≢ 2 → n ≢ 3 → n ≢ 4 → n ≢ 5 → n ≢ 6 → n ≢ 7 → n ≢ 8 → n ≢ 9 → n ≢ 10 → refusalOf n place ≡ LoopTooLong
-other zero place a b c d e f g h i = refl
-other (suc zero) place a b c d e f g h i = refl
-other (suc (suc zero)) place a b c d e f g h i = absurd (a refl)
-other (suc (suc (suc zero))) place a b c d e f g h i = absurd (b refl)
-other (suc (suc (suc (suc zero)))) place a b c d e f g h i = absurd (c refl)
-other (suc (suc (suc (suc (suc zero))))) place a b c d e f g h i = absurd (d refl)
-other (suc (suc (suc (suc (suc (suc zero)))))) place a b c d e f g h i = absurd (e refl)
-other (suc (suc (suc (suc (suc (suc (suc zero))))))) place a b c d e f g h i = absurd (f refl)
-other (suc (suc (suc (suc (suc (suc (suc (suc zero)))))))) place a b c d e f g h i = absurd (g refl)
-other (suc (suc (suc (suc (suc (suc (suc (suc (suc zero))))))))) place a b c d e f g h i = absurd (h refl)
-other (suc (suc (suc (suc (suc (suc (suc (suc (suc (suc zero)))))))))) place a b c d e f g h i = absurd (i refl)
-other (suc (suc (suc (suc (suc (suc (suc (suc (suc (suc (suc n))))))))))) place a b c d e f g h i = refl
+other : (n place : ℕ) → n ≢ 2 → n ≢ 3 → n ≢ 4 → n ≢ 5 → n ≢ 6 → n ≢ 7 → n ≢ 8 → n ≢ 9 → refusalOf n place ≡ LoopTooLong
+other zero place a b c d e f g h = refl
+other (suc zero) place a b c d e f g h = refl
+other (suc (suc zero)) place a b c d e f g h = absurd (a refl)
+other (suc (suc (suc zero))) place a b c d e f g h = absurd (b refl)
+other (suc (suc (suc (suc zero)))) place a b c d e f g h = absurd (c refl)
+other (suc (suc (suc (suc (suc zero))))) place a b c d e f g h = absurd (d refl)
+other (suc (suc (suc (suc (suc (suc zero)))))) place a b c d e f g h = absurd (e refl)
+other (suc (suc (suc (suc (suc (suc (suc zero))))))) place a b c d e f g h = absurd (f refl)
+other (suc (suc (suc (suc (suc (suc (suc (suc zero)))))))) place a b c d e f g h = absurd (g refl)
+other (suc (suc (suc (suc (suc (suc (suc (suc (suc zero))))))))) place a b c d e f g h = absurd (h refl)
+other (suc (suc (suc (suc (suc (suc (suc (suc (suc (suc n)))))))))) place a b c d e f g h = refl
 
 returns : tie.Need-returns
 returns c = sym (ap (λ (n : ℕ). refusalOf n (c .before .args .place)) (c .match .keys1))
@@ -48,13 +47,10 @@ returns-8 : tie.Need-returns-8
 returns-8 c = sym (ap (λ (n : ℕ). refusalOf n (c .before .args .place)) (c .match .keys8))
 
 returns-9 : tie.Need-returns-9
-returns-9 c = sym (ap (λ (n : ℕ). refusalOf n (c .before .args .place)) (c .match .keys9))
-
-returns-10 : tie.Need-returns-10
-returns-10 c =
+returns-9 c =
     let a = c .before .args in
     let r = c .match .rest in
-    sym (other (a .number) (a .place) (r .0 .0 .0 .0 .0 .0 .0 .0 .1) (r .0 .0 .0 .0 .0 .0 .0 .1) (r .0 .0 .0 .0 .0 .0 .1) (r .0 .0 .0 .0 .0 .1) (r .0 .0 .0 .0 .1) (r .0 .0 .0 .1) (r .0 .0 .1) (r .0 .1) (r .1))
+    sym (other (a .number) (a .place) (r .0 .0 .0 .0 .0 .0 .0 .1) (r .0 .0 .0 .0 .0 .0 .1) (r .0 .0 .0 .0 .0 .1) (r .0 .0 .0 .0 .1) (r .0 .0 .0 .1) (r .0 .0 .1) (r .0 .1) (r .1))
 
 pub refusal-of-spec : {M : Type 1} → statement M
 refusal-of-spec =
@@ -68,5 +64,4 @@ refusal-of-spec =
     returns-6
     returns-7
     returns-8
-    returns-9
-    returns-10)
+    returns-9)

@@ -7,7 +7,6 @@ use mathlib.Core.List.{List}
 use lib.ListN.{length, take, set}
 use lib.Seq.{length-take-le, take-all}
 use Rattle.combinators.specs.Padding.{store-map}
-use Rattle.judging.specs.Judging.{mostEmbedded}
 use Rattle.es_loop.specs.declared.entries.Entry.{Entry}
 use Rattle.es_loop.specs.declared.entries.Stream.{Stream}
 use Rattle.es_loop.specs.Entries.{noStream, blankEntry, streamsOf, entryOf, entriesOf}
@@ -54,11 +53,11 @@ slice-aggregate-read-stream c =
     let size = c .before .entry-size .result in
     let is-size = c .before .entry-size .ensures in
     let long = left-long (a .reading) bytes (loop .at) in
-    let accepted = sound mostEmbedded (a .reading) bytes _ (start .pre) in
+    let accepted = sound (a .reading) bytes _ (start .pre) in
     let short = accepted .short in
     let spaced = cursor .spaced in
     let large : 5 ≤ size = size-5 (a .reading) bytes (loop .count) (loop .at) cursor more size is-size in
-    let room : size ≤ length (leftAt (a .reading) bytes (loop .at)) = size-fits (a .reading) bytes mostEmbedded _ accepted (loop .count) (loop .at) cursor more size is-size in
+    let room : size ≤ length (leftAt (a .reading) bytes (loop .at)) = size-fits (a .reading) bytes _ accepted (loop .count) (loop .at) cursor more size is-size in
     sym (length-take-le size (leftAt (a .reading) bytes (loop .at)) room)
 
 read-stream-requires : tie.Need-read-stream-requires Inv-loop μ-loop
@@ -72,11 +71,11 @@ read-stream-requires c κs =
     let size = c .before .entry-size .result in
     let is-size = c .before .entry-size .ensures in
     let long = left-long (a .reading) bytes (loop .at) in
-    let accepted = sound mostEmbedded (a .reading) bytes _ (start .pre) in
+    let accepted = sound (a .reading) bytes _ (start .pre) in
     let short = accepted .short in
     let spaced = cursor .spaced in
     let large : 5 ≤ size = size-5 (a .reading) bytes (loop .count) (loop .at) cursor more size is-size in
-    let room : size ≤ length (leftAt (a .reading) bytes (loop .at)) = size-fits (a .reading) bytes mostEmbedded _ accepted (loop .count) (loop .at) cursor more size is-size in
+    let room : size ≤ length (leftAt (a .reading) bytes (loop .at)) = size-fits (a .reading) bytes _ accepted (loop .count) (loop .at) cursor more size is-size in
     rw (length-take-le size (leftAt (a .reading) bytes (loop .at)) room) large
 
 entry-of-requires : tie.Need-entry-of-requires Inv-loop μ-loop
@@ -93,11 +92,11 @@ mul-entries c =
     let size = c .before .before .before .entry-size .result in
     let is-size = c .before .before .before .entry-size .ensures in
     let long = left-long (a .reading) bytes (loop .at) in
-    let accepted = sound mostEmbedded (a .reading) bytes _ (start .pre) in
+    let accepted = sound (a .reading) bytes _ (start .pre) in
     let short = accepted .short in
     let spaced = cursor .spaced in
     let large : 5 ≤ size = size-5 (a .reading) bytes (loop .count) (loop .at) cursor more size is-size in
-    let room : size ≤ length (leftAt (a .reading) bytes (loop .at)) = size-fits (a .reading) bytes mostEmbedded _ accepted (loop .count) (loop .at) cursor more size is-size in
+    let room : size ≤ length (leftAt (a .reading) bytes (loop .at)) = size-fits (a .reading) bytes _ accepted (loop .count) (loop .at) cursor more size is-size in
     omega arith
 
 array-set-from-entries : tie.Need-array-set-from-entries Inv-loop μ-loop
@@ -111,11 +110,11 @@ array-set-from-entries c =
     let size = c .before .before .before .entry-size .result in
     let is-size = c .before .before .before .entry-size .ensures in
     let long = left-long (a .reading) bytes (loop .at) in
-    let accepted = sound mostEmbedded (a .reading) bytes _ (start .pre) in
+    let accepted = sound (a .reading) bytes _ (start .pre) in
     let short = accepted .short in
     let spaced = cursor .spaced in
     let large : 5 ≤ size = size-5 (a .reading) bytes (loop .count) (loop .at) cursor more size is-size in
-    let room : size ≤ length (leftAt (a .reading) bytes (loop .at)) = size-fits (a .reading) bytes mostEmbedded _ accepted (loop .count) (loop .at) cursor more size is-size in
+    let room : size ≤ length (leftAt (a .reading) bytes (loop .at)) = size-fits (a .reading) bytes _ accepted (loop .count) (loop .at) cursor more size is-size in
     omega arith
 
 add-count : tie.Need-add-count Inv-loop μ-loop
@@ -129,11 +128,11 @@ add-count c =
     let size = c .before .before .before .entry-size .result in
     let is-size = c .before .before .before .entry-size .ensures in
     let long = left-long (a .reading) bytes (loop .at) in
-    let accepted = sound mostEmbedded (a .reading) bytes _ (start .pre) in
+    let accepted = sound (a .reading) bytes _ (start .pre) in
     let short = accepted .short in
     let spaced = cursor .spaced in
     let large : 5 ≤ size = size-5 (a .reading) bytes (loop .count) (loop .at) cursor more size is-size in
-    let room : size ≤ length (leftAt (a .reading) bytes (loop .at)) = size-fits (a .reading) bytes mostEmbedded _ accepted (loop .count) (loop .at) cursor more size is-size in
+    let room : size ≤ length (leftAt (a .reading) bytes (loop .at)) = size-fits (a .reading) bytes _ accepted (loop .count) (loop .at) cursor more size is-size in
     omega arith
 
 add-at : tie.Need-add-at Inv-loop μ-loop
@@ -147,11 +146,11 @@ add-at c =
     let size = c .before .before .before .entry-size .result in
     let is-size = c .before .before .before .entry-size .ensures in
     let long = left-long (a .reading) bytes (loop .at) in
-    let accepted = sound mostEmbedded (a .reading) bytes _ (start .pre) in
+    let accepted = sound (a .reading) bytes _ (start .pre) in
     let short = accepted .short in
     let spaced = cursor .spaced in
     let large : 5 ≤ size = size-5 (a .reading) bytes (loop .count) (loop .at) cursor more size is-size in
-    let room : size ≤ length (leftAt (a .reading) bytes (loop .at)) = size-fits (a .reading) bytes mostEmbedded _ accepted (loop .count) (loop .at) cursor more size is-size in
+    let room : size ≤ length (leftAt (a .reading) bytes (loop .at)) = size-fits (a .reading) bytes _ accepted (loop .count) (loop .at) cursor more size is-size in
     omega arith
 
 loop-less : tie.Need-loop-less Inv-loop μ-loop
@@ -165,11 +164,11 @@ loop-less c =
     let size = c .before .before .before .entry-size .result in
     let is-size = c .before .before .before .entry-size .ensures in
     let long = left-long (a .reading) bytes (loop .at) in
-    let accepted = sound mostEmbedded (a .reading) bytes _ (start .pre) in
+    let accepted = sound (a .reading) bytes _ (start .pre) in
     let short = accepted .short in
     let spaced = cursor .spaced in
     let large : 5 ≤ size = size-5 (a .reading) bytes (loop .count) (loop .at) cursor more size is-size in
-    let room : size ≤ length (leftAt (a .reading) bytes (loop .at)) = size-fits (a .reading) bytes mostEmbedded _ accepted (loop .count) (loop .at) cursor more size is-size in
+    let room : size ≤ length (leftAt (a .reading) bytes (loop .at)) = size-fits (a .reading) bytes _ accepted (loop .count) (loop .at) cursor more size is-size in
     omega arith
 
 loop-again : tie.Need-loop-again Inv-loop μ-loop
@@ -183,11 +182,11 @@ loop-again c =
     let size = c .before .before .before .entry-size .result in
     let is-size = c .before .before .before .entry-size .ensures in
     let long = left-long (a .reading) bytes (loop .at) in
-    let accepted = sound mostEmbedded (a .reading) bytes _ (start .pre) in
+    let accepted = sound (a .reading) bytes _ (start .pre) in
     let short = accepted .short in
     let spaced = cursor .spaced in
     let large : 5 ≤ size = size-5 (a .reading) bytes (loop .count) (loop .at) cursor more size is-size in
-    let room : size ≤ length (leftAt (a .reading) bytes (loop .at)) = size-fits (a .reading) bytes mostEmbedded _ accepted (loop .count) (loop .at) cursor more size is-size in
+    let room : size ≤ length (leftAt (a .reading) bytes (loop .at)) = size-fits (a .reading) bytes _ accepted (loop .count) (loop .at) cursor more size is-size in
     let stream = c .before .read-stream .result in
     let is-stream = c .before .read-stream .ensures in
     let all : List Stream = streamsOf (a .reading) bytes in

@@ -3,7 +3,6 @@
 use Prim.Native.Nat.{ℕ}
 use mathlib.Core.Path.{_≡_, _∙_, ap, ap₂, sym}
 use mathlib.Core.List.{List}
-use Rattle.judging.specs.Judging.{mostEmbedded}
 use Rattle.es_loop.specs.declared.entries.Entry.{Entry}
 use Rattle.es_loop.specs.declared.verdict.Verdict.{Verdict}
 use Rattle.es_loop.specs.declared.verdict.Verdict.the-variants.{Entries}
@@ -32,7 +31,7 @@ entries-in-requires c κs =
     let a = c .before .before .before .before .before .args in
     let told = c .before .count .given in
     let verdict = sym (c .before .before .before .judge .ensures) ∙ told .1 in
-    verdict ∙ ap (λ (n : ℕ). Entries n) (sound mostEmbedded (a .reading) (a .bytes .now) (told .0 .0) verdict .counted)
+    verdict ∙ ap (λ (n : ℕ). Entries n) (sound (a .reading) (a .bytes .now) (told .0 .0) verdict .counted)
 
 returns : tie.Need-returns
 returns c =
@@ -46,7 +45,7 @@ returns-2 c =
     let told = c .before .before .count .given in
     let verdict = sym (c .before .before .before .before .judge .ensures) ∙ told .1 in
     ap₂ (λ (n : ℕ) (l : List Entry). record { outcome = Accepted; count = n; entries = l })
-    (sound mostEmbedded (a .reading) (a .bytes .now) (told .0 .0) verdict .counted) (c .entries-in .ensures)
+    (sound (a .reading) (a .bytes .now) (told .0 .0) verdict .counted) (c .entries-in .ensures)
     ∙ ap (answerBy (streamsOf (a .reading) (a .bytes .now))) (sym verdict)
 
 pub read-loop-spec : {M : Type 1} → statement M

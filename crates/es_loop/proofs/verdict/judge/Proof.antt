@@ -5,7 +5,6 @@ use mathlib.Core.Bool.{Bool, cond}
 use borrow.Author.Tests.{lt-ltb, le-ltb}
 use lib.ListN.{length}
 use Rattle.vocabulary.specs.declared.refusal.Refusal.the-variants.{LoopTooLong}
-use Rattle.judging.specs.Judging.{mostEmbedded}
 use Rattle.es_loop.specs.declared.verdict.Verdict.the-variants.{Refused as Refuses}
 use Rattle.es_loop.specs.Entries.{streamsOf}
 use Rattle.es_loop.specs.Reading.{judged}
@@ -16,7 +15,7 @@ use Rattle.es_loop.proofs.verdict.judge.Tie as tie
 returns : tie.Need-returns
 returns c =
     let a = c .before .before .args in
-    sym (ap (λ (b : Bool). cond b (Refuses LoopTooLong) (judged mostEmbedded (streamsOf (a .reading) (a .bytes .now)))) (lt-ltb 1008 (length (a .bytes .now)) (c .if1 .taken)))
+    sym (ap (λ (b : Bool). cond b (Refuses LoopTooLong) (judged (streamsOf (a .reading) (a .bytes .now)))) (lt-ltb 1008 (length (a .bytes .now)) (c .if1 .taken)))
 
 judge-entries-requires : tie.Need-judge-entries-requires
 judge-entries-requires c κs = search needs
@@ -25,7 +24,7 @@ returns-2 : tie.Need-returns-2
 returns-2 c =
     let a = c .before .before .before .args in
     c .judge-entries .ensures
-    ∙ sym (ap (λ (b : Bool). cond b (Refuses LoopTooLong) (judged mostEmbedded (streamsOf (a .reading) (a .bytes .now)))) (le-ltb 1008 (length (a .bytes .now)) (c .before .if1 .left)))
+    ∙ sym (ap (λ (b : Bool). cond b (Refuses LoopTooLong) (judged (streamsOf (a .reading) (a .bytes .now)))) (le-ltb 1008 (length (a .bytes .now)) (c .before .if1 .left)))
 
 pub judge-spec : {M : Type 1} → statement M
 judge-spec = tie.close (tie.spec returns judge-entries-requires returns-2)

@@ -8,7 +8,6 @@ use borrow.Author.Tests.{not-true, not-false}
 use mathlib.Core.Path.{_≡_, _∙_, ap, sym}
 use lib.ListN.{length}
 use lib.Seq.{length-take-le}
-use Rattle.judging.specs.Judging.{mostEmbedded}
 use Rattle.vocabulary.specs.declared.refusal.Refusal.{Refusal}
 use Rattle.es_loop.specs.declared.entries.Stream.{Stream}
 use Rattle.es_loop.specs.declared.verdict.Verdict.the-variants.{Refused as Refuses}
@@ -20,7 +19,7 @@ use Rattle.es_loop.proofs.verdict.judge_entries.Tie as tie
 
 abbrev Inv-loop : tie.InvT-loop
 Inv-loop reading bytes pids₀ indices₀ fault₀ count₀ at₀ pids indices fault count at =
-    Cursor reading bytes count at × Passed mostEmbedded (streamsOf reading bytes) pids indices fault count × (3 ≤ fault .number)
+    Cursor reading bytes count at × Passed (streamsOf reading bytes) pids indices fault count × (3 ≤ fault .number)
 
 abbrev μ-loop : tie.MeasureT-loop
 μ-loop reading bytes pids₀ indices₀ fault₀ count₀ at₀ pids indices fault count at = length bytes - at
@@ -38,7 +37,7 @@ loop-holds : tie.Need-loop-holds Inv-loop μ-loop
 loop-holds c =
     let a = c .before .before .before .before .args in
     rw (c .before .before .no-pids .ensures, c .before .no-indices .ensures, c .no-fault .ensures)
-    (cursor-start (a .reading) (a .bytes .now), passed-start mostEmbedded (streamsOf (a .reading) (a .bytes .now)), omega arith)
+    (cursor-start (a .reading) (a .bytes .now), passed-start (streamsOf (a .reading) (a .bytes .now)), omega arith)
 
 sub-left : tie.Need-sub-left Inv-loop μ-loop
 sub-left c = search needs
@@ -64,7 +63,7 @@ returns c =
     let long = left-long (a .reading) bytes (loop .at) in
     let large : 5 ≤ size = size-5 (a .reading) bytes (loop .count) (loop .at) cursor more size is-size in
     let unfit = no-entry (a .reading) bytes (loop .count) (loop .at) cursor more size is-size (c .if1 .taken) in
-    does-not-fit mostEmbedded (streamsOf (a .reading) bytes) (loop .fault .number) (loop .fault .place) (loop .count) (unfit .0) (unfit .1) (loop .inv .2)
+    does-not-fit (streamsOf (a .reading) bytes) (loop .fault .number) (loop .fault .place) (loop .count) (unfit .0) (unfit .1) (loop .inv .2)
     (loop .inv .1 .lowest)
 
 slice-aggregate-read-stream : tie.Need-slice-aggregate-read-stream Inv-loop μ-loop
@@ -110,7 +109,7 @@ returns-2 c =
     let stream = c .before .before .read-stream .result in
     let is-stream = c .before .before .read-stream .ensures in
     let here = stands-here (a .reading) bytes (loop .count) (loop .at) cursor more size is-size room stream is-stream in
-    does-not-fit mostEmbedded (streamsOf (a .reading) bytes) (loop .fault .number) (loop .fault .place) (loop .count)
+    does-not-fit (streamsOf (a .reading) bytes) (loop .fault .number) (loop .fault .place) (loop .count)
     (inside-here (a .reading) bytes (loop .count) (loop .at) cursor more size is-size room stream is-stream)
     (ap (λ (s : Stream). s .fits) here ∙ not-true (stream .fits) (c .if2 .taken)) (loop .inv .2) (loop .inv .1 .lowest)
 
@@ -193,9 +192,9 @@ loop-again c =
     let small = pid-here (a .reading) bytes (loop .count) (loop .at) cursor more size is-size room stream is-stream in
     let index = next .ensures .0 .1 in (
       next-here (a .reading) bytes (loop .count) (loop .at) cursor more size is-size room stream is-stream,
-      passed-next mostEmbedded all (loop .pids) (loop .indices) (loop .fault) (loop .count) (loop .inv .1) stream here small index (next .result) _ _
+      passed-next all (loop .pids) (loop .indices) (loop .fault) (loop .count) (loop .inv .1) stream here small index (next .result) _ _
           (next .ensures .0 .0) (next .ensures .1 .0) (next .ensures .1 .1),
-      stays-above mostEmbedded all (loop .pids) (loop .indices) (loop .fault) (loop .count) (loop .inv .1) stream here small index
+      stays-above all (loop .pids) (loop .indices) (loop .fault) (loop .count) (loop .inv .1) stream here small index
           (not-false (stream .fits) (c .before .before .before .if2 .left)) (loop .inv .2) (next .result) (next .ensures .0 .0),
     )
 
@@ -207,13 +206,13 @@ returns-3 c =
     let a = c .before .before .before .before .before .before .before .before .before .args in
     let loop = c .before .before .before .before .loop in
     ap (λ (r : Refusal). Refuses r) (c .refusal-of .ensures)
-    ∙ end-refused (a .reading) (a .bytes .now) mostEmbedded (loop .fault) (loop .count) (loop .at) (loop .inv .0) (loop .inv .1 .lowest) (c .before .before .before .loop-test .left) (c .before .if3 .taken)
+    ∙ end-refused (a .reading) (a .bytes .now) (loop .fault) (loop .count) (loop .at) (loop .inv .0) (loop .inv .1 .lowest) (c .before .before .before .loop-test .left) (c .before .if3 .taken)
 
 returns-4 : tie.Need-returns-4 Inv-loop μ-loop
 returns-4 c =
     let a = c .before .before .before .before .before .before .before .before .args in
     let loop = c .before .before .before .loop in
-    end-accepted (a .reading) (a .bytes .now) mostEmbedded (loop .fault) (loop .count) (loop .at) (loop .inv .0) (loop .inv .1 .lowest) (c .before .before .loop-test .left) (c .if3 .left)
+    end-accepted (a .reading) (a .bytes .now) (loop .fault) (loop .count) (loop .at) (loop .inv .0) (loop .inv .1 .lowest) (c .before .before .loop-test .left) (c .if3 .left)
 
 pub judge-entries-spec : {M : Type 1} → statement M
 judge-entries-spec =

@@ -6,7 +6,6 @@ use mathlib.Core.Bool.{Bool, true, false, _&&_}
 use mathlib.Core.List.{List}
 use lib.ListN.{getD, set}
 use Rattle.combinators.specs.Lists.{firstTrue}
-use Rattle.judging.specs.Judging.{mostEmbedded}
 use Rattle.es_loop.specs.Conditions.{conditions, slotOf, lowerOf}
 use native.Mathlib.Omega.{arith}
 use Rattle.es_loop.proofs.Marked.{slot-below}
@@ -49,8 +48,8 @@ returns c =
     let pids : List Bool = a .pids .now in
     let indices : List Bool = a .indices .now in
     let number = c .before .lowest-fault .ensures
-    ∙ ap (λ (i : ℕ). firstTrue (conditions mostEmbedded (getD pids (a .stream .pid) false) (layer .result && getD indices i false) (a .stream))) (slot .ensures .0)
-    ∙ ap (λ (b : Bool). firstTrue (conditions mostEmbedded (getD pids (a .stream .pid) false) (b && getD indices (slotOf (a .stream .seen .«record»)) false) (a .stream))) (layer .ensures) in
+    ∙ ap (λ (i : ℕ). firstTrue (conditions (getD pids (a .stream .pid) false) (layer .result && getD indices i false) (a .stream))) (slot .ensures .0)
+    ∙ ap (λ (b : Bool). firstTrue (conditions (getD pids (a .stream .pid) false) (b && getD indices (slotOf (a .stream .seen .«record»)) false) (a .stream))) (layer .ensures) in
     ((c .lower .ensures ∙ ap (λ (n : ℕ). lowerOf (a .so-far) n (a .place)) number, slot .ensures .1), (refl, ap (λ (i : ℕ). set indices i true) (slot .ensures .0)))
 
 pub judge-next-spec : {M : Type 1} → statement M

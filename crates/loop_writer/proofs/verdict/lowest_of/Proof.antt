@@ -8,7 +8,6 @@ use lib.ListN.{length, take, getD}
 use lib.Seq.{length-take-le, getD-take}
 use Rattle.combinators.specs.Lists.{any-none, getD-nth, getD-map}
 use Rattle.combinators.specs.Lowest.{Lowest}
-use Rattle.judging.specs.Judging.{mostEmbedded}
 use Rattle.descriptors.specs.declared.«record».Record.the-variants.{NoRecord}
 use Rattle.es_loop.specs.declared.entries.Entry.{Entry}
 use Rattle.es_loop.specs.declared.entries.Stream.{Stream}
@@ -27,7 +26,7 @@ abbrev pastEnd : Entry
 pastEnd = record { «stream_type» = 0; pid = 0; «record» = NoRecord; embedded = [] }
 
 abbrev Inv-loop : tie.InvT-loop
-Inv-loop count entries pids₀ indices₀ fault₀ i₀ pids indices fault i = (i ≤ count) × Passed mostEmbedded (map streamFor (take count entries)) pids indices fault i
+Inv-loop count entries pids₀ indices₀ fault₀ i₀ pids indices fault i = (i ≤ count) × Passed (map streamFor (take count entries)) pids indices fault i
 
 abbrev μ-loop : tie.MeasureT-loop
 μ-loop count entries pids₀ indices₀ fault₀ i₀ pids indices fault i = count - i
@@ -44,7 +43,7 @@ no-fault-requires c κs = search needs
 loop-holds : tie.Need-loop-holds Inv-loop μ-loop
 loop-holds c =
     let es : List Entry = take (c .before .before .before .args .count) (c .before .before .before .args .t2) in
-    (omega arith, rw (c .before .before .no-pids .ensures, c .before .no-indices .ensures, c .no-fault .ensures) (passed-start mostEmbedded (map streamFor es)))
+    (omega arith, rw (c .before .before .no-pids .ensures, c .before .no-indices .ensures, c .no-fault .ensures) (passed-start (map streamFor es)))
 
 mul-stream-for : tie.Need-mul-stream-for Inv-loop μ-loop
 mul-stream-for c = omega arith
@@ -90,7 +89,7 @@ loop-again c =
     getD-map streamFor noStream (getD-nth es (loop .i) pastEnd (omega arith)) ∙ ap streamFor (getD-take count array (loop .i) pastEnd (omega arith))
     ∙ sym (stream .ensures) in (
       omega arith,
-      passed-next mostEmbedded (map streamFor es) (loop .pids) (loop .indices) (loop .fault) (loop .i) (loop .inv .1) (stream .result) here small
+      passed-next (map streamFor es) (loop .pids) (loop .indices) (loop .fault) (loop .i) (loop .inv .1) (stream .result) here small
           (next .ensures .0 .1) (next .result) _ _ (next .ensures .0 .0) (next .ensures .1 .0) (next .ensures .1 .1),
     )
 
@@ -100,7 +99,7 @@ returns c =
     let loop = c .before .loop in
     let es : List Entry = take (start .args .count) (start .args .t2) in
     let long : length es ≡ loop .i = length-take-le (start .args .count) (start .args .t2) (omega arith) ∙ omega arith in
-    (subst (λ (n : ℕ). Lowest (appliesTo es) 11 n (loop .fault .number) (loop .fault .place)) (sym long) (loop .inv .1 .lowest), loop .inv .1 .unset)
+    (subst (λ (n : ℕ). Lowest (appliesTo es) 10 n (loop .fault .number) (loop .fault .place)) (sym long) (loop .inv .1 .lowest), loop .inv .1 .unset)
 
 pub lowest-of-spec : {M : Type 1} → statement M
 lowest-of-spec =

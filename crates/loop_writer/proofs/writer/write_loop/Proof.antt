@@ -75,8 +75,8 @@ returns-4 c =
     let size : c .before .before .before .before .before .loop-size .result ≡ length (loopBytes (take (a .count) (a .entries))) =
     c .before .before .before .before .before .loop-size .ensures ∙ ap (λ (l : List Entry). length (loopBytes l)) same in
     let fault = c .before .before .before .lowest-of .result in
-    let lowest : Lowest (appliesTo (take (a .count) (a .entries))) 11 (length (take (a .count) (a .entries))) (fault .number) (fault .place) =
-    subst (λ (l : List Entry). Lowest (appliesTo l) 11 (length l) (fault .number) (fault .place)) same (c .before .before .before .lowest-of .ensures .0) in
+    let lowest : Lowest (appliesTo (take (a .count) (a .entries))) 10 (length (take (a .count) (a .entries))) (fault .number) (fault .place) =
+    subst (λ (l : List Entry). Lowest (appliesTo l) 10 (length l) (fault .number) (fault .place)) same (c .before .before .before .lowest-of .ensures .0) in
     subst (λ (r : Refusal). Promised (a .count) (a .entries) (a .out .now) (Refused r) (a .out .now)) (sym (c .refusal-of .ensures))
     (applies-to-one (a .count) (a .entries) (a .out .now) fine (omega arith) (omega arith) (fault .number) (fault .place) lowest (c .before .if4 .taken))
 
@@ -91,8 +91,8 @@ returns-5 c =
     let size : c .before .before .before .before .before .loop-size .result ≡ length (loopBytes (take (a .count) (a .entries))) =
     c .before .before .before .before .before .loop-size .ensures ∙ ap (λ (l : List Entry). length (loopBytes l)) same in
     let fault = c .before .before .before .lowest-of .result in
-    let lowest : Lowest (appliesTo (take (a .count) (a .entries))) 11 (length (take (a .count) (a .entries))) (fault .number) (fault .place) =
-    subst (λ (l : List Entry). Lowest (appliesTo l) 11 (length l) (fault .number) (fault .place)) same (c .before .before .before .lowest-of .ensures .0) in
+    let lowest : Lowest (appliesTo (take (a .count) (a .entries))) 10 (length (take (a .count) (a .entries))) (fault .number) (fault .place) =
+    subst (λ (l : List Entry). Lowest (appliesTo l) 10 (length l) (fault .number) (fault .place)) same (c .before .before .before .lowest-of .ensures .0) in
     no-room (a .count) (a .entries) (a .out .now) fine (omega arith) (omega arith) (fault .number) (fault .place) lowest (c .before .if4 .left) (omega arith)
 
 put-entries-requires : tie.Need-put-entries-requires
@@ -112,8 +112,8 @@ returns-6 c =
     let size : c .before .before .before .before .before .before .before .before .before .loop-size .result ≡ length (loopBytes (take (a .count) (a .entries))) =
     c .before .before .before .before .before .before .before .before .before .loop-size .ensures ∙ ap (λ (l : List Entry). length (loopBytes l)) same in
     let fault = c .before .before .before .before .before .before .before .lowest-of .result in
-    let lowest : Lowest (appliesTo (take (a .count) (a .entries))) 11 (length (take (a .count) (a .entries))) (fault .number) (fault .place) =
-    subst (λ (l : List Entry). Lowest (appliesTo l) 11 (length l) (fault .number) (fault .place)) same (c .before .before .before .before .before .before .before .lowest-of .ensures .0) in
+    let lowest : Lowest (appliesTo (take (a .count) (a .entries))) 10 (length (take (a .count) (a .entries))) (fault .number) (fault .place) =
+    subst (λ (l : List Entry). Lowest (appliesTo l) 10 (length l) (fault .number) (fault .place)) same (c .before .before .before .before .before .before .before .lowest-of .ensures .0) in
     let laid = c .before .before .put-entries in
     subst (λ (n : ℕ). Promised (a .count) (a .entries) (a .out .now) (Bytes n) (laid .last .0)) (sym size)
     (written (a .count) (a .entries) (a .out .now) fine (omega arith) (omega arith) (fault .number) (fault .place) lowest (c .before .before .before .before .before .if4 .left) (omega arith)

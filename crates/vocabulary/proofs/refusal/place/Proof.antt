@@ -33,17 +33,17 @@ enum-known-refusal-7 c = search needs
 enum-known-refusal-8 : tie.Need-enum-known-refusal-8
 enum-known-refusal-8 c = search needs
 
-enum-known-refusal-9 : tie.Need-enum-known-refusal-9
-enum-known-refusal-9 c = search needs
-
 enum-told-2 : tie.Need-enum-told-2
 enum-told-2 c = search needs
 
-enum-known-refusal-10 : tie.Need-enum-known-refusal-10
-enum-known-refusal-10 c = search needs
+enum-known-refusal-9 : tie.Need-enum-known-refusal-9
+enum-known-refusal-9 c = search needs
 
 cast-result : tie.Need-cast-result
 cast-result c = search needs
+
+enum-known-refusal-10 : tie.Need-enum-known-refusal-10
+enum-known-refusal-10 c = search needs
 
 enum-known-refusal-11 : tie.Need-enum-known-refusal-11
 enum-known-refusal-11 c = search needs
@@ -53,9 +53,6 @@ enum-known-refusal-12 c = search needs
 
 enum-known-refusal-13 : tie.Need-enum-known-refusal-13
 enum-known-refusal-13 c = search needs
-
-enum-known-refusal-14 : tie.Need-enum-known-refusal-14
-enum-known-refusal-14 c = search needs
 
 enum-told-3 : tie.Need-enum-told-3
 enum-told-3 c = search needs
@@ -106,13 +103,13 @@ returns-9 : tie.Need-returns-9
 returns-9 c = sym (ap placeOf (c .before .refusal8 .given .1))
 
 returns-10 : tie.Need-returns-10
-returns-10 c = sym (ap placeOf (c .before .refusal9 .given .1))
+returns-10 c = sym (ap placeOf (c .enum-told2 .given .1))
 
 returns-11 : tie.Need-returns-11
-returns-11 c = sym (ap placeOf (c .enum-told2 .given .1))
+returns-11 c = sym (ap placeOf (c .before .before .refusal9 .given .1))
 
 returns-12 : tie.Need-returns-12
-returns-12 c = sym (ap placeOf (c .before .before .refusal10 .given .1))
+returns-12 c = sym (ap placeOf (c .before .refusal10 .given .1))
 
 returns-13 : tie.Need-returns-13
 returns-13 c = sym (ap placeOf (c .before .refusal11 .given .1))
@@ -124,28 +121,25 @@ returns-15 : tie.Need-returns-15
 returns-15 c = sym (ap placeOf (c .before .refusal13 .given .1))
 
 returns-16 : tie.Need-returns-16
-returns-16 c = sym (ap placeOf (c .before .refusal14 .given .1))
+returns-16 c = sym (ap placeOf (c .enum-told3 .given .1))
 
 returns-17 : tie.Need-returns-17
-returns-17 c = sym (ap placeOf (c .enum-told3 .given .1))
+returns-17 c = sym (ap placeOf (c .enum-told4 .given .1))
 
 returns-18 : tie.Need-returns-18
-returns-18 c = sym (ap placeOf (c .enum-told4 .given .1))
+returns-18 c = sym (ap placeOf (c .enum-told5 .given .1))
 
 returns-19 : tie.Need-returns-19
-returns-19 c = sym (ap placeOf (c .enum-told5 .given .1))
+returns-19 c = sym (ap placeOf (c .enum-told6 .given .1))
 
 returns-20 : tie.Need-returns-20
-returns-20 c = sym (ap placeOf (c .enum-told6 .given .1))
+returns-20 c = sym (ap placeOf (c .enum-told7 .given .1))
 
 returns-21 : tie.Need-returns-21
-returns-21 c = sym (ap placeOf (c .enum-told7 .given .1))
+returns-21 c = sym (ap placeOf (c .enum-told8 .given .1))
 
 returns-22 : tie.Need-returns-22
-returns-22 c = sym (ap placeOf (c .enum-told8 .given .1))
-
-returns-23 : tie.Need-returns-23
-returns-23 c = sym (ap placeOf (c .enum-told9 .given .1))
+returns-22 c = sym (ap placeOf (c .enum-told9 .given .1))
 
 pub place-spec : {M : Type 1} → statement M
 place-spec =
@@ -160,14 +154,13 @@ place-spec =
     enum-known-refusal-6
     enum-known-refusal-7
     enum-known-refusal-8
-    enum-known-refusal-9
     enum-told-2
-    enum-known-refusal-10
+    enum-known-refusal-9
     cast-result
+    enum-known-refusal-10
     enum-known-refusal-11
     enum-known-refusal-12
     enum-known-refusal-13
-    enum-known-refusal-14
     enum-told-3
     enum-told-4
     enum-told-5
@@ -196,5 +189,4 @@ place-spec =
     returns-19
     returns-20
     returns-21
-    returns-22
-    returns-23)
+    returns-22)

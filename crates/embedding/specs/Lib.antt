@@ -1,0 +1,4 @@
+pub mod Before
+pub mod ReadingBefore
+pub mod WritingBefore
+pub mod Changed
