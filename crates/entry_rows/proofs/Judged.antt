@@ -9,17 +9,15 @@ use native.Mathlib.Numerals.{add-one}
 use native.Mathlib.Omega.{arith}
 use borrow.Author.Tests.{not-false, lt-ltb, le-ltb, ltb-false}
 use lib.Dec.{eqb, ltb}
-use lib.ListN.{length, getD, set, take, drop, length-append}
+use lib.ListN.{length, getD, take, drop, length-append}
 use Rattle.combinators.specs.Bools.{both-right, neither-left, neither-right, either-left, either-right}
 use Rattle.combinators.specs.Lists.{any}
-use Rattle.combinators.specs.Padding.{padTo, store-padTo}
 use Rattle.syntax.specs.Table.{Table, fits}
 use Rattle.syntax.proofs.Laws.{fits-fit}
 use Rattle.syntax.proofs.Equations.{bounds}
 use Rattle.vocabulary.specs.declared.stream_types.Reading.the-variants.{Edition2015}
 use Rattle.descriptors.specs.Hierarchy.{hierarchyDescriptor}
 use Rattle.descriptors.specs.Extension.{extensionHead}
-use Rattle.es_loop.specs.Entries.{blankEntry}
 use Rattle.entry_rows.specs.Rows.{kindIn, fieldsIn, listIn, recordTable, entryTable, tooWideFor, layerTooWide, rowTooWide, entryIn, rowAt, entriesBelow}
 
 module _ (row : List ℕ) where
@@ -92,10 +90,3 @@ pub length-entries : (numbers : List ℕ) (n : ℕ) → length (entriesBelow num
 length-entries numbers zero = refl
 length-entries numbers (suc n) =
     length-append (entriesBelow numbers n) (entryIn (rowAt numbers n) ∷ []) ∙ ap (λ (k : ℕ). k + 1) (length-entries numbers n) ∙ add-one n
-
--- one entry more
-pub store-entry : (numbers : List ℕ) (i : ℕ) → i < 201
-    → set (padTo 201 blankEntry (entriesBelow numbers i)) i (entryIn (rowAt numbers i)) ≡ padTo 201 blankEntry (entriesBelow numbers (i + 1))
-store-entry numbers i h =
-    store-padTo 201 blankEntry (entryIn (rowAt numbers i)) (entriesBelow numbers i) i (length-entries numbers i) h
-    ∙ ap (λ (n : ℕ). padTo 201 blankEntry (entriesBelow numbers n)) (sym (add-one i))

@@ -1,5 +1,6 @@
 pub mod Widths
 pub mod Fits
+pub mod Given
 pub mod Judged
 pub mod Laws
 pub mod Stored

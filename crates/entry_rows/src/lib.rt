@@ -1,8 +1,10 @@
 // The entries of a loop as rows of 80 numbers of 16 bits each, for callers who have numbers and slices alone; include/thoquenry.h has the layout.
-// `laying` lays the rows of a loop into a buffer, and `taking` judges rows and makes entries of them.
+// `laying` lays the rows of a loop into a buffer; `taking` judges rows and makes an entry of each, and `writing` writes a loop from them. No list of
+// entries stands between the rows and the bytes.
 mod laying;
 mod taking;
+mod writing;
 
 pub use laying::put_rows;
-pub use taking::entries_of;
 pub use taking::some_too_wide;
+pub use writing::write_rows;

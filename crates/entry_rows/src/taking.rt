@@ -10,13 +10,11 @@ ghost use Rattle.combinators.specs.Padding.{padTo};
 ghost use Rattle.vocabulary.specs.declared.stream_types.Reading.the-variants.{Edition2015};
 ghost use Rattle.descriptors.specs.Hierarchy.{hierarchyDescriptor, hierarchyFrom};
 ghost use Rattle.descriptors.specs.Extension.{extensionHead, noLayer, extensionFrom};
-ghost use Rattle.entry_rows.specs.Rows.{fieldsIn, tooWideFor, layerTooWide, rowTooWide, layerOf, entryIn, someTooWide, entriesIn};
-use combinators::lesser;
+ghost use Rattle.entry_rows.specs.Rows.{fieldsIn, tooWideFor, layerTooWide, rowTooWide, layerOf, entryIn, someTooWide};
 use descriptors::ExtensionRecord;
 use descriptors::HierarchyRecord;
 use descriptors::Record;
 use es_loop::Entry;
-use es_loop::MOST_ENTRIES;
 use vocabulary::HierarchyChannel;
 use vocabulary::LayerIndex;
 use vocabulary::NuhLayerId;
@@ -140,7 +138,7 @@ fn list_in(list: &[u16], count: usize) -> [LayerIndex; 63]
 }
 
 // The entry of a row.
-fn entry_in(row: &[u16]) -> Entry
+pub fn entry_in(row: &[u16]) -> Entry
     requires { ⌜ (80 ≤ length (now row)) × (rowTooWide (now row) ≡ false) ⌝ }
     ensures { λ r. ⌜ r ≡ entryIn (now (row .entry)) ⌝ }
 {
@@ -189,21 +187,4 @@ pub fn some_too_wide(numbers: &[u16]) -> bool
         i += 1;
     }
     false
-}
-
-// The entries of the rows, as many as their array has room for.
-pub fn entries_of(numbers: &[u16]) -> [Entry; MOST_ENTRIES]
-    requires { ⌜ someTooWide (now numbers) ≡ false ⌝ }
-    ensures { λ r. ⌜ r ≡ entriesIn (now (numbers .entry)) ⌝ }
-{
-    let mut entries = es_loop::blank_entries();
-    let count = lesser(numbers.len() / 80, MOST_ENTRIES);
-    let mut i = 0;
-    while i < count {
-        let start = i * 80;
-        let end = start + 80;
-        entries[i] = entry_in(&numbers[start..end]);
-        i += 1;
-    }
-    entries
 }

@@ -1,16 +1,17 @@
 -- The answer of writing a loop and the buffer's content, from what the tests on the way say.
 -- Assumes nothing.
 use Prim.Native.Nat.{ℕ, _≤_, _<_}
-use mathlib.Core.Path.{_≡_, sym, _∙_, ap}
-use mathlib.Core.Bool.{true, false, cond, _||_}
-use mathlib.Core.List.{List}
-use borrow.Author.Tests.{lt-ltb, le-ltb}
+use mathlib.Core.Path.{_≡_, refl, sym, _∙_, ap, subst}
+use mathlib.Core.Bool.{Bool, true, false, cond}
+use mathlib.Core.List.{List, _++_}
+use native.Mathlib.Omega.{arith}
+use borrow.Author.Tests.{lt-ltb, le-ltb, ltb-true, ltb-false}
 use lib.Dec.{ltb}
-use lib.ListN.{length, take}
-use Rattle.combinators.specs.Bools.{either-left, either-right}
+use lib.ListN.{length, take, drop}
+use Rattle.combinators.specs.Bools.{either-way, or-else}
 use Rattle.combinators.specs.Lists.{any}
-use Rattle.combinators.specs.Lowest.{Lowest, lowestNumber, earliestPlace, lowest-number, earliest-place}
-use Rattle.text.specs.Text.{Laid}
+use Rattle.combinators.specs.Lowest.{earliestPlace, lowest-number, earliest-place}
+use Rattle.buffers.specs.Buffers.{Laid}
 use Rattle.buffers.proofs.Laws.{laid-over}
 use Rattle.vocabulary.specs.declared.refusal.Refusal.{Refusal}
 use Rattle.vocabulary.specs.declared.refusal.Refusal.the-variants.{LoopTooLong, NoRoom, TooWide}
@@ -20,7 +21,9 @@ use Rattle.loop_writer.specs.Layout.{loopBytes, tooWide}
 use Rattle.loop_writer.specs.Verdict.{appliesTo}
 use Rattle.loop_writer.specs.declared.writer.Written.{Written}
 use Rattle.loop_writer.specs.declared.writer.Written.the-variants.{Bytes, Refused}
+use Rattle.loop_writer.specs.declared.weighing.Weighed.{Weighed}
 use Rattle.loop_writer.specs.Writing.{inRoom, answer, contentAfter, content}
+use Rattle.loop_writer.specs.Weighing.{Weighs, decidedBy}
 
 module _ (count : ℕ) (array : List Entry) (old : List ℕ) where
   abbrev given : List Entry
@@ -37,46 +40,60 @@ module _ (count : ℕ) (array : List Entry) (old : List ℕ) where
   some-wide e = refused TooWide (rw e)
 
   module _ (none-wide : any tooWide given ≡ false) where
-    too-long : (ltb 201 count || ltb 1008 (length (loopBytes given))) ≡ true → Promised (Refused LoopTooLong) old
-    too-long e = refused LoopTooLong (rw (none-wide, e))
-
     pub too-many : 201 < count → Promised (Refused LoopTooLong) old
-    too-many h = too-long (either-left (ltb 201 count) (ltb 1008 (length (loopBytes given))) (lt-ltb 201 count h))
+    too-many h = refused LoopTooLong (rw (none-wide, lt-ltb 201 count h))
 
-    pub too-large : 1008 < length (loopBytes given) → Promised (Refused LoopTooLong) old
-    too-large h = too-long (either-right (ltb 201 count) (ltb 1008 (length (loopBytes given))) (lt-ltb 1008 (length (loopBytes given)) h))
+    -- by what the entries come to
+    module _ (few : count ≤ 201) (weighed : Weighed) (weighs : Weighs given weighed) where
+      abbrev number : ℕ
+      number = weighed .fault .number
 
-    module _ (few : count ≤ 201) (short : length (loopBytes given) ≤ 1008) (number place : ℕ)
-        (lowest : Lowest (appliesTo given) 10 (length given) number place) where
-      is-lowest : number ≡ lowestNumber (appliesTo given) 10 (length given)
-      is-lowest = lowest-number (appliesTo given) 10 (length given) number place lowest
+      abbrev place : ℕ
+      place = weighed .fault .place
 
-      -- the answer at the number that was found
+      -- the answer at a number, and so at the lowest
       abbrev answerAt : ℕ → Written
-      answerAt n =
-          cond (ltb n 10) (Refused (refusalOf n (earliestPlace (appliesTo given) n (length given)))) (inRoom (length old) (length (loopBytes given)))
+      answerAt n = cond (ltb n 10) (Refused (refusalOf n (earliestPlace (appliesTo given) n (length given)))) (inRoom (length old) (length (loopBytes given)))
 
-      found : answer (length old) count array ≡ answerAt number
-      found = rw (none-wide, le-ltb 201 count few, le-ltb 1008 (length (loopBytes given)) short) (ap answerAt (sym is-lowest))
+      at-number : cond (ltb number 10) (Refused (refusalOf number place)) (inRoom (length old) (length (loopBytes given))) ≡ answerAt number
+      at-number = go (ltb number 10) refl
+        where
+          go : (b : Bool) → ltb number 10 ≡ b
+              → cond (ltb number 10) (Refused (refusalOf number place)) (inRoom (length old) (length (loopBytes given))) ≡ answerAt number
+          go true p =
+              ap (λ (n : ℕ). cond (ltb number 10) (Refused (refusalOf number n)) (inRoom (length old) (length (loopBytes given))))
+              (earliest-place (appliesTo given) 10 (length given) number place (weighs .lowest) (ltb-true number 10 p))
+          go false p = rw p
 
-      pub applies-to-one : number < 10 → Promised (Refused (refusalOf number place)) old
-      applies-to-one h =
-          refused (refusalOf number place)
-          (found ∙ rw (lt-ltb number 10 h, ← earliest-place (appliesTo given) 10 (length given) number place lowest h))
+      decided : decidedBy weighed (length old) ≡ answer (length old) count array
+      decided =
+          ap (λ (n : ℕ). cond (ltb 1008 n) (Refused LoopTooLong) (cond (ltb number 10) (Refused (refusalOf number place)) (inRoom (length old) n))) (weighs .size)
+          ∙ ap (cond (ltb 1008 (length (loopBytes given))) (Refused LoopTooLong))
+          (at-number ∙ ap answerAt (lowest-number (appliesTo given) 10 (length given) number place (weighs .lowest)))
+          ∙ sym (rw (none-wide, le-ltb 201 count few))
 
-      module _ (none : 10 ≤ number) where
-        in-room : answer (length old) count array ≡ inRoom (length old) (length (loopBytes given))
-        in-room = found ∙ rw (le-ltb number 10 none)
+      pub decided-refused : (r : Refusal) → decidedBy weighed (length old) ≡ Refused r → Promised (Refused r) old
+      decided-refused r e = refused r (sym decided ∙ e)
 
-        pub no-room : length old < length (loopBytes given) → Promised (Refused NoRoom) old
-        no-room h = refused NoRoom (in-room ∙ rw (lt-ltb (length old) (length (loopBytes given)) h))
+      -- bytes are written where there is room for all of them
+      abbrev Written-in : Written → Type 0
+      Written-in (Bytes n) = (n ≡ weighed .size) × (weighed .size ≤ length old)
+      Written-in (Refused r) = Unit {0}
 
-        pub written : length (loopBytes given) ≤ length old → (next : ℕ) (new : List ℕ) → Laid old 0 (loopBytes given) next new
-            → Promised (Bytes (length (loopBytes given))) new
-        written h next new laid =
-            let size : ℕ = length (loopBytes given) in
-            let e : answer (length old) count array ≡ Bytes size = in-room ∙ rw (le-ltb (length old) size h) in (
-              sym e,
-              laid-over laid h
-                  ∙ sym (ap (λ (w : Written). contentAfter w (loopBytes given) old) e),
-            )
+      in-room : Written-in (decidedBy weighed (length old))
+      in-room =
+          either-way Written-in (ltb 1008 (weighed .size)) (Refused LoopTooLong) _ tt
+          (either-way Written-in (ltb number 10) (Refused (refusalOf number place)) _ tt
+          (or-else Written-in (ltb (length old) (weighed .size)) (Refused NoRoom) (Bytes (weighed .size)) tt (λ p. (refl, ltb-false (length old) (weighed .size) p))))
+
+      pub decided-written : (n : ℕ) → decidedBy weighed (length old) ≡ Bytes n → (next : ℕ) (new : List ℕ) → Laid old 0 (loopBytes given) next new
+          → Promised (Bytes n) new
+      decided-written n e next new laid =
+          let whole : Written-in (Bytes n) = subst Written-in e in-room in
+          let size : n ≡ length (loopBytes given) = whole .0 ∙ weighs .size in
+          let is-answer : answer (length old) count array ≡ Bytes n = sym decided ∙ e in (
+            sym is-answer,
+            laid-over laid (omega arith)
+                ∙ ap (λ (m : ℕ). loopBytes given ++ drop m old) (sym size)
+                ∙ sym (ap (λ (w : Written). contentAfter w (loopBytes given) old) is-answer),
+          )

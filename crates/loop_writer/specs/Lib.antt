@@ -1,5 +1,6 @@
 pub mod Layout
 pub mod Verdict
 pub mod Writing
+pub mod Weighing
 pub mod Meaning
 pub mod Examples

@@ -1,16 +1,21 @@
-// What is asked of all entries that are to be written, one pass each: whether a value is too wide, how many bytes they take, and their bytes.
+// The passes over the entries of an array that are to be written: whether a value is too wide, what they come to, and their bytes.
 ghost use mathlib.Core.Path.{_≡_};
 ghost use mathlib.Core.Bool.{false};
 ghost use Prim.Native.Nat.{_≤_};
-ghost use lib.ListN.{length, take};
+ghost use lib.ListN.{take};
 ghost use Rattle.combinators.specs.Lists.{any};
 ghost use Rattle.buffers.specs.Buffers.{Laid};
 ghost use Rattle.loop_writer.specs.Layout.{loopBytes, tooWide};
-use super::entry::entry_size;
+ghost use Rattle.loop_writer.specs.Weighing.{Weighs};
 use super::entry::put_entry;
 use super::entry::too_wide;
+use super::weighing::Weighed;
+use super::weighing::nothing_weighed;
+use super::weighing::weigh_next;
 use es_loop::Entry;
 use es_loop::MOST_ENTRIES;
+use es_loop::no_indices;
+use es_loop::no_pids;
 
 // Whether one of the first `count` entries has a value that is too wide.
 pub fn some_too_wide(count: usize, entries: [Entry; MOST_ENTRIES]) -> bool
@@ -27,18 +32,20 @@ pub fn some_too_wide(count: usize, entries: [Entry; MOST_ENTRIES]) -> bool
     false
 }
 
-// How many bytes the first `count` entries take, none with a value that is too wide.
-pub fn loop_size(count: usize, entries: [Entry; MOST_ENTRIES]) -> usize
+// What the first `count` entries come to, none with a value that is too wide.
+pub fn weigh(count: usize, entries: [Entry; MOST_ENTRIES]) -> Weighed
     requires { ⌜ (count ≤ 201) × (any tooWide (take count entries) ≡ false) ⌝ }
-    ensures { λ r. ⌜ r ≡ length (loopBytes (take count entries)) ⌝ }
+    ensures { λ r. ⌜ Weighs (take count entries) r ⌝ }
 {
-    let mut size = 0;
+    let mut pids = no_pids();
+    let mut indices = no_indices();
+    let mut weighed = nothing_weighed();
     let mut i = 0;
     while i < count {
-        size += entry_size(entries[i]);
+        weighed = weigh_next(&mut pids, &mut indices, weighed, entries[i], i);
         i += 1;
     }
-    size
+    weighed
 }
 
 // The first `count` entries, from the front of the buffer on.

@@ -2,10 +2,11 @@
 ghost use mathlib.Core.Path.{_≡_};
 ghost use lib.ListN.{length};
 ghost use Rattle.loop_writer.specs.Writing.{answer, content};
-use super::passes::loop_size;
+ghost use Rattle.loop_writer.specs.Weighing.{decidedBy};
 use super::passes::put_entries;
 use super::passes::some_too_wide;
-use super::verdict::lowest_of;
+use super::passes::weigh;
+use super::weighing::Weighed;
 use combinators::lesser;
 use es_loop::Entry;
 use es_loop::MOST_BYTES;
@@ -20,6 +21,24 @@ pub enum Written {
     Refused(Refusal),
 }
 
+// The answer for entries that come to this, in a buffer of so many bytes.
+pub fn decide(weighed: Weighed, room: usize) -> Written
+    ensures { λ r. ⌜ r ≡ decidedBy weighed room ⌝ }
+{
+    let size = weighed.size;
+    let fault = weighed.fault;
+    if MOST_BYTES < size {
+        return Written::Refused(Refusal::LoopTooLong);
+    }
+    if fault.number < NO_FAULT {
+        return Written::Refused(refusal_of(fault.number, fault.place));
+    }
+    if room < size {
+        return Written::Refused(Refusal::NoRoom);
+    }
+    Written::Bytes(size)
+}
+
 // Writes the first `count` entries into `out`, from its front on.
 pub fn write_loop(count: usize, entries: [Entry; MOST_ENTRIES], out: &mut [u8]) -> Written
     ensures { λ r. ⌜ (r ≡ answer (length (now (out .entry))) count entries) × (now (out .exit) ≡ content count entries (now (out .entry))) ⌝ }
@@ -31,17 +50,12 @@ pub fn write_loop(count: usize, entries: [Entry; MOST_ENTRIES], out: &mut [u8]) 
     if MOST_ENTRIES < count {
         return Written::Refused(Refusal::LoopTooLong);
     }
-    let size = loop_size(given, entries);
-    if MOST_BYTES < size {
-        return Written::Refused(Refusal::LoopTooLong);
+    let answer = decide(weigh(given, entries), out.len());
+    match answer {
+        Written::Refused(refusal) => Written::Refused(refusal),
+        Written::Bytes(size) => {
+            put_entries(out, given, entries);
+            Written::Bytes(size)
+        }
     }
-    let fault = lowest_of(given, entries);
-    if fault.number < NO_FAULT {
-        return Written::Refused(refusal_of(fault.number, fault.place));
-    }
-    if out.len() < size {
-        return Written::Refused(Refusal::NoRoom);
-    }
-    put_entries(out, given, entries);
-    Written::Bytes(size)
 }

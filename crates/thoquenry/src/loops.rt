@@ -62,8 +62,7 @@ pub extern "C" fn thq_write_loop(entries: &[u16], out: &mut [u8]) -> u64
     if entry_rows::some_too_wide(entries) {
         return refused(Refusal::TooWide);
     }
-    let list = entry_rows::entries_of(entries);
-    let written = loop_writer::write_loop(entries.len() / 80, list, out);
+    let written = entry_rows::write_rows(entries, out);
     match written {
         Written::Bytes(count) => accepted(count),
         Written::Refused(refusal) => refused(refusal),

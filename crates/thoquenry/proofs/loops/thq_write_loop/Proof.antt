@@ -1,11 +1,6 @@
 -- `loops::thq_write_loop` meets its contract: 25 of every row first, and then the loop writer's answer.
 -- Assumes nothing.
 use mathlib.Core.Path.{sym, _∙_, ap}
-use mathlib.Core.List.{List}
-use lib.ListN.{length}
-use Rattle.es_loop.specs.declared.entries.Entry.{Entry}
-use Rattle.loop_writer.specs.Writing.{answer, content}
-use Rattle.entry_rows.specs.Rows.{rowCount}
 use Rattle.thoquenry.specs.Loops.{loopWritten}
 use Rattle.thoquenry.proofs.Replies.{answers, buffers, some-wide, none-wide}
 use native.Mathlib.Omega.{arith}
@@ -25,11 +20,8 @@ returns c =
     let same = some-wide (a .entries .now) (a .out .now) (sym (c .before .before .some-too-wide .ensures) ∙ c .before .if1 .taken) in
     (c .refused .ensures ∙ answers same, buffers same)
 
-entries-of-requires : tie.Need-entries-of-requires
-entries-of-requires c κs = sym (c .before .some-too-wide .ensures) ∙ c .if1 .left
-
-write-loop-requires : tie.Need-write-loop-requires
-write-loop-requires c κs = search needs
+write-rows-requires : tie.Need-write-rows-requires
+write-rows-requires c κs = sym (c .before .before .some-too-wide .ensures) ∙ c .before .if1 .left
 
 enum-known-written : tie.Need-enum-known-written
 enum-known-written c = search needs
@@ -48,14 +40,11 @@ same-length c = search needs
 
 returns-2 : tie.Need-returns-2
 returns-2 c =
-    let a = c .before .before .before .before .before .before .before .before .before .before .before .before .before .args in
-    let numbers = a .entries .now in
-    let written = c .before .before .before .before .before .before .write-loop in
-    let list = c .before .before .before .before .before .before .before .before .entries-of .ensures in
-    let as-one = ap (λ (l : List Entry). answer (length (a .out .now)) (rowCount numbers) l) list in
-    let same = none-wide numbers (a .out .now) (sym (c .before .before .before .before .before .before .before .before .before .before .some-too-wide .ensures) ∙ c .before .before .before .before .before .before .before .before .before .if1 .left) in (
-      c .accepted .ensures ∙ sym (ap loopWritten (c .before .before .written .given .1)) ∙ ap loopWritten (written .ensures .0 ∙ as-one) ∙ answers same,
-      written .ensures .1 ∙ ap (λ (l : List Entry). content (rowCount numbers) l (a .out .now)) list ∙ buffers same,
+    let a = c .before .before .before .before .before .before .before .before .before .before .before .before .args in
+    let written = c .before .before .before .before .before .before .write-rows in
+    let same = none-wide (a .entries .now) (a .out .now) (sym (c .before .before .before .before .before .before .before .before .before .some-too-wide .ensures) ∙ c .before .before .before .before .before .before .before .before .if1 .left) in (
+      c .accepted .ensures ∙ sym (ap loopWritten (c .before .before .written .given .1)) ∙ ap loopWritten (written .ensures .0) ∙ answers same,
+      written .ensures .1 ∙ buffers same,
     )
 
 same-length-2 : tie.Need-same-length-2
@@ -63,14 +52,11 @@ same-length-2 c = search needs
 
 returns-3 : tie.Need-returns-3
 returns-3 c =
-    let a = c .before .before .before .before .before .before .before .before .before .before .before .before .before .args in
-    let numbers = a .entries .now in
-    let written = c .before .before .before .before .before .before .write-loop in
-    let list = c .before .before .before .before .before .before .before .before .entries-of .ensures in
-    let as-one = ap (λ (l : List Entry). answer (length (a .out .now)) (rowCount numbers) l) list in
-    let same = none-wide numbers (a .out .now) (sym (c .before .before .before .before .before .before .before .before .before .before .some-too-wide .ensures) ∙ c .before .before .before .before .before .before .before .before .before .if1 .left) in (
-      c .refused2 .ensures ∙ sym (ap loopWritten (c .before .before .written2 .given .1)) ∙ ap loopWritten (written .ensures .0 ∙ as-one) ∙ answers same,
-      written .ensures .1 ∙ ap (λ (l : List Entry). content (rowCount numbers) l (a .out .now)) list ∙ buffers same,
+    let a = c .before .before .before .before .before .before .before .before .before .before .before .before .args in
+    let written = c .before .before .before .before .before .before .write-rows in
+    let same = none-wide (a .entries .now) (a .out .now) (sym (c .before .before .before .before .before .before .before .before .before .some-too-wide .ensures) ∙ c .before .before .before .before .before .before .before .before .if1 .left) in (
+      c .refused2 .ensures ∙ sym (ap loopWritten (c .before .before .written2 .given .1)) ∙ ap loopWritten (written .ensures .0) ∙ answers same,
+      written .ensures .1 ∙ buffers same,
     )
 
 pub thq-write-loop-spec : {M : Type 1} → statement M
@@ -80,8 +66,7 @@ thq-write-loop-spec =
     some-too-wide-requires
     refused-requires
     returns
-    entries-of-requires
-    write-loop-requires
+    write-rows-requires
     enum-known-written
     accepted-requires
     enum-known-written-2
