@@ -1,0 +1,4 @@
+pub mod Examples
+pub mod Meaning
+pub mod Ordering
+pub mod Runs
