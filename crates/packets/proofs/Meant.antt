@@ -90,10 +90,10 @@ module _ (packet : List ℕ) where
       ap₂ _&&_ (eq-eqb (inHeader "adaptation_field_control" packet % 2) 1 (omega arith))
       (eq-eqb (payloadAt (packetOf packet)) (5 + lengthOf packet) (rw (le-leb 2 (inHeader "adaptation_field_control" packet) (omega arith))))
 
-  payload-there : {at : ℕ} → Payload packet at → withPayload (packetOf packet) ≡ true
+  pub payload-there : {at : ℕ} → Payload packet at → withPayload (packetOf packet) ≡ true
   payload-there {at} p = both-left (withPayload (packetOf packet)) (eqb (payloadAt (packetOf packet)) at) (payload-only p)
 
-  payload-place : {at : ℕ} → Payload packet at → payloadAt (packetOf packet) ≡ at
+  pub payload-place : {at : ℕ} → Payload packet at → payloadAt (packetOf packet) ≡ at
   payload-place {at} p =
       eqb-true (payloadAt (packetOf packet)) at (both-right (withPayload (packetOf packet)) (eqb (payloadAt (packetOf packet)) at) (payload-only p))
 
