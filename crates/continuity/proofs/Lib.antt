@@ -1,0 +1,4 @@
+pub mod Comparing
+pub mod Steps
+pub mod Copies
+pub mod Meant

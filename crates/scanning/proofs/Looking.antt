@@ -1,0 +1,249 @@
+-- One packet of a recording: where its header starts, its first bytes, and the last packets as places.
+-- Assumes nothing.
+use Prim.Native.Nat.{ℕ, zero, suc, _+_, _-_, _*_, _%_, _≤_, _<_}
+use mathlib.Core.Path.{_≡_, refl, sym, ap, ap₂, _∙_}
+use mathlib.Core.Bool.{Bool, true, false, cond, not, _&&_}
+use mathlib.Core.List.{List, [], _∷_}
+use mathlib.Core.Logic.{⊎-elim}
+use native.Mathlib.Decide.{decLt}
+use native.Mathlib.Nat.{add-zero, eq-or-lt-of-le}
+use native.Mathlib.Omega.{arith}
+use borrow.Author.Tests.{ltb-true, ltb-false, lt-ltb, le-ltb, eq-eqb, ne-eqb}
+use lib.Dec.{eqb, ltb}
+use lib.ListN.{length, getD, set, take, drop, replicate, length-take, length-drop, List·getD-eq-default}
+use lib.Seq.{getD-take, getD-drop, length-take-le}
+use Rattle.combinators.specs.Bools.{either-way, or-else, neither-left}
+use Rattle.syntax.specs.Table.{AreBytes}
+use Rattle.syntax.proofs.Number.{drop-bytes}
+use Rattle.packets.specs.declared.Packet.{Packet}
+use Rattle.packets.specs.Reading.{packetBytes, inHeader, packetOf}
+use Rattle.packets.specs.Judging.{lostSync, payloadAt, startsClear, isSkipped, adaptationOutside, headerOutside, isOutside, isScrambled}
+use Rattle.packets.proofs.FieldLaws.{packet-of-bytes}
+use Rattle.packets.proofs.JudgingLaws.{payload-within}
+use Rattle.continuity.specs.declared.Step.{Step}
+use Rattle.continuity.specs.declared.Step.the-variants.{Skipped, Copy, Faulty, Starts, Continues}
+use Rattle.continuity.specs.Following.{isCopy, isGap, aloneOf, afterOf, isThere, stepOf}
+use Rattle.scanning.specs.declared.events.Event.the-variants.{Nothing, Fault}
+use Rattle.scanning.specs.Events.{lastBy, startIn, stepEvent, stepIn, packetEvent, packetLasts, layerOf, onLayer, isQuiet, packetAt, endingAt, lastsOf, EndsWithin, quietBy, Passes}
+
+-- ---- a header starts within its packet
+
+abbrev StartsWithin : Step → Type 0
+StartsWithin step = startIn step ≤ packetBytes
+
+alone-within : (p : Packet) (packet : List ℕ) → StartsWithin (aloneOf p packet)
+alone-within p packet =
+    or-else StartsWithin (isOutside p packet) (Faulty 32) (cond (isScrambled p) (Faulty 33) (cond (startsClear p) (Starts (payloadAt p)) Continues))
+    (omega arith)
+    (λ e. either-way StartsWithin (isScrambled p) (Faulty 33) (cond (startsClear p) (Starts (payloadAt p)) Continues)
+    (omega arith)
+    (either-way StartsWithin (startsClear p) (Starts (payloadAt p)) Continues
+    (payload-within p (neither-left (adaptationOutside p) (headerOutside p packet) e))
+    (omega arith)))
+
+pub start-within : (before packet : List ℕ) → startIn (stepOf before packet) ≤ packetBytes
+start-within before packet =
+    either-way StartsWithin (isSkipped p) Skipped (cond (isThere before) (afterOf p packet q before) (aloneOf p packet))
+    (omega arith)
+    (either-way StartsWithin (isThere before) (afterOf p packet q before) (aloneOf p packet)
+    (either-way StartsWithin (isCopy p packet q before) Copy (cond (isGap p q) (Faulty 31) (aloneOf p packet))
+    (omega arith)
+    (either-way StartsWithin (isGap p q) (Faulty 31) (aloneOf p packet) (omega arith) (alone-within p packet)))
+    (alone-within p packet))
+  where
+    p : Packet
+    p = packetOf packet
+
+    q : Packet
+    q = packetOf before
+
+-- ---- the first bytes of a packet
+
+take-bytes : (n : ℕ) (l : List ℕ) → AreBytes l → AreBytes (take n l)
+take-bytes n l bytes i = go (decLt i n)
+  where
+    go : Dec (i < n) → getD (take n l) i 0 < 256
+    go (yes h) = rw (getD-take n l i 0 h) (bytes i)
+    go (no h) = rw (List·getD-eq-default (take n l) 0 {n = i} (omega (arith, length-take n l))) (omega arith)
+
+pub packet-bytes : (bytes : List ℕ) (k : ℕ) → AreBytes bytes → AreBytes (packetAt bytes k)
+packet-bytes bytes k are = take-bytes packetBytes (drop (packetBytes * k) bytes) (drop-bytes (packetBytes * k) bytes are)
+
+pub byte-at : (bytes : List ℕ) (k i : ℕ) → i < packetBytes → getD (packetAt bytes k) i 0 ≡ getD bytes (packetBytes * k + i) 0
+byte-at bytes k i h = getD-take packetBytes (drop (packetBytes * k) bytes) i 0 h ∙ getD-drop (packetBytes * k) bytes i 0
+
+not-below : (n : ℕ) → not (ltb n 64) ≡ ltb 63 n
+not-below n = go (ltb n 64) refl
+  where
+    go : (t : Bool) → ltb n 64 ≡ t → not t ≡ ltb 63 n
+    go true e = sym (le-ltb 63 n (omega (arith, ltb-true n 64 e)))
+    go false e = sym (lt-ltb 63 n (omega (arith, ltb-false n 64 e)))
+
+module _ (table packet : List ℕ) (bytes : AreBytes packet) where
+  sync-of-bytes : inHeader "sync_byte" packet ≡ getD packet 0 0
+  sync-of-bytes = ap (λ (p : Packet). p .«sync_byte») (packet-of-bytes packet bytes)
+
+  pid-of-bytes : inHeader "PID" packet ≡ getD packet 1 0 % 32 * 256 + getD packet 2 0
+  pid-of-bytes = ap (λ (p : Packet). p .pid) (packet-of-bytes packet bytes)
+
+  pub lost-of-bytes : lostSync (packetOf packet) ≡ not (eqb (getD packet 0 0) 0x47)
+  lost-of-bytes = ap (λ (n : ℕ). not (eqb n 0x47)) sync-of-bytes
+
+  pub layer-of-bytes : layerOf table packet ≡ getD table (getD packet 1 0 % 32 * 256 + getD packet 2 0) 0
+  layer-of-bytes = ap (λ (n : ℕ). getD table n 0) pid-of-bytes
+
+  pub quiet-of-bytes : quietBy table (getD packet 0 0) (getD packet 1 0) (getD packet 2 0) ≡ isQuiet table packet
+  quiet-of-bytes =
+      sym
+      (ap₂ _&&_
+      (ap not lost-of-bytes ∙ not-not (eqb (getD packet 0 0) 0x47))
+      (not-below (layerOf table packet) ∙ ap (ltb 63) layer-of-bytes))
+    where
+      not-not : (t : Bool) → not (not t) ≡ t
+      not-not true = refl
+      not-not false = refl
+
+-- ---- the last packets as the places at which they end
+
+pub lasts-set : (bytes ends : List ℕ) (slot end : ℕ) → lastsOf bytes (set ends slot end) ≡ set (lastsOf bytes ends) slot (endingAt bytes end)
+lasts-set bytes [] slot end = refl
+lasts-set bytes (e ∷ ends) zero end = refl
+lasts-set bytes (e ∷ ends) (suc slot) end = ap (λ (l : List (List ℕ)). endingAt bytes e ∷ l) (lasts-set bytes ends slot end)
+
+pub last-at : (bytes ends : List ℕ) (slot : ℕ) → getD (lastsOf bytes ends) slot [] ≡ endingAt bytes (getD ends slot 0)
+last-at bytes [] slot = refl
+last-at bytes (e ∷ ends) zero = refl
+last-at bytes (e ∷ ends) (suc slot) = last-at bytes ends slot
+
+pub ending-at-next : (bytes : List ℕ) (k : ℕ) → endingAt bytes (packetBytes * k + packetBytes) ≡ packetAt bytes k
+ending-at-next bytes k =
+    let start : packetBytes * k + packetBytes - packetBytes ≡ packetBytes * k = omega arith in
+    let size : packetBytes * k + packetBytes - (packetBytes * k) ≡ packetBytes = omega arith in
+    ap (λ (n : ℕ). take (packetBytes * k + packetBytes - n) (drop n bytes)) start ∙ ap (λ (n : ℕ). take n (drop (packetBytes * k) bytes)) size
+
+-- whichever of two places it is
+pub last-by-end : (bytes : List ℕ) (step : Step) (end next : ℕ) → endingAt bytes (lastBy step end next) ≡ lastBy step (endingAt bytes end) (endingAt bytes next)
+last-by-end bytes Skipped end next = refl
+last-by-end bytes Copy end next = refl
+last-by-end bytes (Faulty n) end next = refl
+last-by-end bytes (Starts n) end next = refl
+last-by-end bytes Continues end next = refl
+
+pub last-by-within : (step : Step) {end next bound : ℕ} → end ≤ bound → next ≤ bound → lastBy step end next ≤ bound
+last-by-within Skipped h k = h
+last-by-within Copy h k = k
+last-by-within (Faulty n) h k = k
+last-by-within (Starts n) h k = k
+last-by-within Continues h k = k
+
+set-within : (bound : ℕ) (ends : List ℕ) (slot end : ℕ) → end ≤ bound → ((i : ℕ) → getD ends i 0 ≤ bound) → (i : ℕ) → getD (set ends slot end) i 0 ≤ bound
+set-within bound [] slot end h all i = all i
+set-within bound (e ∷ ends) zero end h all zero = h
+set-within bound (e ∷ ends) zero end h all (suc i) = all (suc i)
+set-within bound (e ∷ ends) (suc slot) end h all zero = all zero
+set-within bound (e ∷ ends) (suc slot) end h all (suc i) = set-within bound ends slot end h (λ j. all (suc j)) i
+
+pub ends-set : (bytes ends : List ℕ) (slot end : ℕ) → end ≤ length bytes → EndsWithin bytes ends → EndsWithin bytes (set ends slot end)
+ends-set bytes ends slot end h all = set-within (length bytes) ends slot end h all
+
+pub ends-none : (bytes : List ℕ) (n : ℕ) → EndsWithin bytes (replicate n 0)
+ends-none bytes zero i = omega arith
+ends-none bytes (suc n) zero = omega arith
+ends-none bytes (suc n) (suc i) = ends-none bytes n i
+
+-- ---- a packet as a part of the recording's bytes
+
+pub part-is-packet : (bytes : List ℕ) (k : ℕ) → take (packetBytes * k + packetBytes - packetBytes * k) (drop (packetBytes * k) bytes) ≡ packetAt bytes k
+part-is-packet bytes k =
+    let size : packetBytes * k + packetBytes - packetBytes * k ≡ packetBytes = omega arith in
+    ap (λ (n : ℕ). take n (drop (packetBytes * k) bytes)) size
+
+pub packet-long : (bytes : List ℕ) (k : ℕ) → packetBytes * k + packetBytes ≤ length bytes → length (packetAt bytes k) ≡ packetBytes
+packet-long bytes k h = length-take-le packetBytes (drop (packetBytes * k) bytes) (omega (arith, length-drop (packetBytes * k) bytes))
+
+-- ---- what a packet gives, by its first three bytes
+
+module _ (table bytes ends : List ℕ) (k : ℕ) (packet : List ℕ) (is-packet : packet ≡ packetAt bytes k) (are : AreBytes packet) where
+  abbrev lasts : List (List ℕ)
+  lasts = lastsOf bytes ends
+
+  -- no sync byte
+  pub looked-lost : (getD packet 0 0 ≡ 0x47 → ⊥)
+      → (Fault 30 ≡ packetEvent table k (packetAt bytes k) lasts) × (lasts ≡ packetLasts table (packetAt bytes k) lasts)
+  looked-lost f =
+      let lost : lostSync (packetOf packet) ≡ true = lost-of-bytes table packet are ∙ ap not (ne-eqb (getD packet 0 0) 0x47 f) in (
+        sym (ap (λ (t : Bool). cond t (Fault 30) (cond (onLayer table packet) (stepEvent (layerOf table packet) k packet (stepIn table lasts packet)) Nothing)) lost)
+            ∙ ap (λ (p : List ℕ). packetEvent table k p lasts) is-packet,
+        sym (ap (λ (t : Bool). cond t lasts (cond (onLayer table packet) (set lasts (layerOf table packet) (lastBy (stepIn table lasts packet) (getD lasts (layerOf table packet) []) packet)) lasts)) lost)
+            ∙ ap (λ (p : List ℕ). packetLasts table p lasts) is-packet,
+      )
+
+  -- in sync, by the layer of its PID
+  by-layer : getD packet 0 0 ≡ 0x47 → (t : Bool) → onLayer table packet ≡ t
+      → (packetEvent table k packet lasts ≡ cond t (stepEvent (layerOf table packet) k packet (stepIn table lasts packet)) Nothing)
+      × (packetLasts table packet lasts ≡ cond t (set lasts (layerOf table packet) (lastBy (stepIn table lasts packet) (getD lasts (layerOf table packet) []) packet)) lasts)
+  by-layer e t on =
+      let found : lostSync (packetOf packet) ≡ false = lost-of-bytes table packet are ∙ ap not (eq-eqb (getD packet 0 0) 0x47 e) in (
+        ap₂ (λ (s l : Bool). cond s (Fault 30) (cond l (stepEvent (layerOf table packet) k packet (stepIn table lasts packet)) Nothing)) found on,
+        ap₂ (λ (s l : Bool). cond s lasts (cond l (set lasts (layerOf table packet) (lastBy (stepIn table lasts packet) (getD lasts (layerOf table packet) []) packet)) lasts)) found on,
+      )
+
+  module _ (sync : getD packet 0 0 ≡ 0x47) (layer : ℕ) (is-layer : layer ≡ getD table (getD packet 1 0 % 32 * 256 + getD packet 2 0) 0) where
+    same-layer : layerOf table packet ≡ layer
+    same-layer = layer-of-bytes table packet are ∙ sym is-layer
+
+    pub looked-other : 63 < layer
+        → (Nothing ≡ packetEvent table k (packetAt bytes k) lasts) × (lasts ≡ packetLasts table (packetAt bytes k) lasts)
+    looked-other h =
+        let both = by-layer sync false (le-ltb (layerOf table packet) 64 (omega (arith, same-layer))) in
+        (sym (both .0) ∙ ap (λ (p : List ℕ). packetEvent table k p lasts) is-packet, sym (both .1) ∙ ap (λ (p : List ℕ). packetLasts table p lasts) is-packet)
+
+    -- on a layer's PID, after the packet that ends where the last one does
+    abbrev stepHere : Step
+    stepHere = stepOf (endingAt bytes (getD ends layer 0)) packet
+
+    pub looked-on : layer ≤ 63
+        → (stepEvent layer k packet stepHere ≡ packetEvent table k (packetAt bytes k) lasts)
+        × (lastsOf bytes (set ends layer (lastBy stepHere (getD ends layer 0) (packetBytes * k + packetBytes))) ≡ packetLasts table (packetAt bytes k) lasts)
+    looked-on h =
+        let both = by-layer sync true (lt-ltb (layerOf table packet) 64 (omega (arith, same-layer))) in
+        let last : getD lasts layer [] ≡ endingAt bytes (getD ends layer 0) = last-at bytes ends layer in (
+          ap (λ (b : List ℕ). stepEvent layer k packet (stepOf b packet)) (sym last)
+              ∙ ap (λ (l : ℕ). stepEvent l k packet (stepOf (getD lasts l []) packet)) (sym same-layer)
+              ∙ sym (both .0)
+              ∙ ap (λ (p : List ℕ). packetEvent table k p lasts) is-packet,
+          lasts-set bytes ends layer (lastBy stepHere (getD ends layer 0) (packetBytes * k + packetBytes))
+              ∙ ap (set lasts layer)
+              (last-by-end bytes stepHere (getD ends layer 0) (packetBytes * k + packetBytes)
+              ∙ ap (lastBy stepHere (endingAt bytes (getD ends layer 0))) (ending-at-next bytes k ∙ sym is-packet))
+              ∙ ap (λ (b : List ℕ). set lasts layer (lastBy (stepOf b packet) b packet)) (sym last)
+              ∙ ap (λ (l : ℕ). set lasts l (lastBy (stepOf (getD lasts l []) packet) (getD lasts l []) packet)) (sym same-layer)
+              ∙ sym (both .1)
+              ∙ ap (λ (p : List ℕ). packetLasts table p lasts) is-packet,
+        )
+
+-- ---- packets passed over
+
+module _ (table bytes : List ℕ) (are : AreBytes bytes) (from packets : ℕ) where
+  pub passes-start : from ≤ packets → Passes table bytes from packets from
+  passes-start h = record { onward = omega arith; within = h; quiet = λ k l m. absurd (omega arith) }
+
+  pub passes-next : (k : ℕ) → Passes table bytes from packets k → k < packets
+      → quietBy table (getD bytes (packetBytes * k) 0) (getD bytes (packetBytes * k + 1) 0) (getD bytes (packetBytes * k + 2) 0) ≡ true
+      → Passes table bytes from packets (k + 1)
+  passes-next k p h q =
+      record {
+        onward = omega (arith, p .onward);
+        within = omega arith;
+        quiet = λ j l m. ⊎-elim (λ (e : j ≡ k). rw e here) (λ (s : j < k). p .quiet j l s) (eq-or-lt-of-le (omega arith));
+      }
+    where
+      first : getD (packetAt bytes k) 0 0 ≡ getD bytes (packetBytes * k) 0
+      first = byte-at bytes k 0 (omega arith) ∙ ap (λ (n : ℕ). getD bytes n 0) (add-zero (packetBytes * k))
+
+      here : isQuiet table (packetAt bytes k) ≡ true
+      here =
+          sym (quiet-of-bytes table (packetAt bytes k) (packet-bytes bytes k are))
+          ∙ ap (λ (n : ℕ). quietBy table n (getD (packetAt bytes k) 1 0) (getD (packetAt bytes k) 2 0)) first
+          ∙ ap₂ (quietBy table (getD bytes (packetBytes * k) 0)) (byte-at bytes k 1 (omega arith)) (byte-at bytes k 2 (omega arith))
+          ∙ q
