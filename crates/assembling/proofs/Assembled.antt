@@ -9,7 +9,7 @@ use native.Mathlib.Omega.{arith}
 use native.Mathlib.Decide.{decLt, ℕ-discrete}
 use native.Mathlib.Nat.{mod-lt}
 use borrow.Author.Tests.{lt-ltb, le-ltb, eqb-true}
-use lib.Dec.{eqb}
+use lib.Dec.{eqb, ltb}
 use lib.ListN.{length, getD, set, replicate, length-set, length-replicate, getD-replicate}
 use lib.Seq.{getD-set-same, getD-set-other}
 use Rattle.combinators.specs.Below.{seek-first}
@@ -182,6 +182,34 @@ module _ (t : Table) where
       (all-own edges (set rows (lowerOf edge) (partner t rows edge))
       (own-more rows edge (partner t rows edge) (known .long) (partner-is rows edge (w .0)) known)
       (sym (ap (λ (a : Assembly). a .complete) (w .1)) ∙ e))
+
+  -- ---- what no edge leads to stays as it was
+
+  pub untouched : (edges rows : List ℕ) (layer : ℕ) → ((i : ℕ) → i < length edges → layer ≡ lowerOf (getD edges i 0) → ⊥)
+      → getD (assembledFrom t edges rows .rows) layer 0 ≡ getD rows layer 0
+  untouched [] rows layer apart = refl
+  untouched (edge ∷ edges) rows layer apart =
+      go (ltb (partner t rows edge) (rowsIn t))
+      (untouched edges (set rows (lowerOf edge) (partner t rows edge)) layer (λ i h. apart (suc i) (omega arith))
+      ∙ getD-set-other rows (lowerOf edge) layer (partner t rows edge) 0 (apart 0 (omega arith)))
+    where
+      go : (b : Bool) → getD (assembledFrom t edges (set rows (lowerOf edge) (partner t rows edge)) .rows) layer 0 ≡ getD rows layer 0
+          → getD (cond b (assembledFrom t edges (set rows (lowerOf edge) (partner t rows edge))) (record { complete = false; rows = rows }) .rows) layer 0
+          ≡ getD rows layer 0
+      go true e = e
+      go false e = refl
+
+  pub as-long : (edges rows : List ℕ) → length (assembledFrom t edges rows .rows) ≡ length rows
+  as-long [] rows = refl
+  as-long (edge ∷ edges) rows =
+      go (ltb (partner t rows edge) (rowsIn t))
+      (as-long edges (set rows (lowerOf edge) (partner t rows edge)) ∙ length-set rows (lowerOf edge) (partner t rows edge))
+    where
+      go : (b : Bool) → length (assembledFrom t edges (set rows (lowerOf edge) (partner t rows edge)) .rows) ≡ length rows
+          → length (cond b (assembledFrom t edges (set rows (lowerOf edge) (partner t rows edge))) (record { complete = false; rows = rows }) .rows)
+          ≡ length rows
+      go true e = e
+      go false e = refl
 
   -- ---- from the start: the target's row, and no other
 

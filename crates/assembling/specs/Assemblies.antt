@@ -72,6 +72,10 @@ assembledFrom t (edge ∷ edges) rows =
     (assembledFrom t edges (set rows (lowerOf edge) (partner t rows edge)))
     (record { complete = false; rows = rows })
 
--- at the start the target alone has a row
+-- no layer has a row, where `none` stands for no row
+abbrev pub noRows : ℕ → List ℕ
+noRows none = replicate 64 none
+
+-- at the start the target alone has one
 abbrev pub assembled : Table → List ℕ → ℕ → ℕ → Assembly
-assembled t edges target head = assembledFrom t edges (set (replicate 64 (rowsIn t)) target head)
+assembled t edges target head = assembledFrom t edges (set (noRows (rowsIn t)) target head)

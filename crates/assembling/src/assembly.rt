@@ -6,7 +6,7 @@ ghost use lib.ListN.{length};
 ghost use Rattle.combinators.specs.Padding.{padTo};
 ghost use Rattle.rows.specs.Table.{table};
 ghost use Rattle.assembling.specs.Index.{Sorted, Rising, Climbing, Reached, Ready};
-ghost use Rattle.assembling.specs.Assemblies.{upperOf, lowerOf, joins, Next, edgesOf, membersOf, rowAt, pairedRow, assembled};
+ghost use Rattle.assembling.specs.Assemblies.{upperOf, lowerOf, joins, Next, edgesOf, membersOf, rowAt, pairedRow, noRows, assembled};
 use closure::Layers;
 use rows::MOST_ROWS;
 
@@ -229,8 +229,9 @@ fn paired_row(
     row_at(indices, decodings, starts, order, layer, time, next)
 }
 
-// Lays the assembly that the row `head` of the layer `top` is at the head of into `rows`, and answers whether each edge was met. In `next`
-// it notes for each layer the place after the row found last, for a guess: whatever stands there, the answer is the same.
+// Lays the assembly that the row `head` of the layer `top` is at the head of into `rows`, which comes with no row for any layer, and answers
+// whether each edge was met. In `next` it notes for each layer the place after the row found last, for a guess: whatever stands there, the
+// answer is the same.
 pub fn assemble(
     indices: &[u8],
     decodings: &[u64],
@@ -243,14 +244,15 @@ pub fn assemble(
     next: &mut [usize; 64],
     rows: &mut [usize; 64],
 ) -> bool
-    requires { ⌜ Ready (table (now indices) (now decodings) (now matches)) (now starts) (now order) (now edges) × (top < 64) ⌝ }
+    requires { ⌜ Ready (table (now indices) (now decodings) (now matches)) (now starts) (now order) (now edges)
+        × (top < 64)
+        × (now rows ≡ noRows (length (now indices))) ⌝ }
     ensures complete { λ r. ⌜ r
         ≡ assembled (table (now (indices .entry)) (now (decodings .entry)) (now (matches .entry))) (now (edges .entry)) top head .complete ⌝ }
     ensures content { λ _. ⌜ now (rows .exit)
         ≡ assembled (table (now (indices .entry)) (now (decodings .entry)) (now (matches .entry))) (now (edges .entry)) top head .rows ⌝ }
 {
     let none = indices.len();
-    *rows = [none; 64];
     rows[top] = head;
     let mut at = 0;
     while at < edges.len() {

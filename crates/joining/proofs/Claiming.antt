@@ -109,6 +109,7 @@ module _ (t : Table) (f : Frame) (k units places : ℕ) (used : List Bool) (kept
       chosen =
           record {
             index = whole .index;
+            rising = whole .rising;
             row = λ p h. (let r = whole .row k p inside e h in omega (arith, known .holds .marks .long));
           }
 

@@ -15,6 +15,7 @@ use Rattle.closure.specs.Closures.{isLayer}
 use Rattle.closure.specs.Meaning.{Names, RestsOn, itself, by, WholeClosure}
 use Rattle.closure.proofs.Meant.{below-64}
 use Rattle.combinators.specs.Bools.{both-left, both-right}
+use Rattle.combinators.specs.Members.{member, member-at}
 use Rattle.combinators.specs.Once.{Once, once-places}
 use Rattle.combinators.specs.Those.{those-at, those-which, those-rise, those-earlier}
 use Rattle.sets.specs.Sets.{has}
@@ -165,12 +166,21 @@ module _ (layers : Layers) (target closure : ℕ) (here : isLayer layers target 
           let equal : getD (membersOf closure) i 0 ≡ getD (membersOf closure) j 0 = sym first ∙ ap (layerOf t) same ∙ second in
           omega arith
 
+  rests-member : (layer : ℕ) → RestsOn layers target layer → member layer (membersOf closure) ≡ true
+  unfolding membersOf
+  rests-member layer r =
+      let w = those-which (has closure) 64 layer (rests-below layer r) (whole .members layer .1 r) in
+      subst (λ (l : ℕ). member l (membersOf closure) ≡ true) (w .2) (member-at (membersOf closure) (w .0) (w .1))
+
   pub frame-whole : (t : Table) → Whole t (frameOf layers closure target)
   unfolding membersOf
   frame-whole t =
       record {
         top = target-below;
+        top-member = rests-member target itself;
+        lower-member = λ i h. (let w = edge-names i h in rests-member (lowerOf (getD (edgesOf layers closure) i 0)) (by (w .0) (w .1)));
         index = λ p h. those-at (has closure) 64 p h .below;
+        rising = λ p q h l. those-rise (has closure) 64 p q h l;
         row = λ k p h e l. row-for-each t k h e (getD (membersOf closure) p 0) (whole .members (getD (membersOf closure) p 0) .0 (those-at (has closure) 64 p l .passes));
         once = λ k h m e. unit-once t k h (eqb-true (layerOf t k) target m) e;
       }

@@ -1,15 +1,16 @@
 -- The rows of the units, one unit after another. As long as no two units share a row, no row stands among them twice, so that they fill no more
--- places than there are rows (`rows-fit`); and each unit is found again at its place (`kept-unit`).
+-- places than there are rows (`rows-fit`); each unit is found again at its place (`kept-unit`); and an assembly leaves no row behind once its
+-- members are cleared (`cleared-again`).
 -- Assumes nothing.
 use Prim.Native.Nat.{ℕ, zero, suc, _+_, _-_, _*_, _≤_, _<_}
 use mathlib.Core.Path.{_≡_, refl, sym, _∙_, ap, ap₂, subst}
-use mathlib.Core.Bool.{Bool, true, false, not, _&&_}
+use mathlib.Core.Bool.{Bool, true, false, not, cond, _&&_, true≢false}
 use mathlib.Core.List.{List, [], _++_}
 use native.Mathlib.Omega.{arith}
 use native.Mathlib.Numerals.{add-one}
 use borrow.Author.Tests.{not-false}
-use lib.ListN.{length, getD, take, drop, length-append, length-map}
-use lib.Seq.{slice, take-take, take-at, drop-at}
+use lib.ListN.{length, getD, set, take, drop, length-append, length-map, length-replicate, getD-replicate}
+use lib.Seq.{slice, take-take, take-at, drop-at, ext-getD}
 use Rattle.clock.specs.Clock.{lagOf}
 use Rattle.combinators.specs.Below.{count}
 use Rattle.combinators.specs.Lists.{any}
@@ -17,10 +18,12 @@ use Rattle.combinators.specs.Members.{member}
 use Rattle.combinators.specs.Once.{Once, Small, small-append, once-append, once-short}
 use Rattle.rows.specs.Table.{Table, rowsIn, decodingOf}
 use Rattle.joining.specs.Units.{Frame, isTarget, assemblyOf, unitOf, lagsOf, rowsBelow, lagsBelow, unpaired, shares}
-use Rattle.joining.specs.Judging.{Whole}
+use Rattle.assembling.specs.Assemblies.{noRows}
+use Rattle.assembling.proofs.Assembled.{untouched, as-long, begin-long, begin-other}
+use Rattle.joining.specs.Judging.{Whole, cleared}
 use Rattle.joining.specs.Writing.{keptUnit}
 use Rattle.joining.proofs.Gathers.{gathered-more, gathered-same, gathered-rest, length-gathered}
-use Rattle.joining.proofs.Marking.{unit-at, unit-long}
+use Rattle.joining.proofs.Marking.{unit-at, unit-long, cleared-at, length-cleared}
 
 module _ (t : Table) (f : Frame) where
   -- ---- how many they are
@@ -79,6 +82,33 @@ module _ (t : Table) (f : Frame) where
     unit-small k inside e p h =
         let l : p < length (f .members) = subst (λ (n : ℕ). p < n) (unit-length k) h in
         subst (λ (x : ℕ). x < rowsIn t) (sym (unit-at (f .members) (assemblyOf t f k .rows) p l)) (whole .row k p inside e l)
+
+    -- once its members are cleared, no layer has a row
+    pub cleared-again : (k : ℕ) → cleared (rowsIn t) (f .members) (assemblyOf t f k .rows) ≡ noRows (rowsIn t)
+    cleared-again k =
+        ext-getD 0 (cleared (rowsIn t) (f .members) (assemblyOf t f k .rows)) (noRows (rowsIn t))
+        (length-cleared (rowsIn t) (f .members) (assemblyOf t f k .rows) ∙ long ∙ sym (length-replicate 64 (rowsIn t)))
+        (λ i h. at i (omega (arith, length-cleared (rowsIn t) (f .members) (assemblyOf t f k .rows), long)))
+      where
+        long : length (assemblyOf t f k .rows) ≡ 64
+        long = as-long t (f .edges) (set (noRows (rowsIn t)) (f .target) k) ∙ begin-long t (f .target) k (whole .top)
+
+        outside : (i : ℕ) → i < 64 → member i (f .members) ≡ false → getD (assemblyOf t f k .rows) i 0 ≡ rowsIn t
+        outside i h e =
+            untouched t (f .edges) (set (noRows (rowsIn t)) (f .target) k) i
+            (λ j l same. absurd (true≢false (sym (whole .lower-member j l) ∙ ap (λ (x : ℕ). member x (f .members)) (sym same) ∙ e)))
+            ∙ begin-other t (f .target) k (whole .top) i h
+            (λ same. absurd (true≢false (sym (whole .top-member) ∙ ap (λ (x : ℕ). member x (f .members)) (sym same) ∙ e)))
+
+        at : (i : ℕ) → i < 64 → getD (cleared (rowsIn t) (f .members) (assemblyOf t f k .rows)) i 0 ≡ getD (noRows (rowsIn t)) i 0
+        at i h =
+            cleared-at (rowsIn t) (f .members) (assemblyOf t f k .rows) i (omega (arith, long))
+            ∙ go (member i (f .members)) refl
+            ∙ sym (getD-replicate 64 i (rowsIn t) 0 h)
+          where
+            go : (b : Bool) → member i (f .members) ≡ b → cond b (rowsIn t) (getD (assemblyOf t f k .rows) i 0) ≡ rowsIn t
+            go true e = refl
+            go false e = outside i h e
 
     module _ (n : ℕ) (within : n ≤ rowsIn t) (paired : (j : ℕ) → j < n → unpaired t f j ≡ false) where
       complete-at : (k : ℕ) → k < n → isTarget t f k ≡ true → assemblyOf t f k .complete ≡ true

@@ -10,7 +10,7 @@ ghost use Rattle.combinators.specs.Lists.{any};
 ghost use Rattle.rows.specs.Table.{table};
 ghost use Rattle.assembling.specs.Index.{Ready};
 ghost use Rattle.joining.specs.Units.{frame, unitFrom, unpaired, firstUnpaired};
-ghost use Rattle.joining.specs.Judging.{Placed, Whole, marked, MarkedAt, Judges};
+ghost use Rattle.joining.specs.Judging.{Placed, Whole, cleared, marked, MarkedAt, Judges};
 use assembling::assemble;
 use rows::MOST_ROWS;
 
@@ -39,9 +39,18 @@ fn any_used(rows: &[usize; 64], members: &[u8], used: &[bool]) -> bool
     false
 }
 
-// Marks each row of the unit as used, and lays the rows into `kept` from place `at` on, in rising layer index.
-fn keep(rows: &[usize; 64], members: &[u8], at: usize, used: &mut [bool], kept: &mut [usize])
+// Marks each row of the unit as used, and moves the rows into `kept` from place `at` on, in rising layer index: where they stood there is
+// `none` again.
+fn keep(
+    none: usize,
+    rows: &mut [usize; 64],
+    members: &[u8],
+    at: usize,
+    used: &mut [bool],
+    kept: &mut [usize],
+)
     requires { ⌜ Placed (now members) (now rows) (length (now used)) × (at + length (now members) ≤ length (now kept)) ⌝ }
+    ensures blank { λ _. ⌜ now (rows .exit) ≡ cleared none (now (members .entry)) (now (rows .entry)) ⌝ }
     ensures marks { λ _. ⌜ now (used .exit) ≡ marked (unitFrom (now (members .entry)) (now (rows .entry))) (now (used .entry)) ⌝ }
     ensures content { λ _. ⌜ now (kept .exit) ≡ sets (now (kept .entry)) at (unitFrom (now (members .entry)) (now (rows .entry))) ⌝ }
 {
@@ -49,6 +58,7 @@ fn keep(rows: &[usize; 64], members: &[u8], at: usize, used: &mut [bool], kept: 
     while next < members.len() {
         let layer = members[next] as usize;
         let row = rows[layer];
+        rows[layer] = none;
         used[row] = true;
         kept[at + next] = row;
         next += 1;
@@ -74,10 +84,10 @@ fn first_unpaired(
 {
     let none = indices.len();
     let mut next = [0usize; 64];
-    let mut rows = [none; 64];
     let mut row = from;
     while row < none {
         if indices[row] as usize == target {
+            let mut rows = [none; 64];
             let complete = assemble(
                 indices,
                 decodings,
@@ -167,7 +177,7 @@ pub fn judge(
                     places,
                 };
             }
-            keep(&rows, members, places, used, kept);
+            keep(none, &mut rows, members, places, used, kept);
             places += members.len();
             units += 1;
         }

@@ -16,11 +16,11 @@ use Rattle.joining.proofs.units.first_unpaired.Statement.{statement}
 use Rattle.joining.proofs.units.first_unpaired.Tie as tie
 
 abbrev Inv-loop : tie.InvT-loop
-Inv-loop indices decodings matches starts order edges target from none next₀ rows₀ row₀ next rows row =
+Inv-loop indices decodings matches starts order edges target from none next₀ row₀ next row =
     (k : ℕ) → k < row → unpaired (table indices decodings matches) (frame target [] edges) k ≡ false
 
 abbrev μ-loop : tie.MeasureT-loop
-μ-loop indices decodings matches starts order edges target from none next₀ rows₀ row₀ next rows row =
+μ-loop indices decodings matches starts order edges target from none next₀ row₀ next row =
     length indices - row
 
 loop-holds : tie.Need-loop-holds Inv-loop μ-loop
@@ -33,7 +33,7 @@ cast-if1 : tie.Need-cast-if1 Inv-loop μ-loop
 cast-if1 c = omega (arith, c .shared-slice-known5 .given (c .before .before .loop .row))
 
 assemble-requires : tie.Need-assemble-requires Inv-loop μ-loop
-assemble-requires c κs = (c .before .before .before .before .before .before .before .before .before .before .pre .0, c .before .before .before .before .before .before .before .before .before .before .pre .1)
+assemble-requires c κs = (c .before .before .before .before .before .before .before .before .before .before .pre .0, c .before .before .before .before .before .before .before .before .before .before .pre .1, refl)
 
 returns : tie.Need-returns Inv-loop μ-loop
 returns c =

@@ -13,7 +13,9 @@ use Rattle.combinators.specs.Below.{count-short}
 use Rattle.combinators.specs.Lists.{any}
 use Rattle.rows.specs.Table.{table}
 use Rattle.joining.specs.Units.{frame, isTarget, unitFrom, unitOf}
-use Rattle.joining.specs.Judging.{Placed, marked}
+use Rattle.assembling.specs.Assemblies.{noRows}
+use Rattle.joining.specs.Judging.{Placed, cleared, marked}
+use Rattle.joining.proofs.Kept.{cleared-again}
 use Rattle.joining.proofs.Claiming.{Walked, walked-start, walked-other, no-assembly, chosen, paired-on, is-shared, unit-fits, unit-room, length-marked, walked-target, stopped, stopped-sharing, walked-end}
 use Rattle.joining.proofs.units.judge.Statement.{statement}
 use Rattle.joining.proofs.units.judge.Tie as tie
@@ -23,13 +25,14 @@ Inv-loop indices decodings matches starts order edges members target used₀ kep
     Walked (table indices decodings matches) (frame target members edges) row units places used kept
     × (length used ≡ length used₀)
     × (length kept ≡ length kept₀)
+    × (rows ≡ noRows (length indices))
 
 abbrev μ-loop : tie.MeasureT-loop
 μ-loop indices decodings matches starts order edges members target used₀ kept₀ none next₀ rows₀ units₀ places₀ row₀ used kept next rows units places row =
     length indices - row
 
 loop-holds : tie.Need-loop-holds Inv-loop μ-loop
-loop-holds c = (walked-start _ _ _ _ (c .before .before .before .before .before .before .before .pre .2) (c .before .before .before .before .before .before .before .pre .3), refl, refl)
+loop-holds c = (walked-start _ _ _ _ (c .before .before .before .before .before .before .before .pre .2) (c .before .before .before .before .before .before .before .pre .3), refl, refl, refl)
 
 shared-slice-read-if1 : tie.Need-shared-slice-read-if1 Inv-loop μ-loop
 shared-slice-read-if1 c = omega arith
@@ -38,7 +41,7 @@ cast-if1 : tie.Need-cast-if1 Inv-loop μ-loop
 cast-if1 c = omega (arith, c .shared-slice-known6 .given (c .before .before .loop .row))
 
 assemble-requires : tie.Need-assemble-requires Inv-loop μ-loop
-assemble-requires c κs = (c .before .before .before .before .before .before .before .before .before .before .before .before .before .pre .0, c .before .before .before .before .before .before .before .before .before .before .before .before .before .pre .1 .top)
+assemble-requires c κs = (c .before .before .before .before .before .before .before .before .before .before .before .before .before .pre .0, c .before .before .before .before .before .before .before .before .before .before .before .before .before .pre .1 .top, c .before .before .before .before .before .loop .inv .3)
 
 same-length : tie.Need-same-length Inv-loop μ-loop
 same-length c = c .before .before .before .before .before .before .before .loop .inv .1
@@ -145,9 +148,9 @@ loop-again c =
     let f = frame (begin .args .target) (begin .args .members .now) (begin .args .edges .now) in
     ⊎-elim
     (λ w.
-    (let is-marked = w .12 .ensures .0 ∙ ap (λ (rows : List ℕ). marked (unitFrom (begin .args .members .now) rows) (loop .used)) (w .3 .ensures .1) in
-    let is-kept = w .12 .ensures .1 ∙ ap (λ (rows : List ℕ). sets (loop .kept) (loop .places) (unitFrom (begin .args .members .now) rows)) (w .3 .ensures .1) in
-    rw (w .17, w .18, w .21, w .22) (
+    (let is-marked = w .12 .ensures .1 .0 ∙ ap (λ (rows : List ℕ). marked (unitFrom (begin .args .members .now) rows) (loop .used)) (w .3 .ensures .1) in
+    let is-kept = w .12 .ensures .1 .1 ∙ ap (λ (rows : List ℕ). sets (loop .kept) (loop .places) (unitFrom (begin .args .members .now) rows)) (w .3 .ensures .1) in
+    rw (w .17, w .18, w .20, w .21, w .22) (
       walked-target _ _ _ _ _ _ _ (loop .inv .0) inside (eq-eqb _ _ (w .0 .taken)) (begin .pre .1)
           (sym (w .3 .ensures .0) ∙ not-false _ (w .4 .left))
           (sym (w .8 .left) ∙ w .7 .ensures
@@ -155,8 +158,10 @@ loop-again c =
           _ _ is-marked is-kept,
       ap length is-marked ∙ length-marked (unitOf t f (loop .row)) (loop .used) ∙ loop .inv .1,
       ap length is-kept ∙ length-sets (loop .kept) (loop .places) (unitOf t f (loop .row)) ∙ loop .inv .2,
+      w .12 .ensures .0 ∙ ap (cleared (length (begin .args .indices .now)) (begin .args .members .now)) (w .3 .ensures .1) ∙ cleared-again t f (begin .pre .1) (loop .row),
     )))
-    (λ w. rw (w .1, w .2, w .5, w .6) (walked-other _ _ _ _ _ _ _ (loop .inv .0) inside (ne-eqb _ _ (w .0 .left)), loop .inv .1, loop .inv .2))
+    (λ w. rw (w .1, w .2, w .4, w .5, w .6)
+    (walked-other _ _ _ _ _ _ _ (loop .inv .0) inside (ne-eqb _ _ (w .0 .left)), loop .inv .1, loop .inv .2, loop .inv .3))
     (c .if1 .came)
 
 same-length-5 : tie.Need-same-length-5 Inv-loop μ-loop
