@@ -448,7 +448,7 @@ fn miss(random: &mut Random, streams: &mut Vec<Stream>) {
             }
         }
         9..=10 => {
-            // A long list, of a high index so that it can stand below it; most often one that is in order, up to the 63 that there can be.
+            // A long list, most often a sound one, of a high index so that it can stand below it: up to the 63 that there can be.
             let index = if random.once_in(2) {
                 63
             } else {
