@@ -1,4 +1,4 @@
-// Lists laid into buffers that a caller lends: bytes, and numbers of 16 bits. A list that is longer than the room for it is cut off at the
+// Bytes laid into buffers that a caller lends. A list that is longer than the room for it is cut off at the
 // end of the buffer, or the caller knows that there is room. specs/Buffers.antt says what the buffer then holds, proofs/Laws.antt that
 // pieces laid one after another join.
 ghost use Prim.Native.Nat.{_+_, _≤_};
@@ -28,27 +28,4 @@ pub fn put(out: &mut [u8], at: usize, bytes: &[u8]) -> usize
     }
     let count = lesser(out.len() - at, bytes.len());
     put_whole(out, at, &bytes[..count])
-}
-
-// The same for numbers of 16 bits.
-pub fn put_whole_u16(out: &mut [u16], at: usize, numbers: &[u16]) -> usize
-    requires { ⌜ at + length (now numbers) ≤ length (now out) ⌝ }
-    ensures { λ r. ⌜ Laid (now (out .entry)) at (now (numbers .entry)) r (now (out .exit)) ⌝ }
-{
-    let mut i = 0;
-    while i < numbers.len() {
-        out[at + i] = numbers[i];
-        i += 1;
-    }
-    at + numbers.len()
-}
-
-pub fn put_u16(out: &mut [u16], at: usize, numbers: &[u16]) -> usize
-    ensures { λ r. ⌜ Laid (now (out .entry)) at (now (numbers .entry)) r (now (out .exit)) ⌝ }
-{
-    if out.len() <= at {
-        return out.len();
-    }
-    let count = lesser(out.len() - at, numbers.len());
-    put_whole_u16(out, at, &numbers[..count])
 }

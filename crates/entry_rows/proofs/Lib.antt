@@ -3,6 +3,5 @@ pub mod Fits
 pub mod Given
 pub mod Judged
 pub mod Laws
-pub mod Stored
 pub mod Walked
 pub mod RoundTrips

@@ -8,6 +8,7 @@ use lib.ListN.{length, take, drop, length-map}
 use lib.Seq.{length-take-le, take-all}
 use Rattle.combinators.specs.Lists.{gather, gather-map, gather-next}
 use Rattle.buffers.specs.Buffers.{over}
+use Rattle.buffers.proofs.Laws.{over-part, over-length}
 use Rattle.vocabulary.specs.declared.stream_types.Reading.{Reading}
 use Rattle.es_loop.specs.declared.entries.Stream.{Stream}
 use Rattle.es_loop.specs.declared.verdict.Verdict.the-variants.{Entries}
@@ -18,7 +19,6 @@ use Rattle.es_loop.proofs.Judged.{Sound, sound}
 use Rattle.es_loop.proofs.Walk.{Cursor, leftAt, left-long, size-5, size-fits, inside-here}
 use Rattle.entry_rows.specs.Rows.{rowOf, rowsOf}
 use Rattle.entry_rows.proofs.Laws.{row-length, rows-length}
-use Rattle.entry_rows.proofs.Stored.{over-part, over-length}
 
 -- the row of a stream, and those of streams
 abbrev pub rowFor : Stream → List ℕ

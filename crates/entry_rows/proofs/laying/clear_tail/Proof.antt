@@ -6,7 +6,7 @@ use mathlib.Core.Path.{_≡_, refl, ap, _∙_}
 use native.Mathlib.Omega.{arith}
 use lib.ListN.{length, set, replicate, length-set}
 use lib.Seq.{sets}
-use Rattle.entry_rows.proofs.Stored.{blank-more, blank-rest}
+use Rattle.buffers.proofs.Laws.{blank-more, blank-rest}
 use Rattle.entry_rows.proofs.laying.clear_tail.Statement.{statement}
 use Rattle.entry_rows.proofs.laying.clear_tail.Tie as tie
 

@@ -7,8 +7,8 @@ use native.Mathlib.Omega.{arith}
 use lib.ListN.{length, take, set, replicate, length-set}
 use lib.Seq.{length-take-le}
 use Rattle.combinators.specs.Padding.{padTo, store-map}
+use Rattle.buffers.proofs.Laws.{set-after, front-kept}
 use Rattle.entry_rows.specs.Rows.{layerNumber}
-use Rattle.entry_rows.proofs.Stored.{set-after, front-kept}
 use borrow.Author.Needs.{needs}
 use Rattle.entry_rows.proofs.laying.lay_layers.Statement.{statement}
 use Rattle.entry_rows.proofs.laying.lay_layers.Tie as tie
