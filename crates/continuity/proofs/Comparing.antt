@@ -10,7 +10,7 @@ use borrow.Author.Tests.{eqb-true, eq-eqb, not-false}
 use lib.Dec.{eqb}
 use lib.ListN.{length, getD}
 use Rattle.combinators.specs.Below.{count, count-more, count-same, count-less}
-use Rattle.combinators.specs.Bools.{both-ways, false-unless}
+use Rattle.combinators.specs.Bools.{false-unless}
 use Rattle.continuity.specs.Following.{differs, differenceOf, sameBytes}
 
 pub difference-small : (one other : ℕ) → differenceOf one other ≤ 1

@@ -2,7 +2,7 @@
 -- Assumes nothing.
 use Prim.Native.Nat.{ℕ, _+_, _-_, _≤_, _<_}
 use mathlib.Core.Path.{_≡_, refl, sym, ap, ap₂, _∙_}
-use mathlib.Core.Bool.{Bool, true, false, cond, _&&_}
+use mathlib.Core.Bool.{Bool, true, false, _&&_}
 use mathlib.Core.List.{List}
 use native.Mathlib.Decide.{decLt}
 use native.Mathlib.Omega.{arith}
@@ -10,7 +10,6 @@ use lib.ListN.{length, getD, take, drop, length-drop}
 use lib.Seq.{length-take-le, getD-take, getD-drop}
 use Rattle.combinators.specs.Bools.{both-left, both-right, both-ways}
 use Rattle.packets.specs.Reading.{packetBytes, packetOf}
-use Rattle.packets.specs.Meaning.{HasPcr}
 use Rattle.packets.proofs.Meant.{pcr-meant, pcr-only}
 use Rattle.continuity.specs.Following.{sameBytes, repeats}
 use Rattle.continuity.specs.Meaning.{OfPcr}

@@ -1,19 +1,19 @@
 -- The laws that join the step to what it means, both ways.
 -- Assumes nothing.
-use Prim.Native.Nat.{ℕ, _+_, _%_, _<_}
+use Prim.Native.Nat.{ℕ, _+_, _%_}
 use mathlib.Core.Path.{_≡_, refl, sym, ap, ap₂, _∙_, subst}
 use mathlib.Core.Bool.{Bool, true, false, cond, not, _&&_}
 use mathlib.Core.List.{List}
-use borrow.Author.Tests.{eqb-true, eqb-false, eq-eqb, ne-eqb, not-true, not-false}
+use borrow.Author.Tests.{eqb-true, eq-eqb, not-true, not-false}
 use lib.Dec.{eqb}
-use lib.ListN.{length, getD}
+use lib.ListN.{length}
 use Rattle.combinators.specs.Bools.{both-left, both-right, both-ways, false-unless}
 use Rattle.packets.specs.Reading.{packetBytes, inHeader, packetOf}
 use Rattle.packets.specs.Judging.{isSkipped, withPayload, payloadAt, startsClear, isOutside, isScrambled}
-use Rattle.packets.specs.Meaning.{Skipped as IsSkipped, Payload, Discontinuity, Outside, Scrambled}
+use Rattle.packets.specs.Meaning.{Skipped as IsSkipped, Outside, Scrambled}
 use Rattle.packets.proofs.Meant.{skipped-meant, skipped-only, payload-meant, payload-there, payload-place, discontinuity-meant, discontinuity-only, outside-meant, outside-only, scrambled-meant, scrambled-only}
 use Rattle.continuity.specs.Following.{repeats, isCopy, nextCounter, isGap, aloneOf, afterOf, isThere, stepOf}
-use Rattle.continuity.specs.Meaning.{There, OfPcr, IsCopy, Next, moves, stays, Gap, Judged, UnitStart, Steps, skipped, copy, gap, outside, scrambled, starts, continues}
+use Rattle.continuity.specs.Meaning.{There, IsCopy, Next, moves, stays, Gap, Judged, UnitStart, Steps, skipped, copy, gap, outside, scrambled, starts, continues}
 use Rattle.continuity.specs.declared.Step.{Step}
 use Rattle.continuity.specs.declared.Step.the-variants.{Skipped, Copy, Faulty, Starts, Continues}
 use Rattle.continuity.proofs.Copies.{repeats-meant, repeats-only}

@@ -1,20 +1,20 @@
 -- The laws that join what one packet is judged for to what that means, both ways.
 -- Assumes nothing.
-use Prim.Native.Nat.{ℕ, _+_, _%_, _≤_, _<_}
-use mathlib.Core.Path.{_≡_, refl, sym, ap, ap₂, _∙_, subst}
-use mathlib.Core.Bool.{Bool, true, false, cond, not, _&&_, _||_}
+use Prim.Native.Nat.{ℕ, _+_, _%_, _<_}
+use mathlib.Core.Path.{_≡_, refl, ap, ap₂, _∙_}
+use mathlib.Core.Bool.{Bool, true, false, not, _&&_}
 use mathlib.Core.List.{List}
-use mathlib.Core.Logic.{_⊎_, inl, inr, ⊎-elim}
+use mathlib.Core.Logic.{_⊎_, ⊎-elim}
 use native.Mathlib.Omega.{arith}
-use borrow.Author.Tests.{ltb-true, leb-true, leb-false, eqb-true, eqb-false, lt-ltb, le-leb, lt-leb, eq-eqb, ne-eqb, not-true, not-false}
+use borrow.Author.Tests.{ltb-true, leb-true, leb-false, eqb-true, eqb-false, lt-ltb, le-leb, lt-leb, eq-eqb, ne-eqb, not-true}
 use lib.Dec.{eqb, leb, ltb}
 use lib.ListN.{length, drop}
 use Rattle.syntax.specs.Table.{number, bytes}
 use Rattle.syntax.specs.Named.{named}
-use Rattle.combinators.specs.Bools.{both-left, both-right, either-left, either-right, either-which, false-unless, both-ways, apart}
+use Rattle.combinators.specs.Bools.{both-left, both-right, either-left, either-right, either-which, false-unless, both-ways}
 use Rattle.pes_fields.specs.Tables.{head}
 use Rattle.packets.specs.Tables.{adaptationFlags, pcr}
-use Rattle.packets.specs.Reading.{packetBytes, line, inHeader, flagsAt, withAdaptation, lengthOf, flagOf, reaches, packetOf}
+use Rattle.packets.specs.Reading.{line, inHeader, flagsAt, withAdaptation, lengthOf, reaches, packetOf}
 use Rattle.packets.specs.Judging.{lostSync, isSkipped, withPayload, payloadAt, adaptationOutside, startsClear, headerWithin, headerOutside, isOutside, isScrambled}
 use Rattle.packets.specs.Meaning.{LostSync, Skipped, error-bit, control-00, AdaptationField, control-10, control-11, Payload, after-header, after-adaptation, FlagSet, Discontinuity, HasPcr, HeaderWithin, Outside, adaptation-field, pes-header, Scrambled}
 

@@ -8,7 +8,7 @@ use lib.ListN.{length, drop}
 use Rattle.syntax.specs.Table.{number, bytes}
 use Rattle.syntax.specs.Named.{named}
 use Rattle.pes_fields.specs.Tables.{head}
-use Rattle.packets.specs.Reading.{packetBytes, adaptationAt, flagsAt, withAdaptation, packetOf}
+use Rattle.packets.specs.Reading.{packetBytes, adaptationAt, flagsAt, withAdaptation}
 use Rattle.packets.specs.declared.Packet.{Packet}
 
 -- 30: 'lost sync'

@@ -1,2 +1,5 @@
 pub mod Laying
 pub mod Answering
+pub mod Meant
+pub mod Answered
+pub mod AnswerMeant

@@ -1,2 +1,4 @@
 pub mod Columns
 pub mod Reading
+pub mod Meaning
+pub mod Examples

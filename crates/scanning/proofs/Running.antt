@@ -11,7 +11,7 @@ use borrow.Author.Tests.{not-true}
 use lib.ListN.{length, getD, set, drop, length-drop, length-append}
 use lib.Seq.{drop-drop, drop-length}
 use Rattle.combinators.specs.Bools.{both-left, both-right}
-use Rattle.framing.specs.Pieces.{Item, whole, broken, cut, cut-piece, cut-broken}
+use Rattle.framing.specs.Pieces.{Item, whole, broken, cut-piece, cut-broken}
 use Rattle.packets.specs.Reading.{packetBytes, packetOf}
 use Rattle.packets.specs.Judging.{lostSync}
 use Rattle.scanning.specs.declared.events.Row.{Row}

@@ -3,7 +3,7 @@
 use Prim.Native.Nat.{ℕ, _+_, _-_, _*_, _%_, _≤_, _<_}
 use mathlib.Core.Path.{_≡_}
 use mathlib.Core.Bool.{Bool, true, cond, not, _&&_}
-use mathlib.Core.List.{List, [], _∷_, map}
+use mathlib.Core.List.{List, [], map}
 use lib.Dec.{eqb, ltb}
 use lib.ListN.{length, getD, set, take, drop, replicate}
 use Rattle.framing.specs.Pieces.{Item, whole, broken, cut}
@@ -15,7 +15,6 @@ use Rattle.packets.specs.Judging.{lostSync}
 use Rattle.continuity.specs.declared.Step.{Step}
 use Rattle.continuity.specs.declared.Step.the-variants.{Skipped, Copy, Faulty, Starts, Continues}
 use Rattle.continuity.specs.Following.{stepOf}
-use Rattle.scanning.specs.declared.events.Row.{Row}
 use Rattle.scanning.specs.declared.events.Event.{Event}
 use Rattle.scanning.specs.declared.events.Event.the-variants.{Nothing, Fault, NotRead, Unit}
 

@@ -1,6 +1,5 @@
 -- `recordings::lay` meets its contract. The invariant: the rows of the packets so far stand in the columns, and those of the packets left follow.
 -- The measure is the number of packets left. Assumes nothing.
-use borrow.Author.Needs.{needs}
 use native.Mathlib.Omega.{arith}
 use Prim.Native.Nat.{_-_, _/_}
 use mathlib.Core.Path.{ap, _∙_}

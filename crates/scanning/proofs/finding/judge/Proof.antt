@@ -1,6 +1,5 @@
 -- `scanning::finding::judge` meets its contract. The invariant: what is left, from what was found so far, gives what is found in all. The measure
 -- is the number of packets left. Assumes nothing.
-use borrow.Author.Needs.{needs}
 use native.Mathlib.Omega.{arith}
 use Prim.Native.Nat.{_-_, _/_}
 use denote.Ref.{now}
