@@ -14,7 +14,7 @@ use Rattle.combinators.specs.Lists.{Nth, nth-inside, getD-nth, next}
 use Rattle.combinators.specs.Lowest.{Lowest, earliestPlace, lowest-number, earliest-place}
 use Rattle.framing.specs.Pieces.{Item, whole, broken, Cuts, cut-cuts, cuts-unique}
 use Rattle.vocabulary.specs.declared.refusal.Refusal.{Refusal}
-use Rattle.vocabulary.specs.declared.refusal.Refusal.the-variants.{LoopTooLong, DoesNotFit, RepeatedPid, WrongLength, SecondRecord, TypeNotAllowed, WrongFlags, RepeatedLayerIndex, WrongEmbeddedIndex, TooManyEmbedded, NoSuchLayer, EmbeddedLayerAbsent, OutOfRange, TimeOrderBroken, Unpaired, UsedTwice, NoRoom, NotVideoHeader, NoPts, FieldsDoNotFit, WrongMarker, PtsBeforeDts, TooWide}
+use Rattle.vocabulary.specs.declared.refusal.Refusal.the-variants.{LoopTooLong, DoesNotFit, RepeatedPid, WrongLength, SecondRecord, TypeNotAllowed, WrongFlags, RepeatedLayerIndex, WrongEmbeddedIndex, NoSuchLayer, EmbeddedLayerAbsent, OutOfRange, TimeOrderBroken, Unpaired, UsedTwice, NoRoom, NotVideoHeader, NoPts, FieldsDoNotFit, WrongMarker, PtsBeforeDts, TooWide}
 use Rattle.vocabulary.specs.Refusals.{numberOf as headerNumber}
 use Rattle.packets.specs.declared.Fault.{Fault as Refused}
 use Rattle.packets.specs.declared.Fault.the-variants.{LostSync, CounterGap, OutsidePacket, Scrambled}
@@ -78,7 +78,6 @@ named-header (TypeNotAllowed k) e = apart e
 named-header (WrongFlags k) e = apart e
 named-header (RepeatedLayerIndex k) e = apart e
 named-header (WrongEmbeddedIndex k) e = apart e
-named-header (TooManyEmbedded k) e = apart e
 named-header NoSuchLayer e = apart e
 named-header (EmbeddedLayerAbsent index) e = apart e
 named-header (OutOfRange k) e = apart e
