@@ -2,6 +2,8 @@ pub mod Bytes
 pub mod Payloads
 pub mod Sizes
 pub mod Naming
+pub mod Steps
 pub mod Walk
 pub mod Cases
+pub mod Finding
 pub mod Meant

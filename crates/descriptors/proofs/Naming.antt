@@ -7,7 +7,8 @@ use native.Mathlib.Decide.{decLt}
 use native.Mathlib.Numerals.{add-one}
 use native.Mathlib.Omega.{arith}
 use lib.ListN.{length, getD, take}
-use lib.Seq.{take-suc, take-all}
+use lib.Seq.{take-suc, take-all, take-at}
+use Rattle.combinators.specs.Padding.{padTo}
 use Rattle.sets.specs.Sets.{added}
 use Rattle.vocabulary.specs.declared.LayerIndex.{LayerIndex}
 use Rattle.descriptors.specs.Extension.{noLayer}
@@ -32,3 +33,7 @@ all-listed embedded num count room e = go (decLt num 63)
     go : Dec (num < 63) → take count embedded ≡ take num embedded
     go (yes h) = let same : count ≡ num = omega arith in rw same
     go (no h) = take-all count embedded (omega arith) ∙ sym (take-all num embedded (omega arith))
+
+-- as many of a padded list as there are, is the list
+pub padded-list : (layers : List LayerIndex) (num : ℕ) → length layers ≡ num → take num (padTo 63 noLayer layers) ≡ layers
+padded-list layers num e = take-at layers _ num e

@@ -11,6 +11,7 @@ use lib.Dec.{eqb, ltb}
 use lib.ListN.{length, getD, take, drop, length-drop}
 use lib.Seq.{drop-drop}
 use Rattle.combinators.specs.Bools.{apart}
+use Rattle.combinators.specs.Padding.{padTo}
 use Rattle.descriptors.specs.declared.head.Framed.{Framed}
 use Rattle.framing.specs.Pieces.{cut, cut-broken, cut-piece, broken, whole}
 use Rattle.syntax.proofs.Laws.{read-take}
@@ -19,9 +20,10 @@ use Rattle.vocabulary.specs.declared.stream_types.Reading.the-variants.{Edition
 use Rattle.descriptors.specs.declared.looking.Seen.{Seen}
 use Rattle.descriptors.specs.Head.{framedOf, descriptorHead, descriptorTag, descriptorLength}
 use Rattle.descriptors.specs.Hierarchy.{hierarchyOf}
-use Rattle.descriptors.specs.Extension.{extensionOf, embeddedOf}
+use Rattle.descriptors.specs.Extension.{noLayer, extensionOf, embeddedOf}
 use Rattle.descriptors.specs.Looking.{Kind, does-not-fit, skipped, wrong-length, hierarchy, extension, isUnfit, kindOf, kindsOf, payloadKind, tag4Kind, tag63Kind, extensionKind, seenOf}
-use Rattle.descriptors.specs.Steps.{unfitSeen, withLook, withKind, lookedOf, seenAfter}
+use Rattle.descriptors.specs.Finding.{lookOf, layersIn}
+use Rattle.descriptors.proofs.Steps.{unfitSeen, withLook, withKind, seenAfter}
 
 -- a head's tag is read off the head alone
 tag-alone : (l : List ℕ) → descriptorTag (take 2 l) ≡ descriptorTag l
@@ -69,27 +71,37 @@ payload-fits reading tag p =
         (cond-fits (eqb (length p) (7 + (extensionOf p) .«num_embedded_layers»)) (extension (extensionOf p) (embeddedOf p)) wrong-length refl refl)
         refl
 
-module _ (reading : Reading) (info left : List ℕ) (at : ℕ) (rest : left ≡ drop at info) (seen : Seen)
-    (inv : seenAfter seen (kindsOf reading (drop at info)) ≡ seenOf reading info) where
+-- THE KINDS of the bytes that are left.
+module _ (reading : Reading) (info left : List ℕ) (at : ℕ) (rest : left ≡ drop at info) where
   pub left-length : length left ≡ length info - at
   left-length = ap length rest ∙ length-drop at info
 
-  pub stop : 0 < length left → length left < 2 + descriptorLength left → unfitSeen seen ≡ seenOf reading info
-  stop h short =
-      let kinds : kindsOf reading left ≡ does-not-fit ∷ [] =
-      ap (map (kindOf reading)) (cut-broken 2 descriptorLength (omega arith) left h short) in
-      ap (seenAfter seen) (sym kinds) ∙ rw rest inv
+  pub kinds-stop : 0 < length left → length left < 2 + descriptorLength left → kindsOf reading (drop at info) ≡ does-not-fit ∷ []
+  kinds-stop h short = rw (← rest) (ap (map (kindOf reading)) (cut-broken 2 descriptorLength (omega arith) left h short))
 
-  pub next : 2 + descriptorLength left ≤ length left → (after : Seen)
-      → (let k : Kind = payloadKind reading (descriptorTag left) (take (descriptorLength left) (drop 2 left)) in
-      after ≡ withLook seen ((lookedOf k) .look) ((lookedOf k) .embedded))
-      → seenAfter after (kindsOf reading (drop (at + (2 + descriptorLength left)) info)) ≡ seenOf reading info
-  next f after e =
+  pub kinds-next : 2 + descriptorLength left ≤ length left
+      → kindsOf reading (drop at info)
+      ≡ payloadKind reading (descriptorTag left) (take (descriptorLength left) (drop 2 left))
+      ∷ kindsOf reading (drop (at + (2 + descriptorLength left)) info)
+  kinds-next f =
       let n : ℕ = descriptorLength left in
-      let k : Kind = payloadKind reading (descriptorTag left) (take n (drop 2 left)) in
-      let pieces = ap (map (kindOf reading)) (cut-piece 2 descriptorLength (omega arith) left f) in
-      let kinds : kindsOf reading left ≡ k ∷ kindsOf reading (drop (2 + n) left) =
-      pieces ∙ ap (λ (t : ℕ). payloadKind reading t (take n (drop 2 left)) ∷ kindsOf reading (drop (2 + n) left)) (tag-alone left) in
-      let here : after ≡ withKind seen k = e ∙ rw (payload-fits reading (descriptorTag left) (take n (drop 2 left))) in
       let later : drop (at + (2 + n)) info ≡ drop (2 + n) left = sym (drop-drop (2 + n) at info) ∙ ap (drop (2 + n)) (sym rest) in
-      rw (later, here) (ap (seenAfter seen) (sym kinds) ∙ rw rest inv)
+      ap (kindsOf reading) (sym rest)
+      ∙ ap (map (kindOf reading)) (cut-piece 2 descriptorLength (omega arith) left f)
+      ∙ ap (λ (t : ℕ). payloadKind reading t (take n (drop 2 left)) ∷ kindsOf reading (drop (2 + n) left)) (tag-alone left)
+      ∙ ap (λ (l : List ℕ). payloadKind reading (descriptorTag left) (take n (drop 2 left)) ∷ kindsOf reading l) (sym later)
+
+  -- with what was seen so far
+  module _ (seen : Seen) (inv : seenAfter seen (kindsOf reading (drop at info)) ≡ seenOf reading info) where
+    pub stop : 0 < length left → length left < 2 + descriptorLength left → unfitSeen seen ≡ seenOf reading info
+    stop h short = ap (seenAfter seen) (sym (kinds-stop h short)) ∙ inv
+
+    pub next : 2 + descriptorLength left ≤ length left → (after : Seen)
+        → (let k : Kind = payloadKind reading (descriptorTag left) (take (descriptorLength left) (drop 2 left)) in
+        after ≡ withLook seen (lookOf k) (padTo 63 noLayer (layersIn k)))
+        → seenAfter after (kindsOf reading (drop (at + (2 + descriptorLength left)) info)) ≡ seenOf reading info
+    next f after e =
+        let n : ℕ = descriptorLength left in
+        let k : Kind = payloadKind reading (descriptorTag left) (take n (drop 2 left)) in
+        let here : after ≡ withKind seen k = e ∙ rw (payload-fits reading (descriptorTag left) (take n (drop 2 left))) in
+        rw here (ap (seenAfter seen) (sym (kinds-next f)) ∙ inv)

@@ -3,5 +3,5 @@ pub mod Hierarchy
 pub mod Extension
 pub mod Records
 pub mod Looking
-pub mod Steps
+pub mod Finding
 pub mod Meaning

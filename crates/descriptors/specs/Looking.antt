@@ -19,9 +19,6 @@ use Rattle.descriptors.specs.declared.hierarchy.HierarchyRecord.{Hierarc
 use Rattle.descriptors.specs.declared.extension.ExtensionRecord.{ExtensionRecord}
 use Rattle.descriptors.specs.declared.«record».Record.{Record}
 use Rattle.descriptors.specs.declared.«record».Record.the-variants.{NoRecord, Hierarchy, Extension}
-use Rattle.descriptors.specs.declared.looking.Look.{Look}
-use Rattle.descriptors.specs.declared.looking.Look.the-variants.{Skipped, WrongLength, Hierarchy as LookHierarchy, Extension as LookExtension}
-use Rattle.descriptors.specs.declared.looking.Looked.{Looked}
 use Rattle.descriptors.specs.declared.looking.Seen.{Seen}
 use Rattle.descriptors.specs.Head.{descriptorHead}
 use Rattle.descriptors.specs.Extension.{noLayer, extensionOf, embeddedOf}

@@ -1,8 +1,10 @@
 // What a reading sees in the descriptor bytes of a stream that it knows.
 ghost use mathlib.Core.Path.{_≡_};
 ghost use mathlib.Core.List.{[]};
-ghost use Rattle.descriptors.specs.Looking.{extensionKind, payloadKind, seenOf, nothingSeen};
-ghost use Rattle.descriptors.specs.Steps.{lookOnly, lookedOf, unfitSeen, withSecond, withWrongLength, withRecord, withLook};
+ghost use Rattle.combinators.specs.Padding.{padTo};
+ghost use Rattle.descriptors.specs.Extension.{noLayer};
+ghost use Rattle.descriptors.specs.Looking.{heldIn, extensionKind, payloadKind, seenOf, nothingSeen};
+ghost use Rattle.descriptors.specs.Finding.{lookOf, nothingFound, unfitFound, secondFound, wrongLengthFound, recordFound, lookFound, listBefore, seenBy, Within, namedIn, namedBy};
 use super::extension::ExtensionRecord;
 use super::extension::no_layers;
 use super::extension::read_embedded;
@@ -11,6 +13,9 @@ use super::head::first_descriptor;
 use super::hierarchy::HierarchyRecord;
 use super::hierarchy::read_hierarchy;
 use super::record::Record;
+use super::record::is_layer;
+use super::record::names_in_list;
+use super::record::names_of_hierarchy;
 use vocabulary::LayerIndex;
 use vocabulary::Reading;
 
@@ -20,12 +25,6 @@ pub enum Look {
     WrongLength,
     Hierarchy(HierarchyRecord),
     Extension(ExtensionRecord),
-}
-
-// A look, with the embedded layers of an extension beside it.
-pub struct Looked {
-    pub look: Look,
-    pub embedded: [LayerIndex; 63],
 }
 
 // All descriptors of a stream: whether each fits, whether one of the two kinds has a wrong length, whether there is a second
@@ -38,7 +37,23 @@ pub struct Seen {
     pub embedded: [LayerIndex; 63],
 }
 
-// Before any descriptor, and of a stream whose descriptors are not looked into.
+// What is found in them: all that is seen but the embedded layers of the first record, and in their place where its descriptor ends, since an extension's
+// list are its last bytes. A walk keeps this, which is small, and whoever wants the list takes it from the bytes.
+pub struct Found {
+    pub fits: bool,
+    pub wrong_length: bool,
+    pub second_record: bool,
+    pub record: Record,
+    pub end: usize,
+}
+
+// What makes a stream a layer, if anything does, and the set of the layers that it names.
+pub struct Named {
+    pub record: Record,
+    pub names: u64,
+}
+
+// Of a stream whose descriptors are not looked into.
 pub fn nothing_seen() -> Seen
     ensures { λ r. ⌜ r ≡ nothingSeen ⌝ }
 {
@@ -51,127 +66,206 @@ pub fn nothing_seen() -> Seen
     }
 }
 
-fn without_layers(look: Look) -> Looked
-    ensures { λ r. ⌜ r ≡ lookOnly look ⌝ }
+fn nothing_found() -> Found
+    ensures { λ r. ⌜ r ≡ nothingFound ⌝ }
 {
-    Looked {
-        look,
-        embedded: no_layers(),
+    Found {
+        fits: true,
+        wrong_length: false,
+        second_record: false,
+        record: Record::NoRecord,
+        end: 0,
     }
 }
 
 // The payload of a descriptor with tag 63 in the 2015 reading.
-fn look_at_extension(payload: &[u8]) -> Looked
-    ensures { λ r. ⌜ r ≡ lookedOf (extensionKind (now (payload .entry))) ⌝ }
+fn look_at_extension(payload: &[u8]) -> Look
+    ensures { λ r. ⌜ r ≡ lookOf (extensionKind (now (payload .entry))) ⌝ }
 {
     if payload.len() == 0 {
-        return without_layers(Look::Skipped);
+        return Look::Skipped;
     }
     if payload[0] != 0x06 {
-        return without_layers(Look::Skipped);
+        return Look::Skipped;
     }
     if payload.len() < 7 {
-        return without_layers(Look::WrongLength);
+        return Look::WrongLength;
     }
     let extension = read_extension(payload);
     if payload.len() != 7 + extension.num_embedded_layers as usize {
-        return without_layers(Look::WrongLength);
+        return Look::WrongLength;
     }
-    Looked {
-        look: Look::Extension(extension),
-        embedded: read_embedded(&payload[7..]),
-    }
+    Look::Extension(extension)
 }
 
 // One descriptor of a known stream, by its tag.
-fn look_at(reading: Reading, tag: u8, payload: &[u8]) -> Looked
-    ensures { λ r. ⌜ r ≡ lookedOf (payloadKind reading tag (now (payload .entry))) ⌝ }
+fn look_at(reading: Reading, tag: u8, payload: &[u8]) -> Look
+    ensures { λ r. ⌜ r ≡ lookOf (payloadKind reading tag (now (payload .entry))) ⌝ }
 {
     if tag == 4 {
         if payload.len() != 4 {
-            return without_layers(Look::WrongLength);
+            return Look::WrongLength;
         }
-        return without_layers(Look::Hierarchy(read_hierarchy(reading, payload)));
+        return Look::Hierarchy(read_hierarchy(reading, payload));
     }
     if tag != 63 {
-        return without_layers(Look::Skipped);
+        return Look::Skipped;
     }
     match reading {
-        Reading::Edition2009 => without_layers(Look::Skipped),
+        Reading::Edition2009 => Look::Skipped,
         Reading::Edition2015 => look_at_extension(payload),
     }
 }
 
-fn unfit(seen: Seen) -> Seen
-    ensures { λ r. ⌜ r ≡ unfitSeen seen ⌝ }
+fn unfit(found: Found) -> Found
+    ensures { λ r. ⌜ r ≡ unfitFound found ⌝ }
 {
-    let mut after = seen;
+    let mut after = found;
     after.fits = false;
     after
 }
 
-fn with_second(seen: Seen) -> Seen
-    ensures { λ r. ⌜ r ≡ withSecond seen ⌝ }
+fn with_second(found: Found) -> Found
+    ensures { λ r. ⌜ r ≡ secondFound found ⌝ }
 {
-    let mut after = seen;
+    let mut after = found;
     after.second_record = true;
     after
 }
 
-fn with_wrong_length(seen: Seen) -> Seen
-    ensures { λ r. ⌜ r ≡ withWrongLength seen ⌝ }
+fn with_wrong_length(found: Found) -> Found
+    ensures { λ r. ⌜ r ≡ wrongLengthFound found ⌝ }
 {
-    let mut after = seen;
+    let mut after = found;
     after.wrong_length = true;
     after
 }
 
-// A record more: the first is kept, another is the second.
-fn with_record(seen: Seen, record: Record, embedded: [LayerIndex; 63]) -> Seen
-    ensures { λ r. ⌜ r ≡ withRecord seen «record» embedded ⌝ }
+// A record more, and where its descriptor ends: the first is kept, another is the second.
+fn with_record(found: Found, record: Record, end: usize) -> Found
+    ensures { λ r. ⌜ r ≡ recordFound found «record» end ⌝ }
 {
-    let first = seen.record;
+    let first = found.record;
     match first {
-        Record::NoRecord => Seen {
-            fits: seen.fits,
-            wrong_length: seen.wrong_length,
-            second_record: seen.second_record,
+        Record::NoRecord => Found {
+            fits: found.fits,
+            wrong_length: found.wrong_length,
+            second_record: found.second_record,
             record,
-            embedded,
+            end,
         },
-        Record::Hierarchy(_) => with_second(seen),
-        Record::Extension(_) => with_second(seen),
+        Record::Hierarchy(_) => with_second(found),
+        Record::Extension(_) => with_second(found),
     }
 }
 
-fn with_look(seen: Seen, looked: Looked) -> Seen
-    ensures { λ r. ⌜ r ≡ withLook seen (looked .look) (looked .embedded) ⌝ }
+fn with_look(found: Found, look: Look, end: usize) -> Found
+    ensures { λ r. ⌜ r ≡ lookFound found look end ⌝ }
 {
-    let look = looked.look;
-    let embedded = looked.embedded;
     match look {
-        Look::Skipped => seen,
-        Look::WrongLength => with_wrong_length(seen),
-        Look::Hierarchy(hierarchy) => with_record(seen, Record::Hierarchy(hierarchy), embedded),
-        Look::Extension(extension) => with_record(seen, Record::Extension(extension), embedded),
+        Look::Skipped => found,
+        Look::WrongLength => with_wrong_length(found),
+        Look::Hierarchy(hierarchy) => with_record(found, Record::Hierarchy(hierarchy), end),
+        Look::Extension(extension) => with_record(found, Record::Extension(extension), end),
     }
 }
 
 // Every descriptor of a stream that the reading knows.
-pub fn look_through(reading: Reading, info: &[u8]) -> Seen
-    ensures { λ r. ⌜ r ≡ seenOf reading (now (info .entry)) ⌝ }
+fn find_records(reading: Reading, info: &[u8]) -> Found
+    ensures { λ r. ⌜ (seenBy (now (info .entry)) r ≡ seenOf reading (now (info .entry))) × Within (now (info .entry)) (r .«record») (r .end) ⌝ }
 {
-    let mut seen = nothing_seen();
+    let mut found = nothing_found();
     let mut at = 0;
     while at < info.len() {
         let left = &info[at..];
         let first = first_descriptor(left);
         if !first.fits {
-            return unfit(seen);
+            return unfit(found);
         }
         let end = first.end;
-        seen = with_look(seen, look_at(reading, first.tag, &left[2..end]));
+        let look = look_at(reading, first.tag, &left[2..end]);
+        at += end;
+        found = with_look(found, look, at);
+    }
+    found
+}
+
+// The embedded layers of a record whose descriptor ends at `end`; a hierarchy record has none beside it.
+fn layers_before(record: Record, end: usize, info: &[u8]) -> [LayerIndex; 63]
+    requires { ⌜ Within (now info) «record» end ⌝ }
+    ensures { λ r. ⌜ r ≡ padTo 63 noLayer (listBefore (now (info .entry)) «record» end) ⌝ }
+{
+    match record {
+        Record::NoRecord => no_layers(),
+        Record::Hierarchy(_) => no_layers(),
+        Record::Extension(extension) => {
+            let start = end - extension.num_embedded_layers as usize;
+            read_embedded(&info[start..end])
+        }
+    }
+}
+
+// What is seen of a stream that the reading knows, with the embedded layers.
+pub fn look_through(reading: Reading, info: &[u8]) -> Seen
+    ensures { λ r. ⌜ r ≡ seenOf reading (now (info .entry)) ⌝ }
+{
+    let found = find_records(reading, info);
+    let record = found.record;
+    Seen {
+        fits: found.fits,
+        wrong_length: found.wrong_length,
+        second_record: found.second_record,
+        record,
+        embedded: layers_before(record, found.end, info),
+    }
+}
+
+// Of a stream whose descriptors are not looked into, and of a descriptor that is no record.
+pub fn nothing_named() -> Named
+    ensures { λ r. ⌜ r ≡ namedIn [] ⌝ }
+{
+    Named {
+        record: Record::NoRecord,
+        names: 0,
+    }
+}
+
+// One descriptor, if it is a record. The list of an extension stands behind the seven bytes of its fields.
+fn named_at(reading: Reading, tag: u8, payload: &[u8]) -> Named
+    ensures { λ r. ⌜ r ≡ namedIn (heldIn (payloadKind reading tag (now (payload .entry)))) ⌝ }
+{
+    match look_at(reading, tag, payload) {
+        Look::Skipped => nothing_named(),
+        Look::WrongLength => nothing_named(),
+        Look::Hierarchy(hierarchy) => Named {
+            record: Record::Hierarchy(hierarchy),
+            names: names_of_hierarchy(hierarchy),
+        },
+        Look::Extension(extension) => Named {
+            record: Record::Extension(extension),
+            names: names_in_list(&payload[7..]),
+        },
+    }
+}
+
+// What makes a stream that the reading knows a layer, if anything does: its first record, behind which nothing is looked at.
+pub fn name_layers(reading: Reading, info: &[u8]) -> Named
+    ensures { λ r. ⌜ r ≡ namedBy (seenOf reading (now (info .entry))) ⌝ }
+{
+    let mut at = 0;
+    while at < info.len() {
+        let left = &info[at..];
+        let first = first_descriptor(left);
+        if !first.fits {
+            return nothing_named();
+        }
+        let end = first.end;
+        let named = named_at(reading, first.tag, &left[2..end]);
+        let record = named.record;
+        if is_layer(record) {
+            return named;
+        }
         at += end;
     }
-    seen
+    nothing_named()
 }

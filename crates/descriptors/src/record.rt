@@ -9,6 +9,7 @@ ghost use Rattle.combinators.specs.Lists.{any, gather};
 ghost use Rattle.buffers.specs.Buffers.{Laid};
 ghost use Rattle.sets.specs.Sets.{added};
 ghost use Rattle.syntax.specs.Filled.{bytesIn, tooWideIn};
+ghost use Rattle.descriptors.specs.Extension.{layersOf};
 ghost use Rattle.descriptors.specs.Records.{isLayer, indexOf, channelOf, isBase, plain, withIndices, namesOf, recordTables};
 use super::extension::ExtensionRecord;
 use super::extension::extension_fits;
@@ -98,7 +99,20 @@ fn names_in(count: usize, embedded: [LayerIndex; 63]) -> u64
     set
 }
 
-fn names_of_hierarchy(hierarchy: HierarchyRecord) -> u64
+// The set of the layers in an extension's list, one byte each.
+pub fn names_in_list(list: &[u8]) -> u64
+    ensures { λ r. ⌜ r ≡ withIndices 0 (map plain (layersOf (now (list .entry)))) ⌝ }
+{
+    let mut set = 0u64;
+    let mut i = 0;
+    while i < list.len() {
+        set = with_index(set, LayerIndex(list[i] % 64));
+        i += 1;
+    }
+    set
+}
+
+pub fn names_of_hierarchy(hierarchy: HierarchyRecord) -> u64
     ensures { λ r. ⌜ r ≡ namesOf (Record.Hierarchy hierarchy) [] ⌝ }
 {
     if is_base(hierarchy) {

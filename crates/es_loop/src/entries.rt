@@ -4,7 +4,9 @@ ghost use mathlib.Core.List.{[]};
 ghost use Prim.Native.Nat.{_+_, _*_, _%_, _≤_};
 ghost use lib.ListN.{length, take, drop};
 ghost use Rattle.framing.specs.Pieces.{whole};
+ghost use Rattle.descriptors.specs.Finding.{namedBy};
 ghost use Rattle.es_loop.specs.Entries.{sizeOf, streamOf, seenIn, entryOf, entriesOf};
+use descriptors::Named;
 use descriptors::Record;
 use descriptors::Seen;
 use vocabulary::LayerIndex;
@@ -90,6 +92,17 @@ pub fn read_stream(reading: Reading, entry: &[u8]) -> Stream
         pid,
         seen,
     }
+}
+
+// What makes a whole entry a layer, if anything does, and the set of the layers that it names. Nothing else is taken from it.
+pub fn read_layer(reading: Reading, entry: &[u8]) -> Named
+    requires { ⌜ 5 ≤ length (now entry) ⌝ }
+    ensures { λ r. ⌜ r ≡ namedBy (streamOf reading (whole (take 5 (now (entry .entry))) (drop 5 (now (entry .entry)))) .seen) ⌝ }
+{
+    if vocabulary::knows(reading, entry[0]) {
+        return descriptors::name_layers(reading, &entry[5..]);
+    }
+    descriptors::nothing_named()
 }
 
 // What is answered of an entry.

@@ -12,6 +12,7 @@ pub use entries::Stream;
 pub use entries::blank_entries;
 pub use entries::entry_of;
 pub use entries::entry_size;
+pub use entries::read_layer;
 pub use entries::read_stream;
 pub use faults::Fault;
 pub use faults::NO_FAULT;

@@ -56,12 +56,9 @@ fn layers_in(reading: Reading, bytes: &[u8]) -> Layers
     while at < bytes.len() {
         let left = &bytes[at..];
         let size = es_loop::entry_size(left);
-        let stream = es_loop::read_stream(reading, &left[..size]);
-        let seen = stream.seen;
-        let record = seen.record;
-        let named = seen.embedded;
-        let names = descriptors::names(record, named);
-        present = add_layer(record, names, present, &mut embedded);
+        let layer = es_loop::read_layer(reading, &left[..size]);
+        let record = layer.record;
+        present = add_layer(record, layer.names, present, &mut embedded);
         at += size;
     }
     Layers { present, embedded }

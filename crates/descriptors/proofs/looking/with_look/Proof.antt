@@ -2,7 +2,7 @@
 -- Assumes nothing.
 use mathlib.Core.Path.{_∙_, ap, sym}
 use Rattle.descriptors.specs.declared.looking.Look.{Look}
-use Rattle.descriptors.specs.Steps.{withLook}
+use Rattle.descriptors.specs.Finding.{lookFound}
 use borrow.Author.Needs.{needs}
 use Rattle.descriptors.proofs.looking.with_look.Statement.{statement}
 use Rattle.descriptors.proofs.looking.with_look.Tie as tie
@@ -33,18 +33,18 @@ returns c = search needs
 
 returns-2 : tie.Need-returns-2
 returns-2 c =
-    let a = c .before .before .before .before .args in
-    c .with-wrong-length .ensures ∙ sym (ap (λ (look : Look). withLook (a .seen) look (a .looked .embedded)) (c .before .enum-told2 .given .1))
+    let a = c .before .before .before .args in
+    c .with-wrong-length .ensures ∙ sym (ap (λ (look : Look). lookFound (a .found) look (a .end)) (c .before .enum-told2 .given .1))
 
 returns-3 : tie.Need-returns-3
 returns-3 c =
-    let a = c .before .before .before .before .before .args in
-    c .with-record .ensures ∙ sym (ap (λ (look : Look). withLook (a .seen) look (a .looked .embedded)) (c .before .before .look .given .1))
+    let a = c .before .before .before .before .args in
+    c .with-record .ensures ∙ sym (ap (λ (look : Look). lookFound (a .found) look (a .end)) (c .before .before .look .given .1))
 
 returns-4 : tie.Need-returns-4
 returns-4 c =
-    let a = c .before .before .before .before .before .args in
-    c .with-record2 .ensures ∙ sym (ap (λ (look : Look). withLook (a .seen) look (a .looked .embedded)) (c .before .before .look2 .given .1))
+    let a = c .before .before .before .before .args in
+    c .with-record2 .ensures ∙ sym (ap (λ (look : Look). lookFound (a .found) look (a .end)) (c .before .before .look2 .given .1))
 
 pub with-look-spec : {M : Type 1} → statement M
 with-look-spec =

@@ -2,7 +2,7 @@
 -- Assumes nothing.
 use mathlib.Core.Path.{_∙_, ap, sym}
 use Rattle.descriptors.specs.declared.«record».Record.{Record}
-use Rattle.descriptors.specs.Steps.{besides}
+use Rattle.descriptors.specs.Finding.{besidesFound}
 use borrow.Author.Needs.{needs}
 use Rattle.descriptors.proofs.looking.with_record.Statement.{statement}
 use Rattle.descriptors.proofs.looking.with_record.Tie as tie
@@ -25,17 +25,17 @@ with-second-requires-2 c κs = search needs
 returns : tie.Need-returns
 returns c =
     let a = c .before .before .args in
-    sym (ap (λ (first : Record). besides first (a .seen) (a .«record») (a .embedded)) (c .enum-told .given .1))
+    sym (ap (λ (first : Record). besidesFound first (a .found) (a .«record») (a .end)) (c .enum-told .given .1))
 
 returns-2 : tie.Need-returns-2
 returns-2 c =
     let a = c .before .before .before .args in
-    c .with-second .ensures ∙ sym (ap (λ (first : Record). besides first (a .seen) (a .«record») (a .embedded)) (c .before .enum-told2 .given .1))
+    c .with-second .ensures ∙ sym (ap (λ (first : Record). besidesFound first (a .found) (a .«record») (a .end)) (c .before .enum-told2 .given .1))
 
 returns-3 : tie.Need-returns-3
 returns-3 c =
     let a = c .before .before .before .args in
-    c .with-second2 .ensures ∙ sym (ap (λ (first : Record). besides first (a .seen) (a .«record») (a .embedded)) (c .before .enum-told3 .given .1))
+    c .with-second2 .ensures ∙ sym (ap (λ (first : Record). besidesFound first (a .found) (a .«record») (a .end)) (c .before .enum-told3 .given .1))
 
 pub with-record-spec : {M : Type 1} → statement M
 with-record-spec =

@@ -1,25 +1,21 @@
-use Prim.Native.Nat.{ℕ, _+_, _-_}
+-- `loop_layers::layers_in` meets its contract. The invariant: where the walk stands, and that the layers so far, continued over the entries left, are
+-- those of all.
+-- Assumes nothing.
+use Prim.Native.Nat.{_+_, _-_}
 use native.Mathlib.Omega.{arith}
 use borrow.Author.Needs.{needs}
-use mathlib.Core.Path.{_≡_, refl, sym, _∙_, ap}
-use mathlib.Core.List.{List}
+use mathlib.Core.Path.{_≡_, sym, _∙_, ap}
 use lib.ListN.{length}
+use Rattle.sets.specs.Sets.{added}
+use Rattle.descriptors.specs.declared.looking.Named.{Named}
 use Rattle.closure.specs.declared.Layers.{Layers}
-use Rattle.es_loop.specs.declared.entries.Stream.{Stream}
 use Rattle.es_loop.specs.declared.entries.Entry.{Entry}
 use Rattle.es_loop.specs.Entries.{entryOf}
-use Rattle.sets.specs.Sets.{added}
-use Rattle.loop_layers.specs.Layers.{placeOf, embeddedIn, layersOf, putAt}
-use Rattle.loop_layers.proofs.Walked.{Standing, standing-first, leftFrom, streamFrom, Turn, turn, none-left, layersWith, layers-next}
+use Rattle.es_loop.specs.Conditions.{slotOf}
+use Rattle.loop_layers.specs.Layers.{layersOf, putAt}
+use Rattle.loop_layers.proofs.Walked.{Standing, standing-first, leftFrom, streamFrom, turn, none-left, layersWith, layers-next}
 use Rattle.loop_layers.proofs.layer_sets.layers_in.Statement.{statement}
 use Rattle.loop_layers.proofs.layer_sets.layers_in.Tie as tie
-use Rattle.loop_layers.proofs.layer_sets.layers_in.Reads as reads
-use Rattle.loop_layers.proofs.layer_sets.layers_in.Lts as lts
-use Rattle.descriptors.proofs.names.Reads as names-reads
-use Rattle.es_loop.proofs.entry_size.Reads as entry-size-reads
-use Rattle.es_loop.proofs.read_stream.Reads as read-stream-reads
-use Rattle.loop_layers.proofs.layer_sets.add_layer.Reads as add-layer-reads
-use Rattle.loop_layers.proofs.layer_sets.no_layers.Reads as no-layers-reads
 
 abbrev Inv-loop : tie.InvT-loop
 Inv-loop reading bytes present₀ embedded₀ at₀ present embedded at =
@@ -49,8 +45,8 @@ part-left-end c = search needs
 entry-size-requires : tie.Need-entry-size-requires Inv-loop μ-loop
 entry-size-requires c κs = search needs
 
-slice-aggregate-read-stream : tie.Need-slice-aggregate-read-stream Inv-loop μ-loop
-slice-aggregate-read-stream c =
+slice-aggregate-read-layer : tie.Need-slice-aggregate-read-layer Inv-loop μ-loop
+slice-aggregate-read-layer c =
     let start = c .before .before .before .before .before .before .before .before in
     let a = start .args in
     let loop = c .before .before .before .before .loop in
@@ -58,8 +54,8 @@ slice-aggregate-read-stream c =
     let t = turn (a .reading) (a .bytes .now) (start .pre) (loop .at) (loop .inv .0) (c .before .before .before .loop-test .taken) (size .result) (size .ensures) in
     sym (t .whole-long)
 
-read-stream-requires : tie.Need-read-stream-requires Inv-loop μ-loop
-read-stream-requires c κs =
+read-layer-requires : tie.Need-read-layer-requires Inv-loop μ-loop
+read-layer-requires c κs =
     let start = c .before .before .before .before .before .before .before .before in
     let a = start .args in
     let loop = c .before .before .before .before .loop in
@@ -67,19 +63,16 @@ read-stream-requires c κs =
     let t = turn (a .reading) (a .bytes .now) (start .pre) (loop .at) (loop .inv .0) (c .before .before .before .loop-test .taken) (size .result) (size .ensures) in
     rw (t .whole-long) (t .large)
 
-names-requires : tie.Need-names-requires Inv-loop μ-loop
-names-requires c κs = search needs
-
 add-layer-requires : tie.Need-add-layer-requires Inv-loop μ-loop
 add-layer-requires c κs = search needs
 
 add-at : tie.Need-add-at Inv-loop μ-loop
 add-at c =
-    let start = c .before .before .before .before .before .before .before .before .before .before .before .before .before .before in
+    let start = c .before .before .before .before .before .before .before .before .before .before .before in
     let a = start .args in
-    let loop = c .before .before .before .before .before .before .before .before .before .before .loop in
-    let size = c .before .before .before .before .before .before .before .entry-size in
-    let t = turn (a .reading) (a .bytes .now) (start .pre) (loop .at) (loop .inv .0) (c .before .before .before .before .before .before .before .before .before .loop-test .taken) (size .result) (size .ensures) in
+    let loop = c .before .before .before .before .before .before .before .loop in
+    let size = c .before .before .before .before .entry-size in
+    let t = turn (a .reading) (a .bytes .now) (start .pre) (loop .at) (loop .inv .0) (c .before .before .before .before .before .before .loop-test .taken) (size .result) (size .ensures) in
     let short = t .short in
     let large = t .large in
     let room = t .room in
@@ -88,11 +81,11 @@ add-at c =
 
 loop-less : tie.Need-loop-less Inv-loop μ-loop
 loop-less c =
-    let start = c .before .before .before .before .before .before .before .before .before .before .before .before .before .before in
+    let start = c .before .before .before .before .before .before .before .before .before .before .before in
     let a = start .args in
-    let loop = c .before .before .before .before .before .before .before .before .before .before .loop in
-    let size = c .before .before .before .before .before .before .before .entry-size in
-    let t = turn (a .reading) (a .bytes .now) (start .pre) (loop .at) (loop .inv .0) (c .before .before .before .before .before .before .before .before .before .loop-test .taken) (size .result) (size .ensures) in
+    let loop = c .before .before .before .before .before .before .before .loop in
+    let size = c .before .before .before .before .entry-size in
+    let t = turn (a .reading) (a .bytes .now) (start .pre) (loop .at) (loop .inv .0) (c .before .before .before .before .before .before .loop-test .taken) (size .result) (size .ensures) in
     let short = t .short in
     let large = t .large in
     let room = t .room in
@@ -101,21 +94,21 @@ loop-less c =
 
 loop-again : tie.Need-loop-again Inv-loop μ-loop
 loop-again c =
-    let start = c .before .before .before .before .before .before .before .before .before .before .before .before .before .before in
+    let start = c .before .before .before .before .before .before .before .before .before .before .before in
     let a = start .args in
-    let loop = c .before .before .before .before .before .before .before .before .before .before .loop in
-    let size = c .before .before .before .before .before .before .before .entry-size in
-    let t = turn (a .reading) (a .bytes .now) (start .pre) (loop .at) (loop .inv .0) (c .before .before .before .before .before .before .before .before .before .loop-test .taken) (size .result) (size .ensures) in
-    let stream = c .before .before .before .before .before .read-stream in
+    let loop = c .before .before .before .before .before .before .before .loop in
+    let size = c .before .before .before .before .entry-size in
+    let t = turn (a .reading) (a .bytes .now) (start .pre) (loop .at) (loop .inv .0) (c .before .before .before .before .before .before .loop-test .taken) (size .result) (size .ensures) in
+    let layer = c .before .before .read-layer in
     let before : Layers = record { present = loop .present; embedded = loop .embedded } in
     let entry : Entry = entryOf (streamFrom (a .reading) (a .bytes .now) (loop .at) (size .result)) in
     let rest = leftFrom (a .reading) (a .bytes .now) (loop .at + size .result) in
-    let added-layer = c .add-layer in (
+    let more = c .add-layer in (
       t .next,
-      layers-next before entry rest (leftFrom (a .reading) (a .bytes .now) 0) (sym (ap (layersWith before) (t .front)) ∙ loop .inv .1) (c .before .before .names .result) (added-layer .result) (added-layer .last .1 .1 .1 .0)
-          (c .before .before .names .ensures ∙ ap (λ (s : Stream). embeddedIn (entryOf s)) (stream .ensures))
-          (added-layer .ensures .0 ∙ ap (λ (s : Stream). added (loop .present) (placeOf (entryOf s))) (stream .ensures))
-          (added-layer .ensures .1 ∙ ap (λ (s : Stream). putAt (loop .embedded) (placeOf (entryOf s)) (c .before .before .names .result)) (stream .ensures)),
+      layers-next before entry rest (leftFrom (a .reading) (a .bytes .now) 0) (sym (ap (layersWith before) (t .front)) ∙ loop .inv .1) (layer .result .names) (more .result) (more .last .1 .1 .1 .0)
+          (ap (λ (n : Named). n .names) (layer .ensures))
+          (more .ensures .0 ∙ ap (λ (n : Named). added (loop .present) (slotOf (n .«record»))) (layer .ensures))
+          (more .ensures .1 ∙ ap (λ (n : Named). putAt (loop .embedded) (slotOf (n .«record»)) (layer .result .names)) (layer .ensures)),
     )
 
 returns : tie.Need-returns Inv-loop μ-loop
@@ -137,9 +130,8 @@ layers-in-spec =
     part-left-start
     part-left-end
     entry-size-requires
-    slice-aggregate-read-stream
-    read-stream-requires
-    names-requires
+    slice-aggregate-read-layer
+    read-layer-requires
     add-layer-requires
     add-at
     loop-less

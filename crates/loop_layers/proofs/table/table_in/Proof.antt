@@ -1,24 +1,18 @@
-use Prim.Native.Nat.{ℕ, _+_, _-_}
+-- `loop_layers::table_in` meets its contract. The invariant: where the walk stands, and that the table so far, continued over the entries left, is that
+-- of all.
+-- Assumes nothing.
+use Prim.Native.Nat.{_+_, _-_}
 use native.Mathlib.Omega.{arith}
 use borrow.Author.Needs.{needs}
-use mathlib.Core.Path.{_≡_, refl, sym, _∙_, ap}
-use mathlib.Core.List.{List}
+use mathlib.Core.Path.{_≡_, sym, _∙_, ap}
 use lib.ListN.{length}
-use Rattle.es_loop.specs.declared.entries.Stream.{Stream}
 use Rattle.es_loop.specs.declared.entries.Entry.{Entry}
 use Rattle.es_loop.specs.Entries.{entryOf}
 use Rattle.loop_layers.specs.declared.table.LayerTable.{LayerTable}
 use Rattle.loop_layers.specs.Layers.{tableOf, withEntry}
-use Rattle.loop_layers.proofs.Walked.{Standing, standing-first, leftFrom, streamFrom, Turn, turn, none-left, tableWith, table-next}
+use Rattle.loop_layers.proofs.Walked.{Standing, standing-first, leftFrom, streamFrom, turn, none-left, tableWith, table-next}
 use Rattle.loop_layers.proofs.table.table_in.Statement.{statement}
 use Rattle.loop_layers.proofs.table.table_in.Tie as tie
-use Rattle.loop_layers.proofs.table.table_in.Reads as reads
-use Rattle.loop_layers.proofs.table.table_in.Lts as lts
-use Rattle.es_loop.proofs.entry_of.Reads as entry-of-reads
-use Rattle.es_loop.proofs.entry_size.Reads as entry-size-reads
-use Rattle.es_loop.proofs.read_stream.Reads as read-stream-reads
-use Rattle.loop_layers.proofs.table.no_table.Reads as no-table-reads
-use Rattle.loop_layers.proofs.table.with_entry.Reads as with-entry-reads
 
 abbrev Inv-loop : tie.InvT-loop
 Inv-loop reading bytes table₀ at₀ table at =

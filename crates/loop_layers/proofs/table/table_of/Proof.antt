@@ -1,6 +1,8 @@
+-- `loop_layers::table_of` meets its contract. The invariant: the table so far, continued over the entries left of those that count, is that of all.
+-- The measure is the number of entries left. Assumes nothing.
 use Prim.Native.Nat.{ℕ, _≤_, _<_, _-_}
 use borrow.Author.Needs.{needs}
-use mathlib.Core.Path.{_≡_, refl, sym, _∙_, ap}
+use mathlib.Core.Path.{_≡_, sym, _∙_, ap}
 use mathlib.Core.List.{List, []}
 use native.Mathlib.Omega.{arith}
 use lib.ListN.{length, take, drop, drop-of-length-le}
@@ -13,11 +15,6 @@ use Rattle.loop_layers.proofs.Walked.{tableWith}
 use Rattle.loop_layers.proofs.Pass.{pass-next, counted}
 use Rattle.loop_layers.proofs.table.table_of.Statement.{statement}
 use Rattle.loop_layers.proofs.table.table_of.Tie as tie
-use Rattle.loop_layers.proofs.table.table_of.Reads as reads
-use Rattle.loop_layers.proofs.table.table_of.Lts as lts
-use Rattle.loop_layers.proofs.table.entry_count.Reads as entry-count-reads
-use Rattle.loop_layers.proofs.table.no_table.Reads as no-table-reads
-use Rattle.loop_layers.proofs.table.with_entry.Reads as with-entry-reads
 
 -- what the prover takes to stand past the end of an array of entries
 abbrev pastTheEnd : Entry

@@ -1,4 +1,4 @@
--- What is seen after one descriptor more: the steps that the code takes, and the law that they come to what is seen of all.
+-- What is seen after one descriptor more, and the law that such steps come to what is seen of all.
 -- Assumes nothing.
 use Prim.Native.Nat.{ℕ, zero, suc, _<_}
 use mathlib.Core.Path.{_≡_, refl, sym, _∙_, ap}
@@ -15,22 +15,10 @@ use Rattle.descriptors.specs.declared.«record».Record.{Record}
 use Rattle.descriptors.specs.declared.«record».Record.the-variants.{NoRecord, Hierarchy, Extension}
 use Rattle.descriptors.specs.declared.looking.Look.{Look}
 use Rattle.descriptors.specs.declared.looking.Look.the-variants.{Skipped, WrongLength, Hierarchy as LookHierarchy, Extension as LookExtension}
-use Rattle.descriptors.specs.declared.looking.Looked.{Looked}
 use Rattle.descriptors.specs.declared.looking.Seen.{Seen}
 use Rattle.descriptors.specs.Extension.{noLayer}
 use Rattle.descriptors.specs.Looking.{Kind, does-not-fit, skipped, wrong-length, hierarchy, extension, Held, heldIn, isUnfit, isWrongLength, firstRecord, firstLayers, seenOfKinds, nothingSeen}
-
--- a look with no embedded layers beside it
-abbrev pub lookOnly : Look → Looked
-lookOnly l = record { look = l; embedded = padTo 63 noLayer [] }
-
--- the look at a kind, and the embedded layers in their array
-abbrev pub lookedOf : Kind → Looked
-lookedOf does-not-fit = lookOnly Skipped
-lookedOf skipped = lookOnly Skipped
-lookedOf wrong-length = lookOnly WrongLength
-lookedOf (hierarchy h) = lookOnly (LookHierarchy h)
-lookedOf (extension x layers) = record { look = LookExtension x; embedded = padTo 63 noLayer layers }
+use Rattle.descriptors.specs.Finding.{lookOf, layersIn}
 
 -- a descriptor that does not fit
 abbrev pub unfitSeen : Seen → Seen
@@ -62,7 +50,7 @@ withLook s (LookExtension x) layers = withRecord s (Extension x) layers
 
 -- any kind more
 abbrev pub withKind : Seen → Kind → Seen
-withKind s k = cond (isUnfit k) (unfitSeen s) (withLook s ((lookedOf k) .look) ((lookedOf k) .embedded))
+withKind s k = cond (isUnfit k) (unfitSeen s) (withLook s (lookOf k) (padTo 63 noLayer (layersIn k)))
 
 abbrev pub seenAfter : Seen → List Kind → Seen
 seenAfter s [] = s
