@@ -2,12 +2,13 @@
 // or the refusal (30 to 33, 20 to 24, 13), with every column as it was. The first walk judges and counts, the second lays.
 ghost use mathlib.Core.List.{[], _∷_};
 ghost use mathlib.Core.Path.{_≡_};
-ghost use Prim.Native.Nat.{_+_, _≤_, min};
+ghost use Prim.Native.Nat.{_+_, _≤_};
 ghost use lib.ListN.{length};
 ghost use Rattle.syntax.specs.Filled.{bitOf};
 ghost use Rattle.scanning.specs.Scanning.{rowIn, rowsIn};
 ghost use Rattle.recordings.specs.Columns.{columns, storedAt, roomIn};
 ghost use Rattle.recordings.specs.Reading.{faultOf, headerRefusal, recordingOf, columnsAfter, numberOf, placeOf};
+use combinators::lesser;
 use packets::Fault;
 use packets::PACKET_BYTES;
 use scanning::Event;
@@ -77,15 +78,6 @@ fn header_refusal(number: u8) -> Refusal
         return Refusal::WrongMarker;
     }
     Refusal::PtsBeforeDts
-}
-
-fn lesser(one: usize, other: usize) -> usize
-    ensures { λ r. ⌜ r ≡ min one other ⌝ }
-{
-    if other < one {
-        return other;
-    }
-    one
 }
 
 fn bit(flag: bool) -> u8
