@@ -15,14 +15,14 @@ use Rattle.vocabulary.specs.declared.LayerIndex.{LayerIndex}
 use Rattle.vocabulary.specs.declared.stream_types.Reading.{Reading}
 use Rattle.vocabulary.specs.declared.stream_types.Reading.the-variants.{Edition2009, Edition2015}
 use Rattle.descriptors.specs.declared.«record».Record.{Record}
-use Rattle.descriptors.specs.declared.«record».Record.the-variants.{NoRecord, Hierarchy, Extension}
+use Rattle.descriptors.specs.declared.«record».Record.the-variants.{NoRecord, Hierarchy, Extension, Implied}
 use Rattle.descriptors.specs.declared.looking.Look.{Look}
 use Rattle.descriptors.specs.declared.looking.Look.the-variants.{Skipped, WrongLength, Hierarchy as LookHierarchy, Extension as LookExtension}
 use Rattle.descriptors.specs.declared.looking.Found.{Found}
 use Rattle.descriptors.specs.declared.looking.Named.{Named}
 use Rattle.descriptors.specs.declared.looking.Seen.{Seen}
 use Rattle.descriptors.specs.Extension.{noLayer, extensionOf, layerIndexOf, layersOf, embeddedOf}
-use Rattle.descriptors.specs.Records.{isLayer, plain, withIndices, namesOf}
+use Rattle.descriptors.specs.Records.{isLayer, plain, hierarchyList, withIndices}
 use Rattle.descriptors.specs.Looking.{Kind, does-not-fit, skipped, wrong-length, hierarchy, extension, Held, heldIn, payloadKind, tag63Kind}
 use Rattle.descriptors.specs.Finding.{lookOf, layersIn, lookFound, listBefore, Within, seenBy, namedIn}
 use Rattle.descriptors.proofs.Cases.{count-small}
@@ -48,12 +48,14 @@ module _ (info : List ℕ) (end : ℕ) where
   seen-look fits wrong second NoRecord at (hierarchy h) s = refl
   seen-look fits wrong second (Hierarchy g) at (hierarchy h) s = refl
   seen-look fits wrong second (Extension g) at (hierarchy h) s = refl
+  seen-look fits wrong second Implied at (hierarchy h) s = refl
   seen-look fits wrong second NoRecord at (extension x layers) s =
       ap
       (λ (l : List LayerIndex). record { fits = fits; «wrong_length» = wrong; «second_record» = second; «record» = Extension x; embedded = padTo 63 noLayer l })
       (sym (s .0))
   seen-look fits wrong second (Hierarchy g) at (extension x layers) s = refl
   seen-look fits wrong second (Extension g) at (extension x layers) s = refl
+  seen-look fits wrong second Implied at (extension x layers) s = refl
 
   within-look : (fits wrong second : Bool) (r : Record) (at : ℕ) (k : Kind) → Stands k → Within info r at
       → let after : Found = lookFound (record { fits = fits; «wrong_length» = wrong; «second_record» = second; «record» = r; end = at }) (lookOf k) end in
@@ -64,9 +66,11 @@ module _ (info : List ℕ) (end : ℕ) where
   within-look fits wrong second NoRecord at (hierarchy h) s w = tt
   within-look fits wrong second (Hierarchy g) at (hierarchy h) s w = tt
   within-look fits wrong second (Extension g) at (hierarchy h) s w = w
+  within-look fits wrong second Implied at (hierarchy h) s w = tt
   within-look fits wrong second NoRecord at (extension x layers) s w = s .1
   within-look fits wrong second (Hierarchy g) at (extension x layers) s w = tt
   within-look fits wrong second (Extension g) at (extension x layers) s w = w
+  within-look fits wrong second Implied at (extension x layers) s w = tt
 
   module _ (f : Found) (k : Kind) (s : Stands k) where
     pub found-seen : seenBy info (lookFound f (lookOf k) end) ≡ withLook (seenBy info f) (lookOf k) (padTo 63 noLayer (layersIn k))
@@ -141,18 +145,18 @@ module _ (info : List ℕ) (at n : ℕ) (room : at + (2 + n) ≤ length info) wh
 
 -- what a look at a payload says of them
 abbrev pub Names : List ℕ → Look → Named → Type 0
-Names p Skipped named = named ≡ namedIn []
-Names p WrongLength named = named ≡ namedIn []
-Names p (LookHierarchy h) named = named ≡ record { «record» = Hierarchy h; names = namesOf (Hierarchy h) [] }
+Names p Skipped named = named ≡ namedIn 0 []
+Names p WrongLength named = named ≡ namedIn 0 []
+Names p (LookHierarchy h) named = named ≡ record { «record» = Hierarchy h; names = withIndices 0 (map plain (hierarchyList h)) }
 Names p (LookExtension x) named =
     (7 ≤ length p) × (named ≡ record { «record» = Extension x; names = withIndices 0 (map plain (layersOf (drop 7 p))) })
 
-pub look-names : (p : List ℕ) (k : Kind) → Shaped p k → Names p (lookOf k) (namedIn (heldIn k))
-look-names p does-not-fit s = refl
-look-names p skipped s = refl
-look-names p wrong-length s = refl
-look-names p (hierarchy h) s = refl
-look-names p (extension x layers) s =
+pub look-names : (streamType : ℕ) (p : List ℕ) (k : Kind) → Shaped p k → Names p (lookOf k) (namedIn streamType (heldIn k))
+look-names streamType p does-not-fit s = refl
+look-names streamType p skipped s = refl
+look-names streamType p wrong-length s = refl
+look-names streamType p (hierarchy h) s = refl
+look-names streamType p (extension x layers) s =
     let m : ℕ = x .«num_embedded_layers» in
     let enough = s .0 in
     let behind : length (drop 7 p) ≡ m = length-drop 7 p ∙ omega arith in
@@ -162,16 +166,18 @@ look-names p (extension x layers) s =
     )
 
 -- a kind that holds a record is the first, and one that holds none adds nothing
-pub first-named : (k : Kind) (others : List Held) → isLayer ((namedIn (heldIn k)) .«record») ≡ true → namedIn (heldIn k) ≡ namedIn (heldIn k ++ others)
-first-named does-not-fit others e = apart e
-first-named skipped others e = apart e
-first-named wrong-length others e = apart e
-first-named (hierarchy h) others e = refl
-first-named (extension x layers) others e = refl
+pub first-named : (streamType : ℕ) (k : Kind) (others : List Held) → isLayer ((namedIn streamType (heldIn k)) .«record») ≡ true
+    → namedIn streamType (heldIn k) ≡ namedIn streamType (heldIn k ++ others)
+first-named streamType does-not-fit others e = apart e
+first-named streamType skipped others e = apart e
+first-named streamType wrong-length others e = apart e
+first-named streamType (hierarchy h) others e = refl
+first-named streamType (extension x layers) others e = refl
 
-pub none-named : (k : Kind) (others : List Held) → isLayer ((namedIn (heldIn k)) .«record») ≡ false → namedIn others ≡ namedIn (heldIn k ++ others)
-none-named does-not-fit others e = refl
-none-named skipped others e = refl
-none-named wrong-length others e = refl
-none-named (hierarchy h) others e = apart (sym e)
-none-named (extension x layers) others e = apart (sym e)
+pub none-named : (streamType : ℕ) (k : Kind) (others : List Held) → isLayer ((namedIn streamType (heldIn k)) .«record») ≡ false
+    → namedIn streamType others ≡ namedIn streamType (heldIn k ++ others)
+none-named streamType does-not-fit others e = refl
+none-named streamType skipped others e = refl
+none-named streamType wrong-length others e = refl
+none-named streamType (hierarchy h) others e = apart (sym e)
+none-named streamType (extension x layers) others e = apart (sym e)

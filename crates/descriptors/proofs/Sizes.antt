@@ -20,7 +20,7 @@ use Rattle.vocabulary.specs.declared.stream_types.Reading.the-variants.{Edition
 use Rattle.descriptors.specs.declared.hierarchy.HierarchyRecord.{HierarchyRecord}
 use Rattle.descriptors.specs.declared.extension.ExtensionRecord.{ExtensionRecord}
 use Rattle.descriptors.specs.declared.«record».Record.{Record}
-use Rattle.descriptors.specs.declared.«record».Record.the-variants.{NoRecord, Hierarchy, Extension}
+use Rattle.descriptors.specs.declared.«record».Record.the-variants.{NoRecord, Hierarchy, Extension, Implied}
 use Rattle.descriptors.specs.Head.{headTable}
 use Rattle.descriptors.specs.Hierarchy.{hierarchyDescriptor, hierarchyGiven, hierarchyFields, hierarchyTables}
 use Rattle.descriptors.specs.Extension.{extensionHead, extensionGiven, extensionFields, layerTable, extensionTables}
@@ -67,6 +67,7 @@ abbrev pub recordSize : Record → ℕ
 recordSize NoRecord = 0
 recordSize (Hierarchy h) = 6
 recordSize (Extension x) = 9 + x .«num_embedded_layers»
+recordSize Implied = 0
 
 pub length-layers : (layers : List LayerIndex) → length (gather bytesIn (map layerTable layers)) ≡ length layers
 length-layers [] = refl
@@ -78,6 +79,7 @@ pub record-size : (r : Record) (layers : List LayerIndex) → length layers ≡ 
     → length (gather bytesIn (recordTables r layers)) ≡ recordSize r
 record-size NoRecord layers room e = refl
 record-size (Hierarchy h) layers room e = refl
+record-size Implied layers room e = refl
 record-size (Extension x) layers room e =
     let counted : length (listed x layers e) ≡ x .«num_embedded_layers» =
     length-take-le (x .«num_embedded_layers») layers (omega (arith, count-small x layers e)) in
@@ -89,6 +91,7 @@ pub info-short : (r : Record) (layers : List LayerIndex) → any tooWideIn (reco
     → length (gather bytesIn (recordTables r layers)) ≤ 72
 info-short NoRecord layers e = omega arith
 info-short (Hierarchy h) layers e = omega arith
+info-short Implied layers e = omega arith
 info-short (Extension x) layers e =
     omega (arith, count-small x layers e, length-layers (listed x layers e), length-take (x .«num_embedded_layers») layers)
 

@@ -12,7 +12,7 @@ use Rattle.combinators.specs.Lists.{any, gather}
 use Rattle.combinators.specs.Padding.{padTo}
 use Rattle.vocabulary.specs.declared.LayerIndex.{LayerIndex}
 use Rattle.descriptors.specs.declared.«record».Record.{Record}
-use Rattle.descriptors.specs.declared.«record».Record.the-variants.{NoRecord, Hierarchy, Extension}
+use Rattle.descriptors.specs.declared.«record».Record.the-variants.{NoRecord, Hierarchy, Extension, Implied}
 use Rattle.descriptors.specs.declared.looking.Look.{Look}
 use Rattle.descriptors.specs.declared.looking.Look.the-variants.{Skipped, WrongLength, Hierarchy as LookHierarchy, Extension as LookExtension}
 use Rattle.descriptors.specs.declared.looking.Seen.{Seen}
@@ -38,6 +38,7 @@ abbrev pub besides : Record → Seen → Record → List LayerIndex → Seen
 besides NoRecord s r layers = withFirst s r layers
 besides (Hierarchy h) s r layers = withSecond s
 besides (Extension x) s r layers = withSecond s
+besides Implied s r layers = withSecond s
 
 abbrev pub withRecord : Seen → Record → List LayerIndex → Seen
 withRecord s r layers = besides (s .«record») s r layers
@@ -61,17 +62,20 @@ abbrev joinRecord : Record → List Held → Record
 joinRecord NoRecord hs = firstRecord hs
 joinRecord (Hierarchy h) hs = Hierarchy h
 joinRecord (Extension x) hs = Extension x
+joinRecord Implied hs = Implied
 
 abbrev joinLayers : Record → List LayerIndex → List Held → List LayerIndex
 joinLayers NoRecord e [] = e
 joinLayers NoRecord e (h ∷ hs) = padTo 63 noLayer (h .layers)
 joinLayers (Hierarchy h) e hs = e
 joinLayers (Extension x) e hs = e
+joinLayers Implied e hs = e
 
 abbrev joinSecond : Record → List Held → Bool
 joinSecond NoRecord hs = ltb 1 (length hs)
 joinSecond (Hierarchy h) hs = ltb 0 (length hs)
 joinSecond (Extension x) hs = ltb 0 (length hs)
+joinSecond Implied hs = ltb 0 (length hs)
 
 abbrev join : Seen → List Kind → Seen
 join s ks =
@@ -93,15 +97,18 @@ step f w d r e wrong-length ks = rw (or-true w)
 step f w d NoRecord e (hierarchy h) ks = rw (leb·suc-suc 1 (length (gather heldIn ks)))
 step f w d (Hierarchy g) e (hierarchy h) ks = rw (lt-ltb 0 (suc (length (gather heldIn ks))) (omega arith), or-true d)
 step f w d (Extension g) e (hierarchy h) ks = rw (lt-ltb 0 (suc (length (gather heldIn ks))) (omega arith), or-true d)
+step f w d Implied e (hierarchy h) ks = rw (lt-ltb 0 (suc (length (gather heldIn ks))) (omega arith), or-true d)
 step f w d NoRecord e (extension x l) ks = rw (leb·suc-suc 1 (length (gather heldIn ks)))
 step f w d (Hierarchy g) e (extension x l) ks = rw (lt-ltb 0 (suc (length (gather heldIn ks))) (omega arith), or-true d)
 step f w d (Extension g) e (extension x l) ks = rw (lt-ltb 0 (suc (length (gather heldIn ks))) (omega arith), or-true d)
+step f w d Implied e (extension x l) ks = rw (lt-ltb 0 (suc (length (gather heldIn ks))) (omega arith), or-true d)
 
 nothing-more : (f w d : Bool) (r : Record) (e : List LayerIndex)
     → let s : Seen = record { fits = f; «wrong_length» = w; «second_record» = d; «record» = r; embedded = e } in s ≡ join s []
 nothing-more f w d NoRecord e = rw (and-true f, or-false w, or-false d)
 nothing-more f w d (Hierarchy h) e = rw (and-true f, or-false w, or-false d)
 nothing-more f w d (Extension x) e = rw (and-true f, or-false w, or-false d)
+nothing-more f w d Implied e = rw (and-true f, or-false w, or-false d)
 
 after-join : (s : Seen) (ks : List Kind) → seenAfter s ks ≡ join s ks
 after-join s [] = nothing-more (s .fits) (s .«wrong_length») (s .«second_record») (s .«record») (s .embedded)

@@ -4,11 +4,12 @@
 use Prim.Native.Nat.{ℕ, _-_, _≤_}
 use mathlib.Core.Bool.{true, false}
 use mathlib.Core.List.{List, []}
+use mathlib.Core.Path.{_≡_}
 use lib.ListN.{length, take, drop}
 use Rattle.combinators.specs.Padding.{padTo}
 use Rattle.vocabulary.specs.declared.LayerIndex.{LayerIndex}
 use Rattle.descriptors.specs.declared.«record».Record.{Record}
-use Rattle.descriptors.specs.declared.«record».Record.the-variants.{NoRecord, Hierarchy, Extension}
+use Rattle.descriptors.specs.declared.«record».Record.the-variants.{NoRecord, Hierarchy, Extension, Implied}
 use Rattle.descriptors.specs.declared.looking.Look.{Look}
 use Rattle.descriptors.specs.declared.looking.Look.the-variants.{Skipped, WrongLength, Hierarchy as LookHierarchy, Extension as LookExtension}
 use Rattle.descriptors.specs.declared.looking.Found.{Found}
@@ -51,6 +52,7 @@ abbrev pub besidesFound : Record → Found → Record → ℕ → Found
 besidesFound NoRecord f r end = record { fits = f .fits; «wrong_length» = f .«wrong_length»; «second_record» = f .«second_record»; «record» = r; end = end }
 besidesFound (Hierarchy h) f r end = secondFound f
 besidesFound (Extension x) f r end = secondFound f
+besidesFound Implied f r end = secondFound f
 
 abbrev pub recordFound : Found → Record → ℕ → Found
 recordFound f r end = besidesFound (f .«record») f r end
@@ -66,12 +68,14 @@ abbrev pub listBefore : List ℕ → Record → ℕ → List LayerIndex
 listBefore info NoRecord end = []
 listBefore info (Hierarchy h) end = []
 listBefore info (Extension x) end = layersOf (take (x .«num_embedded_layers») (drop (end - x .«num_embedded_layers») info))
+listBefore info Implied end = []
 
 -- the list lies within the bytes, and its array holds it
 abbrev pub Within : List ℕ → Record → ℕ → Type 0
 Within info NoRecord end = Unit {0}
 Within info (Hierarchy h) end = Unit {0}
 Within info (Extension x) end = (x .«num_embedded_layers» ≤ end) × (end ≤ length info) × (x .«num_embedded_layers» ≤ 63)
+Within info Implied end = Unit {0}
 
 -- what is found, as it is seen
 abbrev pub seenBy : List ℕ → Found → Seen
@@ -85,8 +89,16 @@ seenBy info f =
     }
 
 -- a record, and the set of the layers that it names: the first of the records that are held, and of what is seen
-abbrev pub namedIn : List Held → Named
-namedIn held = record { «record» = firstRecord held; names = namesOf (firstRecord held) (padTo 63 noLayer (firstLayers held)) }
+abbrev pub namedIn : ℕ → List Held → Named
+namedIn streamType held =
+    record { «record» = firstRecord held; names = namesOf streamType (firstRecord held) (padTo 63 noLayer (firstLayers held)) }
 
-abbrev pub namedBy : Seen → Named
-namedBy s = record { «record» = s .«record»; names = namesOf (s .«record») (s .embedded) }
+abbrev pub namedBy : ℕ → Seen → Named
+namedBy streamType s = record { «record» = s .«record»; names = namesOf streamType (s .«record») (s .embedded) }
+
+-- the same whatever the stream's type, as of every record that stands in the bytes: none of them is implied
+abbrev pub NamedIn : Named → List Held → Type 0
+NamedIn n held = (streamType : ℕ) → n ≡ namedIn streamType held
+
+abbrev pub NamedBy : Named → Seen → Type 0
+NamedBy n s = (streamType : ℕ) → n ≡ namedBy streamType s

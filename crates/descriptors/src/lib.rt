@@ -24,6 +24,7 @@ pub use looking::nothing_named;
 pub use looking::nothing_seen;
 pub use record::Record;
 pub use record::channel;
+pub use record::implied_names;
 pub use record::is_base;
 pub use record::is_layer;
 pub use record::layer_index;

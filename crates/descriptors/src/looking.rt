@@ -4,7 +4,7 @@ ghost use mathlib.Core.List.{[]};
 ghost use Rattle.combinators.specs.Padding.{padTo};
 ghost use Rattle.descriptors.specs.Extension.{noLayer};
 ghost use Rattle.descriptors.specs.Looking.{heldIn, extensionKind, payloadKind, seenOf, nothingSeen};
-ghost use Rattle.descriptors.specs.Finding.{lookOf, nothingFound, unfitFound, secondFound, wrongLengthFound, recordFound, lookFound, listBefore, seenBy, Within, namedIn, namedBy};
+ghost use Rattle.descriptors.specs.Finding.{lookOf, nothingFound, unfitFound, secondFound, wrongLengthFound, recordFound, lookFound, listBefore, seenBy, Within, NamedIn, NamedBy};
 use super::extension::ExtensionRecord;
 use super::extension::no_layers;
 use super::extension::read_embedded;
@@ -156,6 +156,7 @@ fn with_record(found: Found, record: Record, end: usize) -> Found
         },
         Record::Hierarchy(_) => with_second(found),
         Record::Extension(_) => with_second(found),
+        Record::Implied => with_second(found),
     }
 }
 
@@ -202,6 +203,7 @@ fn layers_before(record: Record, end: usize, info: &[u8]) -> [LayerIndex; 63]
             let start = end - extension.num_embedded_layers as usize;
             read_embedded(&info[start..end])
         }
+        Record::Implied => no_layers(),
     }
 }
 
@@ -222,7 +224,7 @@ pub fn look_through(reading: Reading, info: &[u8]) -> Seen
 
 // Of a stream whose descriptors are not looked into, and of a descriptor that is no record.
 pub fn nothing_named() -> Named
-    ensures { λ r. ⌜ r ≡ namedIn [] ⌝ }
+    ensures { λ r. ⌜ NamedIn r [] ⌝ }
 {
     Named {
         record: Record::NoRecord,
@@ -232,7 +234,7 @@ pub fn nothing_named() -> Named
 
 // One descriptor, if it is a record. The list of an extension stands behind the seven bytes of its fields.
 fn named_at(reading: Reading, tag: u8, payload: &[u8]) -> Named
-    ensures { λ r. ⌜ r ≡ namedIn (heldIn (payloadKind reading tag (now (payload .entry)))) ⌝ }
+    ensures { λ r. ⌜ NamedIn r (heldIn (payloadKind reading tag (now (payload .entry)))) ⌝ }
 {
     match look_at(reading, tag, payload) {
         Look::Skipped => nothing_named(),
@@ -248,9 +250,10 @@ fn named_at(reading: Reading, tag: u8, payload: &[u8]) -> Named
     }
 }
 
-// What makes a stream that the reading knows a layer, if anything does: its first record, behind which nothing is looked at.
+// What makes a stream that the reading knows a layer, if anything does: its first record, behind which nothing is looked at. A record that stands in the bytes
+// is not implied, so that this holds whatever the stream's type.
 pub fn name_layers(reading: Reading, info: &[u8]) -> Named
-    ensures { λ r. ⌜ r ≡ namedBy (seenOf reading (now (info .entry))) ⌝ }
+    ensures { λ r. ⌜ NamedBy r (seenOf reading (now (info .entry))) ⌝ }
 {
     let mut at = 0;
     while at < info.len() {

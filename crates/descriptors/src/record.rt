@@ -1,5 +1,8 @@
 // What makes a stream a layer, if anything does, and what both descriptors share: whether there is a layer, its index, the layers that it
 // names, its channel, whether a value of it is too wide, and the descriptor as it is written.
+//
+// A layer may also be implied: one view of two that have no hierarchy descriptor (document 02, W-201). It has no descriptor and no fields; its index and the
+// layers that it names follow from its stream type, which is therefore asked for with the record. Which loops imply layers is said elsewhere.
 ghost use mathlib.Core.Path.{_≡_};
 ghost use mathlib.Core.Bool.{false};
 ghost use mathlib.Core.List.{[], map};
@@ -10,7 +13,7 @@ ghost use Rattle.buffers.specs.Buffers.{Laid};
 ghost use Rattle.sets.specs.Sets.{added};
 ghost use Rattle.syntax.specs.Filled.{bytesIn, tooWideIn};
 ghost use Rattle.descriptors.specs.Extension.{layersOf};
-ghost use Rattle.descriptors.specs.Records.{isLayer, indexOf, channelOf, isBase, plain, withIndices, namesOf, recordTables};
+ghost use Rattle.descriptors.specs.Records.{isLayer, impliedIndex, indexOf, channelOf, isBase, plain, hierarchyList, withIndices, namesOf, recordTables};
 use super::extension::ExtensionRecord;
 use super::extension::extension_fits;
 use super::extension::list_too_wide;
@@ -25,7 +28,11 @@ pub enum Record {
     NoRecord,
     Hierarchy(HierarchyRecord),
     Extension(ExtensionRecord),
+    Implied,
 }
+
+// The stream type of the second of two views, which rests on the first.
+const SECOND_VIEW: u8 = 0x20;
 
 // Whether a stream with this record is a layer.
 pub fn is_layer(record: Record) -> bool
@@ -35,21 +42,34 @@ pub fn is_layer(record: Record) -> bool
         Record::NoRecord => false,
         Record::Hierarchy(_) => true,
         Record::Extension(_) => true,
+        Record::Implied => true,
+    }
+}
+
+// The index of an implied layer: 1 of the second view, and 0 of the first.
+fn implied_index(stream_type: u8) -> LayerIndex
+    ensures { λ r. ⌜ r ≡ record { 0 = impliedIndex «stream_type» } ⌝ }
+{
+    if stream_type == SECOND_VIEW {
+        LayerIndex(1)
+    } else {
+        LayerIndex(0)
     }
 }
 
 // The layer's index, and 0 without a record.
-pub fn layer_index(record: Record) -> LayerIndex
-    ensures { λ r. ⌜ r ≡ record { 0 = indexOf «record» } ⌝ }
+pub fn layer_index(stream_type: u8, record: Record) -> LayerIndex
+    ensures { λ r. ⌜ r ≡ record { 0 = indexOf «stream_type» «record» } ⌝ }
 {
     match record {
         Record::NoRecord => LayerIndex(0),
         Record::Hierarchy(hierarchy) => hierarchy.layer_index,
         Record::Extension(extension) => extension.layer_index,
+        Record::Implied => implied_index(stream_type),
     }
 }
 
-// The channel on which a layer is sent, and 0 without a record.
+// The channel on which a layer is sent, and 0 without a record, as of an implied one.
 pub fn channel(record: Record) -> HierarchyChannel
     ensures { λ r. ⌜ r ≡ channelOf «record» ⌝ }
 {
@@ -57,6 +77,7 @@ pub fn channel(record: Record) -> HierarchyChannel
         Record::NoRecord => HierarchyChannel(0),
         Record::Hierarchy(hierarchy) => hierarchy.channel,
         Record::Extension(extension) => extension.channel,
+        Record::Implied => HierarchyChannel(0),
     }
 }
 
@@ -113,7 +134,7 @@ pub fn names_in_list(list: &[u8]) -> u64
 }
 
 pub fn names_of_hierarchy(hierarchy: HierarchyRecord) -> u64
-    ensures { λ r. ⌜ r ≡ namesOf (Record.Hierarchy hierarchy) [] ⌝ }
+    ensures { λ r. ⌜ r ≡ withIndices 0 (map plain (hierarchyList hierarchy)) ⌝ }
 {
     if is_base(hierarchy) {
         return 0;
@@ -121,9 +142,19 @@ pub fn names_of_hierarchy(hierarchy: HierarchyRecord) -> u64
     with_index(0, hierarchy.embedded_layer_index)
 }
 
+// Of two implied layers the second view names the first.
+pub fn implied_names(stream_type: u8) -> u64
+    ensures { λ r. ⌜ r ≡ namesOf «stream_type» Record.Implied [] ⌝ }
+{
+    if stream_type == SECOND_VIEW {
+        return with_index(0, LayerIndex(0));
+    }
+    0
+}
+
 // The layers that a record names, as a set: bit i is 1 exactly when it names layer i.
-pub fn names(record: Record, embedded: [LayerIndex; 63]) -> u64
-    ensures { λ r. ⌜ r ≡ namesOf «record» embedded ⌝ }
+pub fn names(stream_type: u8, record: Record, embedded: [LayerIndex; 63]) -> u64
+    ensures { λ r. ⌜ r ≡ namesOf «stream_type» «record» embedded ⌝ }
 {
     match record {
         Record::NoRecord => 0,
@@ -132,6 +163,7 @@ pub fn names(record: Record, embedded: [LayerIndex; 63]) -> u64
             listed_count(extension.num_embedded_layers),
             embedded,
         ),
+        Record::Implied => implied_names(stream_type),
     }
 }
 
@@ -148,6 +180,7 @@ pub fn record_too_wide(record: Record, embedded: [LayerIndex; 63]) -> bool
             }
             true
         }
+        Record::Implied => false,
     }
 }
 
@@ -160,10 +193,11 @@ pub fn record_size(record: Record, embedded: [LayerIndex; 63]) -> usize
         Record::NoRecord => 0,
         Record::Hierarchy(_) => 6,
         Record::Extension(extension) => 9 + extension.num_embedded_layers as usize,
+        Record::Implied => 0,
     }
 }
 
-// The descriptor laid into `out` from place `at` on, nothing without a record.
+// The descriptor laid into `out` from place `at` on, nothing without a record or for an implied one.
 pub fn put_record(out: &mut [u8], at: usize, record: Record, embedded: [LayerIndex; 63]) -> usize
     requires { ⌜ any tooWideIn (recordTables «record» embedded) ≡ false ⌝ }
     ensures { λ r. ⌜ Laid (now (out .entry)) at (gather bytesIn (recordTables «record» embedded)) r (now (out .exit)) ⌝ }
@@ -172,5 +206,6 @@ pub fn put_record(out: &mut [u8], at: usize, record: Record, embedded: [LayerInd
         Record::NoRecord => buffers::put(out, at, b""),
         Record::Hierarchy(hierarchy) => put_hierarchy(out, at, hierarchy),
         Record::Extension(extension) => put_extension(out, at, extension, embedded),
+        Record::Implied => buffers::put(out, at, b""),
     }
 }

@@ -73,6 +73,12 @@ read-embedded-requires c κs =
     let long : length list ≡ num = length-take-le num (drop start (a .info .now)) (omega (arith, length-drop start (a .info .now))) in
     rw same (omega arith)
 
+enum-told-3 : tie.Need-enum-told-3
+enum-told-3 c = search needs
+
+no-layers-requires-3 : tie.Need-no-layers-requires-3
+no-layers-requires-3 c κs = search needs
+
 returns : tie.Need-returns
 returns c =
     let a = c .before .before .before .before .args in
@@ -98,6 +104,11 @@ returns-3 c =
     ∙ ap (λ (n : ℕ). padTo 63 noLayer (layersOf (take n (drop start (a .info .now))))) same
     ∙ sym (ap (λ (r : Record). padTo 63 noLayer (listBefore (a .info .now) r (a .end))) (told .1))
 
+returns-4 : tie.Need-returns-4
+returns-4 c =
+    let a = c .before .before .before .before .args in
+    c .no-layers3 .ensures ∙ sym (ap (λ (r : Record). padTo 63 noLayer (listBefore (a .info .now) r (a .end))) (c .before .enum-told3 .given .1))
+
 pub layers-before-spec : {M : Type 1} → statement M
 layers-before-spec =
     tie.close
@@ -113,6 +124,9 @@ layers-before-spec =
     part-read-embedded-start
     part-read-embedded-end
     read-embedded-requires
+    enum-told-3
+    no-layers-requires-3
     returns
     returns-2
-    returns-3)
+    returns-3
+    returns-4)

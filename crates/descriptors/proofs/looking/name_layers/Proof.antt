@@ -10,6 +10,7 @@ use mathlib.Core.List.{List, _++_}
 use native.Mathlib.Nat.{add-sub-cancel-left}
 use lib.ListN.{length, take, drop, drop-of-length-le}
 use Rattle.combinators.specs.Lists.{part-to-end, gather}
+use Rattle.vocabulary.specs.declared.stream_types.Reading.{Reading}
 use Rattle.descriptors.specs.declared.looking.Named.{Named}
 use Rattle.descriptors.specs.Head.{descriptorTag, descriptorLength}
 use Rattle.descriptors.specs.Records.{isLayer}
@@ -20,15 +21,19 @@ use Rattle.descriptors.proofs.Finding.{first-named, none-named}
 use Rattle.descriptors.proofs.looking.name_layers.Statement.{statement}
 use Rattle.descriptors.proofs.looking.name_layers.Tie as tie
 
+-- what the first record among the bytes left names is what the first of all names
+abbrev Continues : Reading → List ℕ → ℕ → Type 0
+Continues reading info at =
+    (streamType : ℕ) → namedIn streamType (gather heldIn (kindsOf reading (drop at info))) ≡ namedBy streamType (seenOf reading info)
+
 abbrev Inv-loop : tie.InvT-loop
-Inv-loop reading info at₀ at =
-    (at ≤ length info) × (namedIn (gather heldIn (kindsOf reading (drop at info))) ≡ namedBy (seenOf reading info))
+Inv-loop reading info at₀ at = (at ≤ length info) × Continues reading info at
 
 abbrev μ-loop : tie.MeasureT-loop
 μ-loop reading info at₀ at = length info - at
 
 loop-holds : tie.Need-loop-holds Inv-loop μ-loop
-loop-holds c = (omega arith, refl)
+loop-holds c = (omega arith, λ streamType. refl)
 
 sub-left : tie.Need-sub-left Inv-loop μ-loop
 sub-left c = search needs
@@ -46,7 +51,7 @@ nothing-named-requires : tie.Need-nothing-named-requires Inv-loop μ-loop
 nothing-named-requires c κs = search needs
 
 returns : tie.Need-returns Inv-loop μ-loop
-returns c =
+returns c streamType =
     let a = c .before .before .before .before .before .before .before .before .args in
     let loop = c .before .before .before .before .before .before .loop in
     let info = a .info .now in
@@ -54,9 +59,9 @@ returns c =
     let rest : left ≡ drop (loop .at) info = part-to-end info (loop .at) in
     let long = left-length (a .reading) info left (loop .at) rest in
     let first = c .before .before .before .first-descriptor in
-    c .nothing-named .ensures
-    ∙ sym (ap (λ (ks : List Kind). namedIn (gather heldIn ks)) (kinds-stop (a .reading) info left (loop .at) rest (omega arith) (framed-not left (first .result) (first .ensures) (not-true (first .result .fits) (c .before .if1 .taken)))))
-    ∙ loop .inv .1
+    c .nothing-named .ensures streamType
+    ∙ sym (ap (λ (ks : List Kind). namedIn streamType (gather heldIn ks)) (kinds-stop (a .reading) info left (loop .at) rest (omega arith) (framed-not left (first .result) (first .ensures) (not-true (first .result .fits) (c .before .if1 .taken)))))
+    ∙ loop .inv .1 streamType
 
 sub-named-at : tie.Need-sub-named-at Inv-loop μ-loop
 sub-named-at c =
@@ -107,7 +112,7 @@ is-layer-requires : tie.Need-is-layer-requires Inv-loop μ-loop
 is-layer-requires c κs = search needs
 
 returns-2 : tie.Need-returns-2 Inv-loop μ-loop
-returns-2 c =
+returns-2 c streamType =
     let a = c .before .before .before .before .before .before .before .before .before .before .before .args in
     let loop = c .before .before .before .before .before .before .before .before .before .loop in
     let info = a .info .now in
@@ -121,17 +126,17 @@ returns-2 c =
     let n : ℕ = descriptorLength left in
     let kind : Kind = payloadKind (a .reading) (descriptorTag left) (take n (drop 2 left)) in
     let named = c .before .before .named-at in
-    let is-named : named .result ≡ namedIn (heldIn kind) =
-    named .ensures
-    ∙ ap (λ (m : ℕ). namedIn (heldIn (payloadKind (a .reading) (first .result .tag) (take (m - 2) (drop 2 left))))) is-end
-    ∙ ap (λ (m : ℕ). namedIn (heldIn (payloadKind (a .reading) (first .result .tag) (take m (drop 2 left))))) (add-sub-cancel-left 2 n)
-    ∙ ap (λ (t : ℕ). namedIn (heldIn (payloadKind (a .reading) t (take n (drop 2 left))))) (framed .1) in
+    let is-named : named .result ≡ namedIn streamType (heldIn kind) =
+    named .ensures streamType
+    ∙ ap (λ (m : ℕ). namedIn streamType (heldIn (payloadKind (a .reading) (first .result .tag) (take (m - 2) (drop 2 left))))) is-end
+    ∙ ap (λ (m : ℕ). namedIn streamType (heldIn (payloadKind (a .reading) (first .result .tag) (take m (drop 2 left))))) (add-sub-cancel-left 2 n)
+    ∙ ap (λ (t : ℕ). namedIn streamType (heldIn (payloadKind (a .reading) t (take n (drop 2 left))))) (framed .1) in
     let others : List Held = gather heldIn (kindsOf (a .reading) (drop (loop .at + (2 + n)) info)) in
-    let whether : isLayer ((namedIn (heldIn kind)) .«record») ≡ c .before .is-layer .result =
+    let whether : isLayer ((namedIn streamType (heldIn kind)) .«record») ≡ c .before .is-layer .result =
     sym (c .before .is-layer .ensures ∙ ap (λ (x : Named). isLayer (x .«record»)) is-named) in
-    let front : namedIn (heldIn kind ++ others) ≡ namedBy (seenOf (a .reading) info) =
-    sym (ap (λ (ks : List Kind). namedIn (gather heldIn ks)) (kinds-next (a .reading) info left (loop .at) rest fits)) ∙ loop .inv .1 in
-    is-named ∙ first-named kind others (whether ∙ c .if2 .taken) ∙ front
+    let front : namedIn streamType (heldIn kind ++ others) ≡ namedBy streamType (seenOf (a .reading) info) =
+    sym (ap (λ (ks : List Kind). namedIn streamType (gather heldIn ks)) (kinds-next (a .reading) info left (loop .at) rest fits)) ∙ loop .inv .1 streamType in
+    is-named ∙ first-named streamType kind others (whether ∙ c .if2 .taken) ∙ front
 
 add-at : tie.Need-add-at Inv-loop μ-loop
 add-at c =
@@ -176,31 +181,32 @@ loop-again c =
     let n : ℕ = descriptorLength left in
     let kind : Kind = payloadKind (a .reading) (descriptorTag left) (take n (drop 2 left)) in
     let named = c .before .before .named-at in
-    let is-named : named .result ≡ namedIn (heldIn kind) =
-    named .ensures
-    ∙ ap (λ (m : ℕ). namedIn (heldIn (payloadKind (a .reading) (first .result .tag) (take (m - 2) (drop 2 left))))) is-end
-    ∙ ap (λ (m : ℕ). namedIn (heldIn (payloadKind (a .reading) (first .result .tag) (take m (drop 2 left))))) (add-sub-cancel-left 2 n)
-    ∙ ap (λ (t : ℕ). namedIn (heldIn (payloadKind (a .reading) t (take n (drop 2 left))))) (framed .1) in
-    let others : List Held = gather heldIn (kindsOf (a .reading) (drop (loop .at + (2 + n)) info)) in
-    let whether : isLayer ((namedIn (heldIn kind)) .«record») ≡ c .before .is-layer .result =
-    sym (c .before .is-layer .ensures ∙ ap (λ (x : Named). isLayer (x .«record»)) is-named) in
-    let front : namedIn (heldIn kind ++ others) ≡ namedBy (seenOf (a .reading) info) =
-    sym (ap (λ (ks : List Kind). namedIn (gather heldIn ks)) (kinds-next (a .reading) info left (loop .at) rest fits)) ∙ loop .inv .1 in (
+    let others : List Held = gather heldIn (kindsOf (a .reading) (drop (loop .at + (2 + n)) info)) in (
       omega arith,
-      subst (λ (e : ℕ). namedIn (gather heldIn (kindsOf (a .reading) (drop (loop .at + e) info))) ≡ namedBy (seenOf (a .reading) info)) (sym is-end)
-          (none-named kind others (whether ∙ c .if2 .left) ∙ front),
+      λ streamType.
+          let is-named : named .result ≡ namedIn streamType (heldIn kind) =
+          named .ensures streamType
+          ∙ ap (λ (m : ℕ). namedIn streamType (heldIn (payloadKind (a .reading) (first .result .tag) (take (m - 2) (drop 2 left))))) is-end
+          ∙ ap (λ (m : ℕ). namedIn streamType (heldIn (payloadKind (a .reading) (first .result .tag) (take m (drop 2 left))))) (add-sub-cancel-left 2 n)
+          ∙ ap (λ (t : ℕ). namedIn streamType (heldIn (payloadKind (a .reading) t (take n (drop 2 left))))) (framed .1) in
+          let whether : isLayer ((namedIn streamType (heldIn kind)) .«record») ≡ c .before .is-layer .result =
+          sym (c .before .is-layer .ensures ∙ ap (λ (x : Named). isLayer (x .«record»)) is-named) in
+          let front : namedIn streamType (heldIn kind ++ others) ≡ namedBy streamType (seenOf (a .reading) info) =
+          sym (ap (λ (ks : List Kind). namedIn streamType (gather heldIn ks)) (kinds-next (a .reading) info left (loop .at) rest fits)) ∙ loop .inv .1 streamType in
+          subst (λ (e : ℕ). namedIn streamType (gather heldIn (kindsOf (a .reading) (drop (loop .at + e) info))) ≡ namedBy streamType (seenOf (a .reading) info)) (sym is-end)
+          (none-named streamType kind others (whether ∙ c .if2 .left) ∙ front),
     )
 
 nothing-named-requires-2 : tie.Need-nothing-named-requires-2 Inv-loop μ-loop
 nothing-named-requires-2 c κs = search needs
 
 returns-3 : tie.Need-returns-3 Inv-loop μ-loop
-returns-3 c =
+returns-3 c streamType =
     let a = c .before .before .before .before .args in
     let loop = c .before .before .loop in
-    c .nothing-named2 .ensures
-    ∙ sym (ap (λ (l : List ℕ). namedIn (gather heldIn (kindsOf (a .reading) l))) (drop-of-length-le (a .info .now) {i = loop .at} (omega arith)))
-    ∙ loop .inv .1
+    c .nothing-named2 .ensures streamType
+    ∙ sym (ap (λ (l : List ℕ). namedIn streamType (gather heldIn (kindsOf (a .reading) l))) (drop-of-length-le (a .info .now) {i = loop .at} (omega arith)))
+    ∙ loop .inv .1 streamType
 
 pub name-layers-spec : {M : Type 1} → statement M
 name-layers-spec =

@@ -47,7 +47,7 @@ sub-names-in-list c =
     let p = a .payload .now in
     let kind = payloadKind (a .reading) (a .tag) p in
     let look = c .before .before .before .look-at in
-    let said = subst (λ (l : Look). Names p l (namedIn (heldIn kind))) (sym (look .ensures) ∙ c .before .extension .given .1) (look-names p kind (payload-shaped p (a .reading) (a .tag))) in
+    let said = subst (λ (l : Look). Names p l (namedIn 0 (heldIn kind))) (sym (look .ensures) ∙ c .before .extension .given .1) (look-names 0 p kind (payload-shaped p (a .reading) (a .tag))) in
     said .0
 
 part-names-in-list-start : tie.Need-part-names-in-list-start
@@ -56,7 +56,7 @@ part-names-in-list-start c =
     let p = a .payload .now in
     let kind = payloadKind (a .reading) (a .tag) p in
     let look = c .before .before .before .look-at in
-    let said = subst (λ (l : Look). Names p l (namedIn (heldIn kind))) (sym (look .ensures) ∙ c .before .extension .given .1) (look-names p kind (payload-shaped p (a .reading) (a .tag))) in
+    let said = subst (λ (l : Look). Names p l (namedIn 0 (heldIn kind))) (sym (look .ensures) ∙ c .before .extension .given .1) (look-names 0 p kind (payload-shaped p (a .reading) (a .tag))) in
     said .0
 
 part-names-in-list-end : tie.Need-part-names-in-list-end
@@ -66,39 +66,39 @@ names-in-list-requires : tie.Need-names-in-list-requires
 names-in-list-requires c κs = search needs
 
 returns : tie.Need-returns
-returns c =
+returns c streamType =
     let a = c .before .before .before .before .before .args in
     let p = a .payload .now in
     let kind = payloadKind (a .reading) (a .tag) p in
     let look = c .before .before .before .look-at in
-    let said = subst (λ (l : Look). Names p l (namedIn (heldIn kind))) (sym (look .ensures) ∙ c .before .enum-told .given .1) (look-names p kind (payload-shaped p (a .reading) (a .tag))) in
-    c .nothing-named .ensures ∙ sym said
+    let said = subst (λ (l : Look). Names p l (namedIn streamType (heldIn kind))) (sym (look .ensures) ∙ c .before .enum-told .given .1) (look-names streamType p kind (payload-shaped p (a .reading) (a .tag))) in
+    c .nothing-named .ensures streamType ∙ sym said
 
 returns-2 : tie.Need-returns-2
-returns-2 c =
+returns-2 c streamType =
     let a = c .before .before .before .before .before .args in
     let p = a .payload .now in
     let kind = payloadKind (a .reading) (a .tag) p in
     let look = c .before .before .before .look-at in
-    let said = subst (λ (l : Look). Names p l (namedIn (heldIn kind))) (sym (look .ensures) ∙ c .before .enum-told2 .given .1) (look-names p kind (payload-shaped p (a .reading) (a .tag))) in
-    c .nothing-named2 .ensures ∙ sym said
+    let said = subst (λ (l : Look). Names p l (namedIn streamType (heldIn kind))) (sym (look .ensures) ∙ c .before .enum-told2 .given .1) (look-names streamType p kind (payload-shaped p (a .reading) (a .tag))) in
+    c .nothing-named2 .ensures streamType ∙ sym said
 
 returns-3 : tie.Need-returns-3
-returns-3 c =
+returns-3 c streamType =
     let a = c .before .before .before .before .before .before .args in
     let p = a .payload .now in
     let kind = payloadKind (a .reading) (a .tag) p in
     let look = c .before .before .before .before .look-at in
-    let said = subst (λ (l : Look). Names p l (namedIn (heldIn kind))) (sym (look .ensures) ∙ c .before .before .hierarchy .given .1) (look-names p kind (payload-shaped p (a .reading) (a .tag))) in
+    let said = subst (λ (l : Look). Names p l (namedIn streamType (heldIn kind))) (sym (look .ensures) ∙ c .before .before .hierarchy .given .1) (look-names streamType p kind (payload-shaped p (a .reading) (a .tag))) in
     ap (λ (n : ℕ). record { «record» = Hierarchy (c .before .before .hierarchy .given .0 .0); names = n }) (c .names-of-hierarchy .ensures) ∙ sym said
 
 returns-4 : tie.Need-returns-4
-returns-4 c =
+returns-4 c streamType =
     let a = c .before .before .before .before .before .before .before .args in
     let p = a .payload .now in
     let kind = payloadKind (a .reading) (a .tag) p in
     let look = c .before .before .before .before .before .look-at in
-    let said = subst (λ (l : Look). Names p l (namedIn (heldIn kind))) (sym (look .ensures) ∙ c .before .before .before .extension .given .1) (look-names p kind (payload-shaped p (a .reading) (a .tag))) in
+    let said = subst (λ (l : Look). Names p l (namedIn streamType (heldIn kind))) (sym (look .ensures) ∙ c .before .before .before .extension .given .1) (look-names streamType p kind (payload-shaped p (a .reading) (a .tag))) in
     ap (λ (n : ℕ). record { «record» = Extension (c .before .before .before .extension .given .0 .0); names = n })
     (c .names-in-list .ensures ∙ ap (λ (l : List ℕ). withIndices 0 (map plain (layersOf l))) (part-to-end p 7))
     ∙ sym (said .1)

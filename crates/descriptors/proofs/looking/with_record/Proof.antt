@@ -22,6 +22,12 @@ enum-told-3 c = search needs
 with-second-requires-2 : tie.Need-with-second-requires-2
 with-second-requires-2 c κs = search needs
 
+enum-told-4 : tie.Need-enum-told-4
+enum-told-4 c = search needs
+
+with-second-requires-3 : tie.Need-with-second-requires-3
+with-second-requires-3 c κs = search needs
+
 returns : tie.Need-returns
 returns c =
     let a = c .before .before .args in
@@ -37,6 +43,11 @@ returns-3 c =
     let a = c .before .before .before .args in
     c .with-second2 .ensures ∙ sym (ap (λ (first : Record). besidesFound first (a .found) (a .«record») (a .end)) (c .before .enum-told3 .given .1))
 
+returns-4 : tie.Need-returns-4
+returns-4 c =
+    let a = c .before .before .before .args in
+    c .with-second3 .ensures ∙ sym (ap (λ (first : Record). besidesFound first (a .found) (a .«record») (a .end)) (c .before .enum-told4 .given .1))
+
 pub with-record-spec : {M : Type 1} → statement M
 with-record-spec =
     tie.close
@@ -46,6 +57,9 @@ with-record-spec =
     with-second-requires
     enum-told-3
     with-second-requires-2
+    enum-told-4
+    with-second-requires-3
     returns
     returns-2
-    returns-3)
+    returns-3
+    returns-4)

@@ -30,13 +30,19 @@ listed-count-requires c κs = search needs
 names-in-requires : tie.Need-names-in-requires
 names-in-requires c κs = search needs
 
+enum-told-2 : tie.Need-enum-told-2
+enum-told-2 c = search needs
+
+implied-names-requires : tie.Need-implied-names-requires
+implied-names-requires c κs = search needs
+
 returns : tie.Need-returns
 returns c = search needs
 
 returns-2 : tie.Need-returns-2
 returns-2 c =
     let a = c .before .before .before .before .args in
-    c .names-of-hierarchy .ensures ∙ sym (ap (λ (r : Record). namesOf r (a .embedded)) (c .before .before .«record» .given .1))
+    c .names-of-hierarchy .ensures ∙ sym (ap (λ (r : Record). namesOf (a .stream-type) r (a .embedded)) (c .before .before .«record» .given .1))
 
 returns-3 : tie.Need-returns-3
 returns-3 c =
@@ -45,7 +51,12 @@ returns-3 c =
     let extension = told .0 .0 in
     let room : length (a .embedded) ≡ 63 = omega arith in
     let all = all-listed (a .embedded) (extension .«num_embedded_layers») (c .before .listed-count .result) room (c .before .listed-count .ensures) in
-    c .names-in .ensures ∙ ap (λ (l : List LayerIndex). withIndices 0 (map plain l)) all ∙ sym (ap (λ (r : Record). namesOf r (a .embedded)) (told .1))
+    c .names-in .ensures ∙ ap (λ (l : List LayerIndex). withIndices 0 (map plain l)) all ∙ sym (ap (λ (r : Record). namesOf (a .stream-type) r (a .embedded)) (told .1))
+
+returns-4 : tie.Need-returns-4
+returns-4 c =
+    let a = c .before .before .before .args in
+    c .implied-names .ensures ∙ sym (ap (λ (r : Record). namesOf (a .stream-type) r (a .embedded)) (c .before .enum-told2 .given .1))
 
 pub names-spec : {M : Type 1} → statement M
 names-spec =
@@ -57,6 +68,9 @@ names-spec =
     enum-known-record-2
     listed-count-requires
     names-in-requires
+    enum-told-2
+    implied-names-requires
     returns
     returns-2
-    returns-3)
+    returns-3
+    returns-4)

@@ -33,6 +33,15 @@ put-extension-requires : tie.Need-put-extension-requires
 put-extension-requires c κs =
     sym (ap (λ (r : Record). any tooWideIn (recordTables r (c .before .before .before .before .before .args .embedded))) (c .before .before .record2 .given .1)) ∙ c .before .before .before .before .before .pre
 
+enum-told-2 : tie.Need-enum-told-2
+enum-told-2 c = search needs
+
+slice-aggregate-put-2 : tie.Need-slice-aggregate-put-2
+slice-aggregate-put-2 c = search needs
+
+put-requires-2 : tie.Need-put-requires-2
+put-requires-2 c κs = search needs
+
 same-length : tie.Need-same-length
 same-length c = search needs
 
@@ -54,6 +63,13 @@ returns-3 : tie.Need-returns-3
 returns-3 c =
     laid-as (sym (ap (λ (r : Record). gather bytesIn (recordTables r (c .before .before .before .before .before .before .before .before .args .embedded))) (c .before .before .before .before .before .record2 .given .1))) (c .before .before .put-extension .ensures)
 
+same-length-4 : tie.Need-same-length-4
+same-length-4 c = search needs
+
+returns-4 : tie.Need-returns-4
+returns-4 c =
+    laid-as (sym (ap (λ (r : Record). gather bytesIn (recordTables r (c .before .before .before .before .before .before .before .before .args .embedded))) (c .before .before .before .before .before .enum-told2 .given .1))) (c .before .before .put2 .ensures)
+
 pub put-record-spec : {M : Type 1} → statement M
 put-record-spec =
     tie.close
@@ -65,9 +81,14 @@ put-record-spec =
     put-hierarchy-requires
     enum-known-record-2
     put-extension-requires
+    enum-told-2
+    slice-aggregate-put-2
+    put-requires-2
     same-length
     returns
     same-length-2
     returns-2
     same-length-3
-    returns-3)
+    returns-3
+    same-length-4
+    returns-4)

@@ -29,6 +29,9 @@ cast-result c = search needs
 add-result : tie.Need-add-result
 add-result c = search needs
 
+enum-told-3 : tie.Need-enum-told-3
+enum-told-3 c = search needs
+
 returns : tie.Need-returns
 returns c = search needs
 
@@ -47,6 +50,9 @@ returns-3 c =
       omega (arith, count-small (told .0 .0) layers fit),
     )
 
+returns-4 : tie.Need-returns-4
+returns-4 c = search needs
+
 pub record-size-spec : {M : Type 1} → statement M
 record-size-spec =
     tie.close
@@ -56,6 +62,8 @@ record-size-spec =
     enum-known-record
     cast-result
     add-result
+    enum-told-3
     returns
     returns-2
-    returns-3)
+    returns-3
+    returns-4)

@@ -49,6 +49,9 @@ returns c =
     ∙ extension-fine (told .0 .0) layers (sym (c .before .before .before .extension-fits .ensures) ∙ c .before .before .if1 .taken)
     ∙ sym (ap (λ (r : Record). any tooWideIn (recordTables r layers)) (told .1))
 
+enum-told-2 : tie.Need-enum-told-2
+enum-told-2 c = search needs
+
 returns-2 : tie.Need-returns-2
 returns-2 c = search needs
 
@@ -65,6 +68,9 @@ returns-4 c =
     extension-wide (told .0 .0) layers (sym (c .before .extension-fits .ensures) ∙ c .if1 .left)
     ∙ sym (ap (λ (r : Record). any tooWideIn (recordTables r layers)) (told .1))
 
+returns-5 : tie.Need-returns-5
+returns-5 c = search needs
+
 pub record-too-wide-spec : {M : Type 1} → statement M
 record-too-wide-spec =
     tie.close
@@ -77,6 +83,8 @@ record-too-wide-spec =
     cast-list-too-wide
     list-too-wide-requires
     returns
+    enum-told-2
     returns-2
     returns-3
-    returns-4)
+    returns-4
+    returns-5)
