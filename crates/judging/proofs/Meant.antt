@@ -3,8 +3,8 @@
 use Prim.Native.Nat.{ℕ, zero, suc, _≤_, _<_}
 use mathlib.Core.Path.{_≡_, refl, sym, _∙_, ap, ap₂}
 use mathlib.Core.Logic.{_≢_, _↔_, ⊎-elim}
-use mathlib.Core.Bool.{Bool, true, false, not, _&&_, _||_}
-use mathlib.Core.List.{List, [], _∷_}
+use mathlib.Core.Bool.{Bool, true, false, cond, not, _&&_, _||_}
+use mathlib.Core.List.{List, [], _∷_, map}
 use native.Mathlib.Omega.{arith}
 use borrow.Author.Tests.{ltb-true, lt-ltb, leb-true, le-leb, eqb-true, eqb-false, ne-eqb, not-true}
 use lib.Dec.{eqb, leb, ltb}
@@ -19,25 +19,26 @@ use Rattle.vocabulary.specs.declared.LayerIndex.{LayerIndex}
 use Rattle.descriptors.specs.declared.hierarchy.HierarchyRecord.{HierarchyRecord}
 use Rattle.descriptors.specs.declared.extension.ExtensionRecord.{ExtensionRecord}
 use Rattle.descriptors.specs.declared.«record».Record.{Record}
-use Rattle.descriptors.specs.declared.«record».Record.the-variants.{NoRecord, Hierarchy, Extension}
-use Rattle.descriptors.specs.Records.{isLayer, indexOf, named}
-use Rattle.judging.specs.Judging.{extensionOn, typeNotAllowed, flagsAt0, wrongFlags, wrongAt, wrongEmbedded}
-use Rattle.judging.specs.Meaning.{TypeNotAllowed, hierarchy-type, extension-on-avc, extension-on-svc, extension-on-mvc, unknown-type, Flag, view, temporal, spatial, quality, flag, WrongFlags, type-9, more-than-one, WrongEmbedded, not-below, listed-twice}
+use Rattle.descriptors.specs.declared.«record».Record.the-variants.{NoRecord, Hierarchy, Extension, Implied}
+use Rattle.descriptors.specs.Records.{isSecondView, indexOf, plain, named}
+use Rattle.judging.specs.Judging.{extensionOn, typeNotAllowed, flagsAt0, wrongFlags, wrongAt, wrongList, wrongEmbedded}
+use Rattle.judging.specs.Meaning.{hasDescriptor, TypeNotAllowed, hierarchy-type, extension-on-avc, extension-on-svc, extension-on-mvc, unknown-type, mark-not-given, mark-missing, Flag, view, temporal, spatial, quality, flag, WrongFlags, type-9, more-than-one, WrongEmbedded, not-below, listed-twice}
 
 -- one of two tests holds
 which : {A : Type 0} (a b : Bool) → a || b ≡ true → (a ≡ true → A) → (b ≡ true → A) → A
 which a b e f g = ⊎-elim f g (either-which a b e)
 
 -- THE LAWS.
-type-means : (t : ℕ) (r : Record) → typeNotAllowed t r ≡ true → TypeNotAllowed t r
-type-means t NoRecord e = apart e
-type-means t (Hierarchy h) e = hierarchy-type (not-true (mayStandOn (h .«hierarchy_type») t) e)
-type-means t (Extension x) e = by-known (known Edition2015 t) refl
+type-means : (given : Bool) (t : ℕ) (r : Record) → typeNotAllowed given t r ≡ true → TypeNotAllowed given t r
+type-means given t NoRecord e = mark-missing e
+type-means given t Implied e = mark-not-given (not-true given e)
+type-means given t (Hierarchy h) e = hierarchy-type (not-true (mayStandOn (h .«hierarchy_type») t) e)
+type-means given t (Extension x) e = by-known (known Edition2015 t) refl
   where
     other : Bool
     other = member t extensionOn
 
-    by-known : (b : Bool) → known Edition2015 t ≡ b → TypeNotAllowed t (Extension x)
+    by-known : (b : Bool) → known Edition2015 t ≡ b → TypeNotAllowed given t (Extension x)
     by-known false p = unknown-type refl p
     by-known true p =
         which (eqb t 0x1B) (eqb t 0x1F || (eqb t 0x20 || other)) p (λ q. extension-on-avc (eqb-true t 0x1B q))
@@ -84,20 +85,23 @@ module _ (t : ℕ) (u : known Edition2015 t ≡ false) where
       none-at-all streamTypes
       (refl, (some, (some, (some, (some, (some, (some, (some, (some, (ap (λ (b : Bool). b || false) not-mvc, (refl, (refl, (refl, (refl, (refl, (base, tt))))))))))))))))
 
-type-test : {t : ℕ} {r : Record} → TypeNotAllowed t r → typeNotAllowed t r ≡ true
+type-test : {given : Bool} {t : ℕ} {r : Record} → TypeNotAllowed given t r → typeNotAllowed given t r ≡ true
 type-test (hierarchy-type p) = rw p
 type-test (extension-on-avc p) = rw p
 type-test (extension-on-svc p) = rw p
 type-test (extension-on-mvc p) = rw p
-type-test {t} (unknown-type {r} l u) = none-stands r l
+type-test {given} {t} (unknown-type {r} l u) = none-stands r l
   where
-    none-stands : (r : Record) → isLayer r ≡ true → typeNotAllowed t r ≡ true
+    none-stands : (r : Record) → hasDescriptor r ≡ true → typeNotAllowed given t r ≡ true
     none-stands NoRecord l = apart l
     none-stands (Hierarchy h) l = ap not (no-hierarchy t u (h .«hierarchy_type»))
     none-stands (Extension x) l = ap not (no-extension t u)
+    none-stands Implied l = apart l
+type-test (mark-not-given p) = ap not p
+type-test (mark-missing p) = p
 
-pub refusal-6 : (streamType : ℕ) (r : Record) → typeNotAllowed streamType r ≡ true ↔ TypeNotAllowed streamType r
-refusal-6 t r = (type-means t r, type-test)
+pub refusal-6 : (given : Bool) (streamType : ℕ) (r : Record) → typeNotAllowed given streamType r ≡ true ↔ TypeNotAllowed given streamType r
+refusal-6 given t r = (type-means given t r, type-test)
 
 -- 7: the flags that are counted
 abbrev place : Flag → ℕ
@@ -165,6 +169,7 @@ module _ (h : HierarchyRecord) where
 flags-mean : (r : Record) → wrongFlags r ≡ true → WrongFlags r
 flags-mean NoRecord e = apart e
 flags-mean (Extension x) e = apart e
+flags-mean Implied e = apart e
 flags-mean (Hierarchy h) e =
     let t : ℕ = h .«hierarchy_type» in
     let n : ℕ = flagsAt0 h in
@@ -185,29 +190,37 @@ flags-test (more-than-one {h} f g n p q t) =
 pub refusal-7 : (r : Record) → wrongFlags r ≡ true ↔ WrongFlags r
 refusal-7 r = (flags-mean r, flags-test)
 
-module _ (r : Record) (layers : List LayerIndex) where
-  embedded-means : wrongEmbedded r layers ≡ true → WrongEmbedded r layers
+module _ (streamType : ℕ) (r : Record) (layers : List LayerIndex) where
+  embedded-means : wrongEmbedded streamType r layers ≡ true → WrongEmbedded streamType r layers
   embedded-means e =
-      let indices : List ℕ = named r layers in
-      let w = some-which (wrongAt (indexOf r) indices) (length indices) e in
+      let indices : List ℕ = named streamType r layers in
+      let w = some-which (wrongAt (indexOf streamType r) indices) (length indices) e in
       let x : ℕ = getD indices (w .0) 0 in
-      which (leb (indexOf r) x) (member x (take (w .0) indices)) (w .2) (λ p. not-below (w .0) (w .1) (leb-true (indexOf r) x p))
+      which (leb (indexOf streamType r) x) (member x (take (w .0) indices)) (w .2) (λ p. not-below (w .0) (w .1) (leb-true (indexOf streamType r) x p))
       (λ p.
       let v = member-which x (take (w .0) indices) p in
       let before : v .0 < w .0 = rw (length-take-le (w .0) indices (omega (arith, w .1))) at (v .1) in
       listed-twice (v .0) (w .0) before (w .1) (sym (getD-take (w .0) indices (v .0) 0 before) ∙ v .2))
 
-  embedded-test : WrongEmbedded r layers → wrongEmbedded r layers ≡ true
+  embedded-test : WrongEmbedded streamType r layers → wrongEmbedded streamType r layers ≡ true
   embedded-test (not-below i h l) =
-      let indices : List ℕ = named r layers in
+      let indices : List ℕ = named streamType r layers in
       let x : ℕ = getD indices i 0 in
-      some-at (wrongAt (indexOf r) indices) (length indices) i h (either-left (leb (indexOf r) x) (member x (take i indices)) (le-leb (indexOf r) x l))
+      some-at (wrongAt (indexOf streamType r) indices) (length indices) i h (either-left (leb (indexOf streamType r) x) (member x (take i indices)) (le-leb (indexOf streamType r) x l))
   embedded-test (listed-twice i j l h e) =
-      let indices : List ℕ = named r layers in
+      let indices : List ℕ = named streamType r layers in
       let x : ℕ = getD indices j 0 in
       let there = member-at (take j indices) i (rw (length-take-le j indices (omega arith)) l) in
-      some-at (wrongAt (indexOf r) indices) (length indices) j h
-      (either-right (leb (indexOf r) x) (member x (take j indices)) (rw (getD-take j indices i 0 l ∙ e) at there))
+      some-at (wrongAt (indexOf streamType r) indices) (length indices) j h
+      (either-right (leb (indexOf streamType r) x) (member x (take j indices)) (rw (getD-take j indices i 0 l ∙ e) at there))
 
-  pub refusal-9 : wrongEmbedded r layers ≡ true ↔ WrongEmbedded r layers
+  pub refusal-9 : wrongEmbedded streamType r layers ≡ true ↔ WrongEmbedded streamType r layers
   refusal-9 = (embedded-means, embedded-test)
+
+-- An implied layer rests on a lower one alone.
+pub implied-sound : (streamType : ℕ) (layers : List LayerIndex) → wrongEmbedded streamType Implied layers ≡ false
+implied-sound streamType layers = either-view (isSecondView streamType)
+  where
+    either-view : (second : Bool) → wrongList (cond second 1 0) (map plain (cond second (record { 0 = 0 } ∷ []) [])) ≡ false
+    either-view true = refl
+    either-view false = refl

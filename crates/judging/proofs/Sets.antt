@@ -35,19 +35,19 @@ below-indices k set (i ∷ is) h f =
 pub indices-within : (set : ℕ) (l : List ℕ) → set < 2 ^ 64 → withIndices set l < 2 ^ 64
 indices-within set l h = below-indices 64 set l h (λ j l k. k)
 
-module _ (r : Record) (layers : List LayerIndex) where
+module _ (streamType : ℕ) (r : Record) (layers : List LayerIndex) where
   -- The set that a record's names make holds an index exactly when the record names it, and no other number of 64 bits does so.
-  pub names-in : (i : ℕ) → i < 64 → has (namesOf r layers) i ≡ member i (named r layers)
-  names-in i h = rw (indices-in 0 (named r layers) i h, has-none i)
+  pub names-in : (i : ℕ) → i < 64 → has (namesOf streamType r layers) i ≡ member i (named streamType r layers)
+  names-in i h = rw (indices-in 0 (named streamType r layers) i h, has-none i)
 
-  pub names-only : (set : ℕ) → set < 2 ^ 64 → ((i : ℕ) → i < 64 → has set i ≡ member i (named r layers)) → set ≡ namesOf r layers
+  pub names-only : (set : ℕ) → set < 2 ^ 64 → ((i : ℕ) → i < 64 → has set i ≡ member i (named streamType r layers)) → set ≡ namesOf streamType r layers
   names-only set h f =
-      same-members-within 64 set (namesOf r layers) h (indices-within 0 (named r layers) (pow-pos 64)) (λ i l. f i l ∙ sym (names-in i l))
+      same-members-within 64 set (namesOf streamType r layers) h (indices-within 0 (named streamType r layers) (pow-pos 64)) (λ i l. f i l ∙ sym (names-in i l))
 
   -- A layer that 9 does not refuse names lower layers alone: its set has no bit at its own index or above.
-  pub names-lower : wrongEmbedded r layers ≡ false → namesOf r layers < 2 ^ indexOf r
+  pub names-lower : wrongEmbedded streamType r layers ≡ false → namesOf streamType r layers < 2 ^ indexOf streamType r
   names-lower e =
-      let own : ℕ = indexOf r in
-      let indices : List ℕ = named r layers in
+      let own : ℕ = indexOf streamType r in
+      let indices : List ℕ = named streamType r layers in
       below-indices own 0 indices (pow-pos own)
       (λ k h l. leb-false own (getD indices k 0) (neither-left (leb own (getD indices k 0)) (member (getD indices k 0) (take k indices)) (none-at (wrongAt own indices) (length indices) e k h)))

@@ -13,17 +13,27 @@ use Rattle.vocabulary.specs.declared.LayerIndex.{LayerIndex}
 use Rattle.descriptors.specs.declared.hierarchy.HierarchyRecord.{HierarchyRecord}
 use Rattle.descriptors.specs.declared.extension.ExtensionRecord.{ExtensionRecord}
 use Rattle.descriptors.specs.declared.«record».Record.{Record}
-use Rattle.descriptors.specs.declared.«record».Record.the-variants.{Hierarchy, Extension}
-use Rattle.descriptors.specs.Records.{isLayer, indexOf, named}
+use Rattle.descriptors.specs.declared.«record».Record.the-variants.{NoRecord, Hierarchy, Extension, Implied}
+use Rattle.descriptors.specs.Records.{indexOf, named}
+
+-- a record that is written as a descriptor
+abbrev pub hasDescriptor : Record → Bool
+hasDescriptor NoRecord = false
+hasDescriptor (Hierarchy h) = true
+hasDescriptor (Extension x) = true
+hasDescriptor Implied = false
 
 -- 6. 'type not allowed on this stream, or an extension on 0x1B, 0x1F, 0x20'; 'the loop writer uses 6 also for a record on a stream type the 2015
--- reading doesn't know' (a reading has no record of a stream whose type it doesn't know)
-pub data TypeNotAllowed (streamType : ℕ) : Record → Type 0 where
-  hierarchy-type : {h : HierarchyRecord} → mayStandOn (h .«hierarchy_type») streamType ≡ false → TypeNotAllowed streamType (Hierarchy h)
-  extension-on-avc : {x : ExtensionRecord} → streamType ≡ 0x1B → TypeNotAllowed streamType (Extension x)
-  extension-on-svc : {x : ExtensionRecord} → streamType ≡ 0x1F → TypeNotAllowed streamType (Extension x)
-  extension-on-mvc : {x : ExtensionRecord} → streamType ≡ 0x20 → TypeNotAllowed streamType (Extension x)
-  unknown-type : {r : Record} → isLayer r ≡ true → known Edition2015 streamType ≡ false → TypeNotAllowed streamType r
+-- reading doesn't know' (a reading has no record of a stream whose type it doesn't know). And of document 02, W-201: an 'entry whose implied mark isn't what this rule
+-- gives', where `given` is whether the rule gives the entry its mark.
+pub data TypeNotAllowed (given : Bool) (streamType : ℕ) : Record → Type 0 where
+  hierarchy-type : {h : HierarchyRecord} → mayStandOn (h .«hierarchy_type») streamType ≡ false → TypeNotAllowed given streamType (Hierarchy h)
+  extension-on-avc : {x : ExtensionRecord} → streamType ≡ 0x1B → TypeNotAllowed given streamType (Extension x)
+  extension-on-svc : {x : ExtensionRecord} → streamType ≡ 0x1F → TypeNotAllowed given streamType (Extension x)
+  extension-on-mvc : {x : ExtensionRecord} → streamType ≡ 0x20 → TypeNotAllowed given streamType (Extension x)
+  unknown-type : {r : Record} → hasDescriptor r ≡ true → known Edition2015 streamType ≡ false → TypeNotAllowed given streamType r
+  mark-not-given : given ≡ false → TypeNotAllowed given streamType Implied
+  mark-missing : given ≡ true → TypeNotAllowed given streamType NoRecord
 
 -- 7. 'type 9 with a flag at 0, or more than one flag at 0 and type not 8'
 pub data Flag : Type 0 where
@@ -42,6 +52,8 @@ pub data WrongFlags : Record → Type 0 where
       → WrongFlags (Hierarchy h)
 
 -- 9. 'an embedded index not below the layer's own, or listed twice'
-pub data WrongEmbedded (r : Record) (layers : List LayerIndex) : Type 0 where
-  not-below : (i : ℕ) → i < length (named r layers) → indexOf r ≤ getD (named r layers) i 0 → WrongEmbedded r layers
-  listed-twice : (i j : ℕ) → i < j → j < length (named r layers) → getD (named r layers) i 0 ≡ getD (named r layers) j 0 → WrongEmbedded r layers
+pub data WrongEmbedded (streamType : ℕ) (r : Record) (layers : List LayerIndex) : Type 0 where
+  not-below : (i : ℕ) → i < length (named streamType r layers) → indexOf streamType r ≤ getD (named streamType r layers) i 0
+      → WrongEmbedded streamType r layers
+  listed-twice : (i j : ℕ) → i < j → j < length (named streamType r layers)
+      → getD (named streamType r layers) i 0 ≡ getD (named streamType r layers) j 0 → WrongEmbedded streamType r layers

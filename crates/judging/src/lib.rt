@@ -2,14 +2,16 @@
 // writer of a loop judge by the same functions.
 //
 // Each answers for every value that the types can hold, also for one that no six bits can: a writer may be handed any.
+//
+// Whether an entry is to be an implied layer is said of the whole loop (document 02, W-201): here it is given.
 ghost use mathlib.Core.Path.{_≡_};
 ghost use mathlib.Core.Bool.{false};
-ghost use mathlib.Core.List.{[], map};
+ghost use mathlib.Core.List.{map};
 ghost use Prim.Native.Nat.{_≤_, _<_};
 ghost use lib.ListN.{take, replicate};
 ghost use Rattle.combinators.specs.Members.{member};
-ghost use Rattle.descriptors.specs.Records.{plain};
-ghost use Rattle.judging.specs.Judging.{extensionOn, typeNotAllowed, at0, flagsAt0, flagsWrongFor, wrongFlags, wrongList, wrongEmbedded};
+ghost use Rattle.descriptors.specs.Records.{plain, hierarchyList};
+ghost use Rattle.judging.specs.Judging.{extensionOn, typeNotAllowed, at0, flagsAt0, flagsWrongFor, wrongFlags, wrongList, TellsEmbedded};
 use descriptors::HierarchyRecord;
 use descriptors::Record;
 use vocabulary::LayerIndex;
@@ -26,14 +28,15 @@ fn extension_on(stream_type: u8) -> bool
     }
 }
 
-// Refusal 6.
-pub fn type_not_allowed(stream_type: u8, record: Record) -> bool
-    ensures { λ r. ⌜ r ≡ typeNotAllowed «stream_type» «record» ⌝ }
+// Refusal 6. `given` is whether the rule gives this entry the implied mark.
+pub fn type_not_allowed(given: bool, stream_type: u8, record: Record) -> bool
+    ensures { λ r. ⌜ r ≡ typeNotAllowed given «stream_type» «record» ⌝ }
 {
     match record {
-        Record::NoRecord => false,
+        Record::NoRecord => given,
         Record::Hierarchy(hierarchy) => !may_stand_on(hierarchy.hierarchy_type, stream_type),
         Record::Extension(_) => !extension_on(stream_type),
+        Record::Implied => !given,
     }
 }
 
@@ -70,6 +73,7 @@ pub fn wrong_flags(record: Record) -> bool
             flags_at_0(hierarchy),
         ),
         Record::Extension(_) => false,
+        Record::Implied => false,
     }
 }
 
@@ -109,7 +113,7 @@ fn wrong_list(own: LayerIndex, count: usize, embedded: [LayerIndex; 63]) -> bool
 }
 
 fn wrong_hierarchy_index(hierarchy: HierarchyRecord) -> bool
-    ensures { λ r. ⌜ r ≡ wrongEmbedded (Record.Hierarchy hierarchy) [] ⌝ }
+    ensures { λ r. ⌜ r ≡ wrongList (plain (hierarchy .«layer_index»)) (map plain (hierarchyList hierarchy)) ⌝ }
 {
     if descriptors::is_base(hierarchy) {
         return false;
@@ -117,9 +121,9 @@ fn wrong_hierarchy_index(hierarchy: HierarchyRecord) -> bool
     hierarchy.layer_index.0 <= hierarchy.embedded_layer_index.0
 }
 
-// Refusal 9.
+// Refusal 9. Of an implied layer it never holds, so that the answer is the same whatever the stream's type.
 pub fn wrong_embedded(record: Record, embedded: [LayerIndex; 63]) -> bool
-    ensures { λ r. ⌜ r ≡ wrongEmbedded «record» embedded ⌝ }
+    ensures { λ r. ⌜ TellsEmbedded r «record» embedded ⌝ }
 {
     match record {
         Record::NoRecord => false,
@@ -131,5 +135,6 @@ pub fn wrong_embedded(record: Record, embedded: [LayerIndex; 63]) -> bool
                 embedded,
             )
         }
+        Record::Implied => false,
     }
 }

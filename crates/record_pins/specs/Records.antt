@@ -1,5 +1,5 @@
--- RECORDS, pinned: 'Type 15 is a base layer: its embedded index is kept for writing but names nothing', and no other type is one; and what the bytes of
--- a descriptor say, in which every field differs from every other.
+-- RECORDS, pinned: 'Type 15 is a base layer: its embedded index is kept for writing but names nothing', and no other type is one; what the bytes of
+-- a descriptor say, in which every field differs from every other; and what an implied layer is on each of the two stream types (document 02, W-201).
 -- Assumes nothing.
 use Prim.Native.Nat.{ℕ}
 use mathlib.Core.Bool.{true, false}
@@ -11,10 +11,10 @@ use Rattle.vocabulary.specs.declared.LayerIndex.{LayerIndex}
 use Rattle.vocabulary.specs.declared.stream_types.Reading.the-variants.{Edition2015}
 use Rattle.descriptors.specs.declared.hierarchy.HierarchyRecord.{HierarchyRecord}
 use Rattle.descriptors.specs.declared.extension.ExtensionRecord.{ExtensionRecord}
-use Rattle.descriptors.specs.declared.«record».Record.the-variants.{Hierarchy, Extension}
+use Rattle.descriptors.specs.declared.«record».Record.the-variants.{Hierarchy, Extension, Implied}
 use Rattle.descriptors.specs.Hierarchy.{hierarchyOf}
 use Rattle.descriptors.specs.Extension.{extensionOf, embeddedOf}
-use Rattle.descriptors.specs.Records.{isBase, indexOf, named}
+use Rattle.descriptors.specs.Records.{isLayer, isBase, indexOf, channelOf, named, recordTables}
 
 -- a hierarchy record with every field different from every other
 abbrev pub ofType : ℕ → HierarchyRecord
@@ -77,11 +77,18 @@ pub record RecordsPinned : Type 0 where
   pub extension-read : extensionOf extensionPayload ≡ extension
   pub embedded-read : embeddedOf extensionPayload ≡ record { 0 = 9 } ∷ record { 0 = 7 } ∷ []
   pub base-layer : (h : HierarchyRecord) → (isBase h ≡ true) ↔ (h .«hierarchy_type» ≡ 15)
-  pub base-names-nothing : named (Hierarchy (ofType 15)) beside ≡ []
-  pub others-name-one : (named (Hierarchy (ofType 1)) beside ≡ 30 ∷ []) × (named (Hierarchy (ofType 8)) beside ≡ 30 ∷ [])
-      × (named (Hierarchy (ofType 9)) beside ≡ 30 ∷ []) × (named (Hierarchy (ofType 14)) beside ≡ 30 ∷ [])
-  pub extension-names-as-many-as-it-counts : named (Extension extension) beside ≡ 7 ∷ 3 ∷ []
-  pub index : indexOf (Hierarchy (ofType 15)) ≡ 40
+  pub base-names-nothing : named 0x1B (Hierarchy (ofType 15)) beside ≡ []
+  pub others-name-one : (named 0x1B (Hierarchy (ofType 1)) beside ≡ 30 ∷ []) × (named 0x1F (Hierarchy (ofType 8)) beside ≡ 30 ∷ [])
+      × (named 0x20 (Hierarchy (ofType 9)) beside ≡ 30 ∷ []) × (named 0x24 (Hierarchy (ofType 14)) beside ≡ 30 ∷ [])
+  pub extension-names-as-many-as-it-counts : named 0x24 (Extension extension) beside ≡ 7 ∷ 3 ∷ []
+  pub index : (indexOf 0x1B (Hierarchy (ofType 15)) ≡ 40) × (indexOf 0x20 (Hierarchy (ofType 9)) ≡ 40)
+  -- 'the first is a base layer of index 0 and the second has index 1 resting on 0, each with channel 0', the first of type 0x1B and the second of type 0x20;
+  -- 'the writer writes no descriptor for these implied layers'
+  pub implied-layer : isLayer Implied ≡ true
+  pub implied-index : (indexOf 0x1B Implied ≡ 0) × (indexOf 0x20 Implied ≡ 1)
+  pub implied-rests : (named 0x1B Implied beside ≡ []) × (named 0x20 Implied beside ≡ 0 ∷ [])
+  pub implied-channel : channelOf Implied ≡ record { 0 = 0 }
+  pub implied-not-written : recordTables Implied beside ≡ []
 
 pub records-pinned : RecordsPinned
 records-pinned =
@@ -93,5 +100,10 @@ records-pinned =
       base-names-nothing = refl;
       others-name-one = (refl, refl, refl, refl);
       extension-names-as-many-as-it-counts = refl;
-      index = refl;
+      index = (refl, refl);
+      implied-layer = refl;
+      implied-index = (refl, refl);
+      implied-rests = (refl, refl);
+      implied-channel = refl;
+      implied-not-written = refl;
     }

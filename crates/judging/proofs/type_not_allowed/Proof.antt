@@ -22,18 +22,28 @@ enum-told-2 c = search needs
 extension-on-requires : tie.Need-extension-on-requires
 extension-on-requires c κs = search needs
 
+enum-told-3 : tie.Need-enum-told-3
+enum-told-3 c = search needs
+
 returns : tie.Need-returns
-returns c = search needs
+returns c =
+    let a = c .before .before .args in
+    sym (ap (typeNotAllowed (a .given) (a .stream-type)) (c .enum-told .given .1))
 
 returns-2 : tie.Need-returns-2
 returns-2 c =
     let a = c .before .before .before .before .args in
-    ap not (c .may-stand-on .ensures) ∙ sym (ap (typeNotAllowed (a .stream-type)) (c .before .before .«record» .given .1))
+    ap not (c .may-stand-on .ensures) ∙ sym (ap (typeNotAllowed (a .given) (a .stream-type)) (c .before .before .«record» .given .1))
 
 returns-3 : tie.Need-returns-3
 returns-3 c =
     let a = c .before .before .before .args in
-    ap not (c .extension-on .ensures) ∙ sym (ap (typeNotAllowed (a .stream-type)) (c .before .enum-told2 .given .1))
+    ap not (c .extension-on .ensures) ∙ sym (ap (typeNotAllowed (a .given) (a .stream-type)) (c .before .enum-told2 .given .1))
+
+returns-4 : tie.Need-returns-4
+returns-4 c =
+    let a = c .before .before .args in
+    sym (ap (typeNotAllowed (a .given) (a .stream-type)) (c .enum-told3 .given .1))
 
 pub type-not-allowed-spec : {M : Type 1} → statement M
 type-not-allowed-spec =
@@ -44,6 +54,8 @@ type-not-allowed-spec =
     may-stand-on-requires
     enum-told-2
     extension-on-requires
+    enum-told-3
     returns
     returns-2
-    returns-3)
+    returns-3
+    returns-4)

@@ -9,6 +9,7 @@ use Rattle.descriptors.specs.declared.«record».Record.{Record}
 use Rattle.descriptors.specs.Records.{plain}
 use Rattle.judging.specs.Judging.{wrongList, wrongEmbedded}
 use Rattle.descriptors.proofs.Naming.{all-listed}
+use Rattle.judging.proofs.Meant.{implied-sound}
 use borrow.Author.Needs.{needs}
 use Rattle.judging.proofs.wrong_embedded.Statement.{statement}
 use Rattle.judging.proofs.wrong_embedded.Tie as tie
@@ -31,22 +32,32 @@ listed-count-requires c κs = search needs
 wrong-list-requires : tie.Need-wrong-list-requires
 wrong-list-requires c κs = search needs
 
+enum-told-2 : tie.Need-enum-told-2
+enum-told-2 c = search needs
+
 returns : tie.Need-returns
-returns c = search needs
+returns c streamType =
+    let a = c .before .before .args in
+    sym (ap (λ (r : Record). wrongEmbedded streamType r (a .embedded)) (c .enum-told .given .1))
 
 returns-2 : tie.Need-returns-2
-returns-2 c =
+returns-2 c streamType =
     let a = c .before .before .before .before .args in
-    c .wrong-hierarchy-index .ensures ∙ sym (ap (λ (r : Record). wrongEmbedded r (a .embedded)) (c .before .before .«record» .given .1))
+    c .wrong-hierarchy-index .ensures ∙ sym (ap (λ (r : Record). wrongEmbedded streamType r (a .embedded)) (c .before .before .«record» .given .1))
 
 returns-3 : tie.Need-returns-3
-returns-3 c =
+returns-3 c streamType =
     let a = c .before .before .before .before .before .args in
     let told = c .before .before .before .record2 .given in
     let extension = told .0 .0 in
     let room : length (a .embedded) ≡ 63 = omega arith in
     let all = all-listed (a .embedded) (extension .«num_embedded_layers») (c .before .listed-count .result) room (c .before .listed-count .ensures) in
-    c .wrong-list .ensures ∙ ap (λ (l : List LayerIndex). wrongList (extension .«layer_index» .0) (map plain l)) all ∙ sym (ap (λ (r : Record). wrongEmbedded r (a .embedded)) (told .1))
+    c .wrong-list .ensures ∙ ap (λ (l : List LayerIndex). wrongList (extension .«layer_index» .0) (map plain l)) all ∙ sym (ap (λ (r : Record). wrongEmbedded streamType r (a .embedded)) (told .1))
+
+returns-4 : tie.Need-returns-4
+returns-4 c streamType =
+    let a = c .before .before .args in
+    sym (implied-sound streamType (a .embedded)) ∙ sym (ap (λ (r : Record). wrongEmbedded streamType r (a .embedded)) (c .enum-told2 .given .1))
 
 pub wrong-embedded-spec : {M : Type 1} → statement M
 wrong-embedded-spec =
@@ -58,6 +69,8 @@ wrong-embedded-spec =
     enum-known-record-2
     listed-count-requires
     wrong-list-requires
+    enum-told-2
     returns
     returns-2
-    returns-3)
+    returns-3
+    returns-4)

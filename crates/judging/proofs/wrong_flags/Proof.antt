@@ -21,6 +21,9 @@ flags-wrong-for-requires c κs = search needs
 enum-told-2 : tie.Need-enum-told-2
 enum-told-2 c = search needs
 
+enum-told-3 : tie.Need-enum-told-3
+enum-told-3 c = search needs
+
 returns : tie.Need-returns
 returns c = search needs
 
@@ -32,6 +35,9 @@ returns-2 c =
 returns-3 : tie.Need-returns-3
 returns-3 c = search needs
 
+returns-4 : tie.Need-returns-4
+returns-4 c = search needs
+
 pub wrong-flags-spec : {M : Type 1} → statement M
 wrong-flags-spec =
     tie.close
@@ -41,6 +47,8 @@ wrong-flags-spec =
     flags-at-0-requires
     flags-wrong-for-requires
     enum-told-2
+    enum-told-3
     returns
     returns-2
-    returns-3)
+    returns-3
+    returns-4)
