@@ -15,7 +15,8 @@ use Rattle.vocabulary.specs.declared.refusal.Refusal.the-variants.{LoopTooLong}
 use Rattle.es_loop.specs.declared.entries.Stream.{Stream}
 use Rattle.es_loop.specs.declared.verdict.Verdict.{Verdict}
 use Rattle.es_loop.specs.declared.verdict.Verdict.the-variants.{Entries, Refused as Refuses}
-use Rattle.es_loop.specs.Entries.{streamsOf}
+use Rattle.es_loop.specs.Entries.{pairOf, streamsAlone, streamsOf}
+use Rattle.es_loop.proofs.Pairs.{pair-marked}
 use Rattle.es_loop.specs.Conditions.{applies, refusalOf}
 use Rattle.es_loop.specs.declared.reader.Outcome.the-variants.{Accepted, Refused as OutcomeRefused}
 use Rattle.es_loop.specs.Reading.{verdictAt, judged, verdictOf, answerBy, loopRead, accepted as accepted-read}
@@ -25,14 +26,14 @@ module _ (streams : List Stream) where
   pub judged-refused : (number place : ℕ) → Lowest (applies streams) 10 (length streams) number place → number < 10
       → Refuses (refusalOf number place) ≡ judged streams
   judged-refused number place b h =
-      sym (ap (λ (t : Bool). cond t (Refuses (refusalOf number place)) (Entries (length streams))) (lt-ltb number 10 h))
-      ∙ ap (λ (p : ℕ). verdictAt (length streams) number p) (earliest-place (applies streams) 10 (length streams) number place b h)
-      ∙ ap (λ (n : ℕ). verdictAt (length streams) n (earliestPlace (applies streams) n (length streams)))
+      sym (ap (λ (t : Bool). cond t (Refuses (refusalOf number place)) (Entries (length streams) (pairOf streams))) (lt-ltb number 10 h))
+      ∙ ap (λ (p : ℕ). verdictAt (length streams) (pairOf streams) number p) (earliest-place (applies streams) 10 (length streams) number place b h)
+      ∙ ap (λ (n : ℕ). verdictAt (length streams) (pairOf streams) n (earliestPlace (applies streams) n (length streams)))
       (lowest-number (applies streams) 10 (length streams) number place b)
 
-  pub judged-accepted : (place : ℕ) → Lowest (applies streams) 10 (length streams) 10 place → Entries (length streams) ≡ judged streams
+  pub judged-accepted : (place : ℕ) → Lowest (applies streams) 10 (length streams) 10 place → Entries (length streams) (pairOf streams) ≡ judged streams
   judged-accepted place b =
-      ap (λ (n : ℕ). verdictAt (length streams) n (earliestPlace (applies streams) n (length streams)))
+      ap (λ (n : ℕ). verdictAt (length streams) (pairOf streams) n (earliestPlace (applies streams) n (length streams)))
       (lowest-number (applies streams) 10 (length streams) 10 place b)
 
   -- a verdict of entries: no number applies at any of them, and they are all
@@ -41,7 +42,7 @@ module _ (streams : List Stream) where
 
   abbrev Accepting : Verdict → Type 0
   Accepting (Refuses r) = Unit {0}
-  Accepting (Entries count) = (count ≡ length streams) × ((n k : ℕ) → n < 10 → k < length streams → applies streams n k ≡ false)
+  Accepting (Entries count pair) = (count ≡ length streams) × (pair ≡ pairOf streams) × ((n k : ℕ) → n < 10 → k < length streams → applies streams n k ≡ false)
 
   accepting : Accepting (judged streams)
   accepting = go (ltb lowest 10) refl
@@ -50,34 +51,36 @@ module _ (streams : List Stream) where
       go true p = rw p tt
       go false p =
           rw p
-          (refl, λ n k h l. lowest-is (applies streams) 10 (length streams) .lower n k (omega (arith, ltb-false lowest 10 p)) l)
+          (refl, refl, λ n k h l. lowest-is (applies streams) 10 (length streams) .lower n k (omega (arith, ltb-false lowest 10 p)) l)
 
 -- the same of a loop's bytes
 module _ (reading : Reading) (bytes : List ℕ) where
-  pub record Sound (count : ℕ) : Type 0 where
+  pub record Sound (count : ℕ) (pair : Bool) : Type 0 where
     pub short : length bytes ≤ 1008
     pub counted : count ≡ length (streamsOf reading bytes)
+    pub paired : pair ≡ pairOf (streamsAlone reading bytes)
     pub none : (n k : ℕ) → n < 10 → k < length (streamsOf reading bytes) → applies (streamsOf reading bytes) n k ≡ false
 
   abbrev Holds : Verdict → Type 0
   Holds (Refuses r) = Unit {0}
-  Holds (Entries n) = Sound n
+  Holds (Entries n pair) = Sound n pair
 
   abbrev IsEntries : Verdict → Type 0
   IsEntries (Refuses r) = ⊥
-  IsEntries (Entries n) = Unit {0}
+  IsEntries (Entries n pair) = Unit {0}
 
   abbrev By : Bool → Verdict
   By b = cond b (Refuses LoopTooLong) (judged (streamsOf reading bytes))
 
   accepted : (v : Verdict) → length bytes ≤ 1008 → Accepting (streamsOf reading bytes) v → Holds v
   accepted (Refuses r) short a = tt
-  accepted (Entries n) short a = record { short = short; counted = a .0; none = a .1 }
+  accepted (Entries n pair) short a =
+      record { short = short; counted = a .0; paired = a .1 ∙ pair-marked (streamsAlone reading bytes); none = a .2 }
 
-  pub sound : (count : ℕ) → verdictOf reading bytes ≡ Entries count → Sound count
-  sound count e = go (ltb 1008 (length bytes)) refl
+  pub sound : (count : ℕ) (pair : Bool) → verdictOf reading bytes ≡ Entries count pair → Sound count pair
+  sound count pair e = go (ltb 1008 (length bytes)) refl
     where
-      go : (b : Bool) → ltb 1008 (length bytes) ≡ b → Sound count
+      go : (b : Bool) → ltb 1008 (length bytes) ≡ b → Sound count pair
       go true p = absurd (subst IsEntries (sym (sym (ap By p) ∙ e)) tt)
       go false p =
           subst Holds (sym (ap By p) ∙ e)
@@ -97,6 +100,6 @@ module _ (reading : Reading) (bytes : List ℕ) where
 
       go : (v : Verdict) → verdictOf reading bytes ≡ v → (answerBy (streamsOf reading bytes) v) .outcome ≡ Accepted → Taken
       go (Refuses r) e o = never o
-      go (Entries count) e o =
-          let s = sound count e in
+      go (Entries count pair) e o =
+          let s = sound count pair e in
           record { short = s .short; is-read = ap (answerBy (streamsOf reading bytes)) e; none = s .none }

@@ -16,14 +16,14 @@ use Rattle.combinators.specs.Marks.{Marks, marks-start, marks-step}
 use Rattle.descriptors.specs.Records.{indexOf}
 use Rattle.es_loop.specs.declared.entries.Stream.{Stream}
 use Rattle.es_loop.specs.declared.faults.Fault.{Fault}
-use Rattle.es_loop.specs.Conditions.{streamAt, pidAt, recordAt, conditions, applies, faultAt, slotOf, lowerOf}
+use Rattle.es_loop.specs.Conditions.{streamAt, pidAt, typeAt, recordAt, givenAt, conditions, applies, faultAt, slotOf, lowerOf}
 use Rattle.es_loop.proofs.Marked.{marked-tests}
 
 module _ (all : List Stream) where
   -- what is known after `count` streams
   pub record Passed (marks held : List Bool) (fault : Fault) (count : ℕ) : Type 0 where
     pub pids : Marks 8192 (pidAt all) count marks
-    pub indices : Marks 257 (λ j. slotOf (recordAt all j)) count held
+    pub indices : Marks 257 (λ j. slotOf (typeAt all j) (recordAt all j)) count held
     pub lowest : Lowest (applies all) 10 count (fault .number) (fault .place)
     -- past all numbers the place is 0
     pub unset : 10 ≤ fault .number → fault .place ≡ 0
@@ -32,22 +32,22 @@ module _ (all : List Stream) where
   passed-start =
       record {
         pids = marks-start 8192 (pidAt all);
-        indices = marks-start 257 (λ j. slotOf (recordAt all j));
+        indices = marks-start 257 (λ j. slotOf (typeAt all j) (recordAt all j));
         lowest = lowest-start (applies all) 10 0;
         unset = λ h. refl;
       }
 
   -- another stream: its lowest number, as the marks show it
-  module _ (marks held : List Bool) (fault : Fault) (count : ℕ) (known : Passed marks held fault count) (s : Stream) (here : streamAt all count ≡ s)
-      (pid-small : s .pid < 8192) (index-small : indexOf (s .seen .«record») < 256) where
+  module _ (marks held : List Bool) (fault : Fault) (count : ℕ) (known : Passed marks held fault count) (isGiven : Bool) (s : Stream) (here : streamAt all count ≡ s)
+      (given-here : isGiven ≡ givenAt all count) (pid-small : s .pid < 8192) (index-small : indexOf (s .«stream_type») (s .seen .«record») < 256) where
     abbrev number : ℕ
-    number = faultAt marks held s
+    number = faultAt isGiven marks held s
 
     pub first-here : First (λ n. applies all n count) 10 number
     first-here =
         subst (λ (ts : List Bool). First (λ n. getD ts n false) 10 number)
-        (sym (marked-tests all count marks held (known .pids) (known .indices) s here pid-small index-small))
-        (first-true (conditions _ _ s))
+        (sym (marked-tests all isGiven count marks held (known .pids) (known .indices) s here given-here pid-small index-small))
+        (first-true (conditions isGiven _ _ s))
 
     lower : Dec (number < fault .number)
         → Lowest (applies all) 10 (count + 1) ((lowerOf fault number count) .number) ((lowerOf fault number count) .place)
@@ -60,13 +60,13 @@ module _ (all : List Stream) where
 
     -- with the values that the code holds
     pub passed-next : (after : Fault) (marks₂ held₂ : List Bool) → after ≡ lowerOf fault number count → marks₂ ≡ set marks (s .pid) true
-        → held₂ ≡ set held (slotOf (s .seen .«record»)) true → Passed marks₂ held₂ after (count + 1)
+        → held₂ ≡ set held (slotOf (s .«stream_type») (s .seen .«record»)) true → Passed marks₂ held₂ after (count + 1)
     passed-next after marks₂ held₂ is-after is-marks is-held =
         rw (is-after, is-marks, is-held)
         (record {
           pids = marks-step 8192 (pidAt all) count marks (s .pid) (known .pids) (ap (λ (t : Stream). t .pid) here);
-          indices = marks-step 257 (λ j. slotOf (recordAt all j)) count held (slotOf (s .seen .«record»)) (known .indices)
-              (ap (λ (t : Stream). slotOf (t .seen .«record»)) here);
+          indices = marks-step 257 (λ j. slotOf (typeAt all j) (recordAt all j)) count held (slotOf (s .«stream_type») (s .seen .«record»)) (known .indices)
+              (ap (λ (t : Stream). slotOf (t .«stream_type») (t .seen .«record»)) here);
           lowest = lower (decLt number (fault .number));
           unset = still-unset (decLt number (fault .number));
         })

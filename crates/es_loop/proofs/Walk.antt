@@ -15,14 +15,16 @@ use Rattle.combinators.specs.Bools.{apart}
 use Rattle.combinators.specs.Lists.{Next, next, part-to-end}
 use Rattle.combinators.specs.Lowest.{Lowest}
 use Rattle.framing.specs.Pieces.{Item, whole, broken, cut-broken, cut-piece}
+use Rattle.implied.specs.Rule.{given}
 use Rattle.vocabulary.specs.declared.stream_types.Reading.{Reading}
 use Rattle.vocabulary.specs.declared.refusal.Refusal.the-variants.{DoesNotFit}
 use Rattle.es_loop.specs.declared.entries.Stream.{Stream}
 use Rattle.es_loop.specs.declared.faults.Fault.{Fault}
 use Rattle.es_loop.specs.declared.verdict.Verdict.the-variants.{Entries, Refused as Refuses}
-use Rattle.es_loop.specs.Entries.{noStream, esInfoLength, sizeOf, streamOf, streamsOf}
-use Rattle.es_loop.specs.Conditions.{streamAt, applies, refusalOf}
+use Rattle.es_loop.specs.Entries.{noStream, esInfoLength, sizeOf, streamOf, pairOf, markedStream, streamsAlone, streamsOf}
+use Rattle.es_loop.specs.Conditions.{streamAt, givenAt, applies, refusalOf}
 use Rattle.es_loop.specs.Reading.{judged}
+use Rattle.es_loop.proofs.Pairs.{pair-marked}
 use Rattle.es_loop.proofs.Judged.{judged-refused, judged-accepted, Sound}
 
 -- the sizes and keys that the walk meets
@@ -60,21 +62,28 @@ module _ (reading : Reading) (bytes : List ℕ) where
   abbrev all : List Stream
   all = streamsOf reading bytes
 
+  abbrev pair : Bool
+  pair = pairOf (streamsAlone reading bytes)
+
+  -- the entries that stand in some bytes at the loop's end, with their marks
+  abbrev pub restOf : List ℕ → List Stream
+  restOf left = map (markedStream pair) (streamsAlone reading left)
+
   -- Where the walk stands after `count` entries, which end before the byte `at`.
   pub record Cursor (count at : ℕ) : Type 0 where
     pub within : at ≤ length bytes
     pub spaced : 5 * count ≤ at
     pub counted : count ≤ length all
-    pub rest : drop count all ≡ streamsOf reading (drop at bytes)
+    pub rest : drop count all ≡ restOf (drop at bytes)
 
   pub cursor-start : Cursor 0 0
   cursor-start = record { within = omega arith; spaced = omega arith; counted = omega arith; rest = refl }
 
   -- Another entry.
   module _ (count at : ℕ) (cursor : Cursor count at) (s : Stream) (size : ℕ)
-      (front : drop count all ≡ s ∷ streamsOf reading (drop (at + size) bytes)) where
-    entry : Next all count s (streamsOf reading (drop (at + size) bytes))
-    entry = next all count s (streamsOf reading (drop (at + size) bytes)) front
+      (front : drop count all ≡ s ∷ restOf (drop (at + size) bytes)) where
+    entry : Next all count s (restOf (drop (at + size) bytes))
+    entry = next all count s (restOf (drop (at + size) bytes)) front
 
     pub is-here : streamAt all count ≡ s
     is-here = entry .here noStream
@@ -94,7 +103,7 @@ module _ (reading : Reading) (bytes : List ℕ) where
   -- After the last entry the walk has met them all.
   pub counted-all : (count at : ℕ) → Cursor count at → length bytes ≤ at → count ≡ length all
   counted-all count at cursor done =
-      let nothing-left : drop count all ≡ [] = cursor .rest ∙ ap (streamsOf reading) (drop-of-length-le bytes done) in
+      let nothing-left : drop count all ≡ [] = cursor .rest ∙ ap restOf (drop-of-length-le bytes done) in
       let left : length all - count ≡ 0 = sym (length-drop count all) ∙ ap length nothing-left in
       omega (arith, cursor .counted)
 
@@ -106,20 +115,17 @@ module _ (reading : Reading) (bytes : List ℕ) where
     pub end-refused : fault .number < 10 → Refuses (refusalOf (fault .number) (fault .place)) ≡ judged all
     end-refused h = judged-refused all (fault .number) (fault .place) over-all h
 
-    pub end-accepted : 10 ≤ fault .number → Entries count ≡ judged all
-    end-accepted h =
+    pub end-accepted : (held : Bool) → held ≡ pair → 10 ≤ fault .number → Entries count held ≡ judged all
+    end-accepted held is-pair h =
         let ten : fault .number ≡ 10 = omega (arith, known .within) in
-        ap (λ (n : ℕ). Entries n) (counted-all count at cursor done)
+        ap (Entries count) (is-pair ∙ sym (pair-marked (streamsAlone reading bytes)))
+        ∙ ap (λ (n : ℕ). Entries n (pairOf all)) (counted-all count at cursor done)
         ∙ judged-accepted all (fault .place) (subst (λ (m : ℕ). Lowest (applies all) 10 (length all) m (fault .place)) ten over-all)
 
   -- What stands at the front of the bytes that are left.
-  module _ (left : List ℕ) (count at : ℕ) (is-left : left ≡ drop at bytes) (rest : drop count all ≡ streamsOf reading (drop at bytes))
-      (some-left : 0 < length left) where
+  module _ (left : List ℕ) (at : ℕ) (is-left : left ≡ drop at bytes) (some-left : 0 < length left) where
     pub left-length : length left ≡ length bytes - at
     left-length = ap length is-left ∙ length-drop at bytes
-
-    from-left : drop count all ≡ streamsOf reading left
-    from-left = rest ∙ ap (streamsOf reading) (sym is-left)
 
     size-cases : (b : Bool) → ltb (length left) 5 ≡ b → (sizeOf left ≤ length left → sizeOf left ≡ 5 + esInfoLength left)
         × (length left < sizeOf left → length left < 5 + esInfoLength left)
@@ -128,15 +134,14 @@ module _ (reading : Reading) (bytes : List ℕ) where
         rw p (λ l. absurd (omega arith), λ l. omega arith)
     size-cases false p = rw p (λ l. refl, λ l. l)
 
-    pub front-broken : length left < sizeOf left → drop count all ≡ noStream ∷ []
+    pub front-broken : length left < sizeOf left → streamsAlone reading left ≡ noStream ∷ []
     front-broken h =
-        from-left
-        ∙ ap (map (streamOf reading)) (cut-broken 5 esInfoLength (omega arith) left some-left ((size-cases (ltb (length left) 5) refl) .1 h))
+        ap (map (streamOf reading)) (cut-broken 5 esInfoLength (omega arith) left some-left ((size-cases (ltb (length left) 5) refl) .1 h))
 
     pub front-whole : sizeOf left ≤ length left
-        → drop count all
+        → streamsAlone reading left
         ≡ streamOf reading (whole (take 5 (take (sizeOf left) left)) (drop 5 (take (sizeOf left) left)))
-        ∷ streamsOf reading (drop (at + sizeOf left) bytes)
+        ∷ streamsAlone reading (drop (at + sizeOf left) bytes)
     front-whole h =
         let size : sizeOf left ≡ 5 + esInfoLength left = (size-cases (ltb (length left) 5) refl) .0 h in
         let n : ℕ = esInfoLength left in
@@ -145,15 +150,21 @@ module _ (reading : Reading) (bytes : List ℕ) where
         let info : drop 5 (take (5 + n) left) ≡ take n (drop 5 left) =
         ap (drop 5) (take-add 5 n left) ∙ drop-at (take 5 left) (take n (drop 5 left)) 5 (length-take-le 5 left (omega arith)) in
         let later : drop (at + (5 + n)) bytes ≡ drop (5 + n) left = sym (drop-drop (5 + n) at bytes) ∙ ap (drop (5 + n)) (sym is-left) in
-        from-left ∙ ap (map (streamOf reading)) (cut-piece 5 esInfoLength (omega arith) left fits)
+        ap (map (streamOf reading)) (cut-piece 5 esInfoLength (omega arith) left fits)
         ∙ rw (size, head, info, later)
 
     -- the same with the values that the code holds
-    pub front-of : (size : ℕ) → size ≡ sizeOf left → size ≤ length left → (s : Stream)
-        → s ≡ streamOf reading (whole (take 5 (take size left)) (drop 5 (take size left)))
-        → drop count all ≡ s ∷ streamsOf reading (drop (at + size) bytes)
-    front-of size is-size h s is-s =
-        front-whole (rw (← is-size) h) ∙ rw (is-s, is-size)
+    pub front-of : (size : ℕ) → size ≡ sizeOf left → size ≤ length left
+        → streamsAlone reading left
+        ≡ streamOf reading (whole (take 5 (take size left)) (drop 5 (take size left))) ∷ streamsAlone reading (drop (at + size) bytes)
+    front-of size is-size h = front-whole (rw (← is-size) h) ∙ rw is-size
+
+    -- and with the marks, where the entries before it were met
+    pub marked-front : (count : ℕ) → drop count all ≡ restOf (drop at bytes) → (size : ℕ) → size ≡ sizeOf left → size ≤ length left
+        → (held : Bool) → held ≡ pair → (s : Stream) → s ≡ markedStream held (streamOf reading (whole (take 5 (take size left)) (drop 5 (take size left))))
+        → drop count all ≡ s ∷ restOf (drop (at + size) bytes)
+    marked-front count rest size is-size h held is-pair s is-s =
+        rest ∙ ap restOf (sym is-left) ∙ ap (map (markedStream pair)) (front-of size is-size h) ∙ rw (is-s, is-pair)
 
   -- ONE TURN, with the values that the code holds: the bytes that are left, and the size of the entry at their front.
   abbrev pub leftAt : ℕ → List ℕ
@@ -169,18 +180,27 @@ module _ (reading : Reading) (bytes : List ℕ) where
     -- an entry that does not fit is the last
     pub no-entry : length (leftAt at) < size → (count < length all) × ((streamAt all count) .fits ≡ false)
     no-entry short =
-        let front = front-broken (leftAt at) count at (part-to-end bytes at) (cursor .rest) (omega (arith, left-long at)) (rw (← is-size) short) in
+        let broken-left = front-broken (leftAt at) at (part-to-end bytes at) (omega (arith, left-long at)) (rw (← is-size) short) in
+        let front : drop count all ≡ noStream ∷ [] =
+        cursor .rest ∙ ap restOf (sym (part-to-end bytes at)) ∙ ap (map (markedStream pair)) broken-left in
         let entry = next all count noStream [] front in
         (entry .inside, ap (λ (s : Stream). s .fits) (entry .here noStream))
 
     -- one that does
-    module _ (room : size ≤ length (leftAt at)) (s : Stream)
-        (is-s : s ≡ streamOf reading (whole (take 5 (take size (leftAt at))) (drop 5 (take size (leftAt at))))) where
-      front-here : drop count all ≡ s ∷ streamsOf reading (drop (at + size) bytes)
-      front-here = front-of (leftAt at) count at (part-to-end bytes at) (cursor .rest) (omega (arith, left-long at)) size is-size room s is-s
+    module _ (room : size ≤ length (leftAt at)) (held : Bool) (is-pair : held ≡ pair) (s : Stream)
+        (is-s : s ≡ markedStream held (streamOf reading (whole (take 5 (take size (leftAt at))) (drop 5 (take size (leftAt at)))))) where
+      front-here : drop count all ≡ s ∷ restOf (drop (at + size) bytes)
+      front-here =
+          marked-front (leftAt at) at (part-to-end bytes at) (omega (arith, left-long at)) count (cursor .rest) size is-size room held is-pair s is-s
 
       pub stands-here : streamAt all count ≡ s
       stands-here = is-here count at cursor s size front-here
+
+      -- what the rule gives an entry of this type
+      pub given-here : given held (s .«stream_type») ≡ givenAt all count
+      given-here =
+          ap (λ (b : Bool). given b (s .«stream_type»)) (is-pair ∙ sym (pair-marked (streamsAlone reading bytes)))
+          ∙ ap (λ (t : Stream). given (pairOf all) (t .«stream_type»)) (sym stands-here)
 
       pub inside-here : count < length all
       inside-here = is-inside count at cursor s size front-here
@@ -192,7 +212,7 @@ module _ (reading : Reading) (bytes : List ℕ) where
       next-here = cursor-next count at cursor s size front-here size-5 (omega (arith, left-long at))
 
   -- In a loop that was accepted every entry fits: a second walk meets no other.
-  module _ (total : ℕ) (accepted : Sound reading bytes total) (count at : ℕ) (cursor : Cursor count at) (more : at < length bytes)
+  module _ (total : ℕ) (held : Bool) (accepted : Sound reading bytes total held) (count at : ℕ) (cursor : Cursor count at) (more : at < length bytes)
       (size : ℕ) (is-size : size ≡ sizeOf (leftAt at)) where
     pub size-fits : size ≤ length (leftAt at)
     size-fits = go (decLe size (length (leftAt at)))

@@ -12,10 +12,11 @@ use Rattle.vocabulary.specs.declared.refusal.Refusal.the-variants.{LoopTooLong,
 use Rattle.descriptors.specs.declared.«record».Record.{Record}
 use Rattle.descriptors.specs.declared.looking.Seen.{Seen}
 use Rattle.descriptors.specs.Records.{isLayer, indexOf}
+use Rattle.implied.specs.Rule.{given}
 use Rattle.judging.specs.Judging.{sameIndex, typeNotAllowed, wrongFlags, wrongEmbedded}
 use Rattle.es_loop.specs.declared.entries.Stream.{Stream}
 use Rattle.es_loop.specs.declared.faults.Fault.{Fault}
-use Rattle.es_loop.specs.Entries.{noStream}
+use Rattle.es_loop.specs.Entries.{noStream, pairOf}
 
 module _ (streams : List Stream) where
   abbrev pub streamAt : ℕ → Stream
@@ -24,6 +25,9 @@ module _ (streams : List Stream) where
   abbrev pub pidAt : ℕ → ℕ
   pidAt k = (streamAt k) .pid
 
+  abbrev pub typeAt : ℕ → ℕ
+  typeAt k = (streamAt k) .«stream_type»
+
   abbrev pub recordAt : ℕ → Record
   recordAt k = (streamAt k) .seen .«record»
 
@@ -31,44 +35,51 @@ module _ (streams : List Stream) where
   abbrev pub repeatedPid : ℕ → Bool
   repeatedPid k = some (λ j. eqb (pidAt j) (pidAt k)) k
 
-  -- 8: 'a layer index held by an earlier layer'
+  -- 8: 'a layer index held by an earlier layer', 'also when an implied index meets a written one, at the later entry'
   abbrev pub repeatedIndex : ℕ → Bool
-  repeatedIndex k = some (λ j. sameIndex (recordAt j) (recordAt k)) k
+  repeatedIndex k = some (λ j. sameIndex (typeAt j) (recordAt j) (typeAt k) (recordAt k)) k
+
+  -- whether the rule of W-201 gives an entry the implied mark
+  abbrev pub givenAt : ℕ → Bool
+  givenAt k = given (pairOf streams) (typeAt k)
 
 -- where a record's mark stands in an array with one mark for each value of a byte, and one more for streams that are no layer
-abbrev pub slotOf : Record → ℕ
-slotOf r = cond (isLayer r) (indexOf r) 256
+abbrev pub slotOf : ℕ → Record → ℕ
+slotOf streamType r = cond (isLayer r) (indexOf streamType r) 256
 
--- the conditions that look at an entry's record, and at whether its layer index was held before: 6 to 9
-abbrev pub recordConditions : Bool → ℕ → Seen → List Bool
-recordConditions indexHeld streamType seen =
-    typeNotAllowed streamType (seen .«record»)
+-- the conditions that look at an entry's record, at whether the rule gives it the implied mark, and at whether its layer index was held before: 6 to 9
+abbrev pub recordConditions : Bool → Bool → ℕ → Seen → List Bool
+recordConditions isGiven indexHeld streamType seen =
+    typeNotAllowed isGiven streamType (seen .«record»)
     ∷ wrongFlags (seen .«record»)
     ∷ indexHeld
-    ∷ wrongEmbedded (seen .«record») (seen .embedded)
+    ∷ wrongEmbedded streamType (seen .«record») (seen .embedded)
     ∷ []
 
 -- The conditions at an entry by number, from 0 on: no refusal has number 0, and number 1 is judged before any entry is read; then 2, an
 -- entry or a descriptor that does not fit; 3, a PID that was seen before; 4, a wrong length; 5, a second record; and 6 to 9. The caller
--- says whether the entry's PID was seen before, and whether its layer index was held before.
-abbrev pub conditions : Bool → Bool → Stream → List Bool
-conditions pidSeen indexHeld s =
+-- says whether the rule gives the entry the implied mark, whether its PID was seen before, and whether its layer index was held before.
+abbrev pub conditions : Bool → Bool → Bool → Stream → List Bool
+conditions isGiven pidSeen indexHeld s =
     false
     ∷ false
     ∷ not (s .fits)
     ∷ pidSeen
     ∷ s .seen .«wrong_length»
     ∷ s .seen .«second_record»
-    ∷ recordConditions indexHeld (s .«stream_type») (s .seen)
+    ∷ recordConditions isGiven indexHeld (s .«stream_type») (s .seen)
 
 -- whether a number applies at an entry
 abbrev pub applies : List Stream → ℕ → ℕ → Bool
-applies streams number k = getD (conditions (repeatedPid streams k) (repeatedIndex streams k) (streamAt streams k)) number false
+applies streams number k =
+    getD (conditions (givenAt streams k) (repeatedPid streams k) (repeatedIndex streams k) (streamAt streams k)) number false
 
 -- the lowest number at a stream, with marks for the PIDs and the layer indices before it
-abbrev pub faultAt : List Bool → List Bool → Stream → ℕ
-faultAt pids indices s =
-    firstTrue (conditions (getD pids (s .pid) false) (isLayer (s .seen .«record») && getD indices (slotOf (s .seen .«record»)) false) s)
+abbrev pub faultAt : Bool → List Bool → List Bool → Stream → ℕ
+faultAt isGiven pids indices s =
+    firstTrue
+    (conditions isGiven (getD pids (s .pid) false)
+    (isLayer (s .seen .«record») && getD indices (slotOf (s .«stream_type») (s .seen .«record»)) false) s)
 
 -- the refusals by number, each with its place; 0 is no refusal's number
 abbrev pub refusals : List (ℕ → Refusal)

@@ -1,4 +1,5 @@
--- The entries of an elementary-stream loop: how its bytes are cut into entries, and what a reading sees of each.
+-- The entries of an elementary-stream loop: how its bytes are cut into entries, what a reading sees of each, and the marks of two views that have no
+-- hierarchy descriptor.
 -- Assumes nothing.
 use Prim.Native.Nat.{ℕ, _+_}
 use mathlib.Core.Bool.{Bool, false, cond}
@@ -15,7 +16,11 @@ use Rattle.descriptors.specs.declared.«record».Record.{Record}
 use Rattle.descriptors.specs.declared.«record».Record.the-variants.{NoRecord}
 use Rattle.descriptors.specs.declared.looking.Seen.{Seen}
 use Rattle.descriptors.specs.Extension.{noLayer}
+use Rattle.descriptors.specs.declared.looking.Named.{Named}
 use Rattle.descriptors.specs.Looking.{seenOf, nothingSeen}
+use Rattle.descriptors.specs.Finding.{namedBy}
+use Rattle.implied.specs.Rule.{Shown, impliedPair}
+use Rattle.implied.specs.Marking.{isDescribed, markedSeen}
 use Rattle.es_loop.specs.declared.entries.Entry.{Entry}
 use Rattle.es_loop.specs.declared.entries.Stream.{Stream}
 
@@ -55,9 +60,37 @@ streamOf reading (whole head info) =
     }
 streamOf reading broken = noStream
 
+-- the entries of a loop, in order, as each is seen alone
+abbrev pub streamsAlone : Reading → List ℕ → List Stream
+streamsAlone reading bytes = map (streamOf reading) (cut 5 esInfoLength bytes)
+
+-- W-201, a step over the whole list of entries, after their records are read and before they are judged: what the rule looks at of a stream, whether a loop
+-- has the two views without a hierarchy descriptor, and each stream with the mark that the rule gives it.
+abbrev pub shownOf : Stream → Shown
+shownOf s = record { type = s .«stream_type»; described = isDescribed (s .seen .«record») }
+
+abbrev pub pairOf : List Stream → Bool
+pairOf streams = impliedPair (map shownOf streams)
+
+abbrev pub markedStream : Bool → Stream → Stream
+markedStream pair s =
+    record {
+      fits = s .fits;
+      «stream_type» = s .«stream_type»;
+      pid = s .pid;
+      seen = markedSeen pair (s .«stream_type») (s .seen);
+    }
+
+abbrev pub markedStreams : List Stream → List Stream
+markedStreams streams = map (markedStream (pairOf streams)) streams
+
+-- a stream's record, and the set of the layers that it names
+abbrev pub namedOf : Stream → Named
+namedOf s = namedBy (s .«stream_type») (s .seen)
+
 -- the entries of a loop, in order
 abbrev pub streamsOf : Reading → List ℕ → List Stream
-streamsOf reading bytes = map (streamOf reading) (cut 5 esInfoLength bytes)
+streamsOf reading bytes = markedStreams (streamsAlone reading bytes)
 
 -- WHAT IS ANSWERED. Every entry in loop order: stream type, PID and its record, if any.
 abbrev pub entryOf : Stream → Entry

@@ -15,18 +15,19 @@ use Rattle.es_loop.specs.declared.verdict.Verdict.the-variants.{Entries,
 use Rattle.es_loop.specs.declared.reader.Outcome.{Outcome}
 use Rattle.es_loop.specs.declared.reader.Outcome.the-variants.{Accepted, Refused}
 use Rattle.es_loop.specs.declared.reader.LoopRead.{LoopRead}
-use Rattle.es_loop.specs.Entries.{streamsOf, entriesOf}
+use Rattle.es_loop.specs.Entries.{pairOf, streamsOf, entriesOf}
 use Rattle.es_loop.specs.Conditions.{applies, refusalOf}
 
--- THE VERDICT for the lowest number and its place, or past all numbers: then so many entries are accepted
-abbrev pub verdictAt : ℕ → ℕ → ℕ → Verdict
-verdictAt count number place = cond (ltb number 10) (Refuses (refusalOf number place)) (Entries count)
+-- THE VERDICT for the lowest number and its place, or past all numbers: then so many entries are accepted, and among them the two views without a hierarchy
+-- descriptor or not
+abbrev pub verdictAt : ℕ → Bool → ℕ → ℕ → Verdict
+verdictAt count pair number place = cond (ltb number 10) (Refuses (refusalOf number place)) (Entries count pair)
 
 -- 'Several at once: the lowest number that applies, at the earliest place.'
 abbrev pub judged : List Stream → Verdict
 judged streams =
     let number : ℕ = lowestNumber (applies streams) 10 (length streams) in
-    verdictAt (length streams) number (earliestPlace (applies streams) number (length streams))
+    verdictAt (length streams) (pairOf streams) number (earliestPlace (applies streams) number (length streams))
 
 -- 'loop longer than 1,008 bytes' ends the reading.
 abbrev pub verdictOf : Reading → List ℕ → Verdict
@@ -42,7 +43,7 @@ accepted streams = record { outcome = Accepted; count = length streams; entries 
 
 abbrev pub answerBy : List Stream → Verdict → LoopRead
 answerBy streams (Refuses r) = refusedWith r
-answerBy streams (Entries count) = accepted streams
+answerBy streams (Entries count pair) = accepted streams
 
 abbrev pub loopRead : Reading → List ℕ → LoopRead
 loopRead reading bytes = answerBy (streamsOf reading bytes) (verdictOf reading bytes)

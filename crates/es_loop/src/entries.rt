@@ -5,7 +5,7 @@ ghost use Prim.Native.Nat.{_+_, _*_, _%_, _≤_};
 ghost use lib.ListN.{length, take, drop};
 ghost use Rattle.framing.specs.Pieces.{whole};
 ghost use Rattle.descriptors.specs.Finding.{namedBy};
-ghost use Rattle.es_loop.specs.Entries.{sizeOf, streamOf, seenIn, entryOf, entriesOf};
+ghost use Rattle.es_loop.specs.Entries.{sizeOf, streamOf, markedStream, namedOf, seenIn, entryOf, entriesOf};
 use descriptors::Named;
 use descriptors::Record;
 use descriptors::Seen;
@@ -78,14 +78,18 @@ fn elementary_pid(high: u8, low: u8) -> u16
     (high as u16) % 32 * 256 + (low as u16)
 }
 
-// A whole entry.
-pub fn read_stream(reading: Reading, entry: &[u8]) -> Stream
+// A whole entry, with its mark where the loop has the two views without a hierarchy descriptor and it is one of them.
+pub fn read_stream(reading: Reading, pair: bool, entry: &[u8]) -> Stream
     requires { ⌜ 5 ≤ length (now entry) ⌝ }
-    ensures { λ r. ⌜ r ≡ streamOf reading (whole (take 5 (now (entry .entry))) (drop 5 (now (entry .entry)))) ⌝ }
+    ensures { λ r. ⌜ r ≡ markedStream pair (streamOf reading (whole (take 5 (now (entry .entry))) (drop 5 (now (entry .entry))))) ⌝ }
 {
     let stream_type = entry[0];
     let pid = elementary_pid(entry[1], entry[2]);
-    let seen = look_into(reading, stream_type, &entry[5..]);
+    let seen = implied::mark_seen(
+        pair,
+        stream_type,
+        look_into(reading, stream_type, &entry[5..]),
+    );
     Stream {
         fits: seen.fits,
         stream_type,
@@ -94,15 +98,27 @@ pub fn read_stream(reading: Reading, entry: &[u8]) -> Stream
     }
 }
 
-// What makes a whole entry a layer, if anything does, and the set of the layers that it names. Nothing else is taken from it.
-pub fn read_layer(reading: Reading, entry: &[u8]) -> Named
-    requires { ⌜ 5 ≤ length (now entry) ⌝ }
-    ensures { λ r. ⌜ r ≡ namedBy (streamOf reading (whole (take 5 (now (entry .entry))) (drop 5 (now (entry .entry)))) .seen) ⌝ }
+// The first record of a stream, and the set of the layers that it names. Nothing else is taken from its descriptors.
+fn name_in(reading: Reading, stream_type: u8, info: &[u8]) -> Named
+    ensures { λ r. ⌜ r ≡ namedBy «stream_type» (seenIn reading «stream_type» (now (info .entry))) ⌝ }
 {
-    if vocabulary::knows(reading, entry[0]) {
-        return descriptors::name_layers(reading, &entry[5..]);
+    if vocabulary::knows(reading, stream_type) {
+        return descriptors::name_layers(reading, info);
     }
     descriptors::nothing_named()
+}
+
+// What makes a whole entry a layer, if anything does, and the set of the layers that it names.
+pub fn read_layer(reading: Reading, pair: bool, entry: &[u8]) -> Named
+    requires { ⌜ 5 ≤ length (now entry) ⌝ }
+    ensures { λ r. ⌜ r ≡ namedOf (markedStream pair (streamOf reading (whole (take 5 (now (entry .entry))) (drop 5 (now (entry .entry)))))) ⌝ }
+{
+    let stream_type = entry[0];
+    implied::mark_named(
+        pair,
+        stream_type,
+        name_in(reading, stream_type, &entry[5..]),
+    )
 }
 
 // What is answered of an entry.

@@ -19,10 +19,10 @@ pub struct Fault {
     pub place: usize,
 }
 
-// The lowest number, from 2 to 9, that applies at an entry, or 10 where none does. The caller says whether an earlier entry has its
-// PID, and whether an earlier layer holds its index.
-pub fn lowest_fault(pid_seen: bool, index_held: bool, stream: Stream) -> u8
-    ensures { λ r. ⌜ r ≡ firstTrue (conditions «pid_seen» «index_held» stream) ⌝ }
+// The lowest number, from 2 to 9, that applies at an entry, or 10 where none does. The caller says whether it is given the implied mark,
+// whether an earlier entry has its PID, and whether an earlier layer holds its index.
+pub fn lowest_fault(given: bool, pid_seen: bool, index_held: bool, stream: Stream) -> u8
+    ensures { λ r. ⌜ r ≡ firstTrue (conditions given «pid_seen» «index_held» stream) ⌝ }
 {
     let seen = stream.seen;
     if !stream.fits {
@@ -37,16 +37,16 @@ pub fn lowest_fault(pid_seen: bool, index_held: bool, stream: Stream) -> u8
     if seen.second_record {
         return 5;
     }
-    judged_fault(index_held, stream.stream_type, seen)
+    judged_fault(given, index_held, stream.stream_type, seen)
 }
 
 // The same of what is judged on the record alone, and of its index: 6 to 9.
-fn judged_fault(index_held: bool, stream_type: u8, seen: Seen) -> u8
-    ensures { λ r. ⌜ r ≡ 6 + firstTrue (recordConditions «index_held» «stream_type» seen) ⌝ }
+fn judged_fault(given: bool, index_held: bool, stream_type: u8, seen: Seen) -> u8
+    ensures { λ r. ⌜ r ≡ 6 + firstTrue (recordConditions given «index_held» «stream_type» seen) ⌝ }
 {
     let record = seen.record;
     let embedded = seen.embedded;
-    if judging::type_not_allowed(stream_type, record) {
+    if judging::type_not_allowed(given, stream_type, record) {
         return 6;
     }
     if judging::wrong_flags(record) {
@@ -62,10 +62,10 @@ fn judged_fault(index_held: bool, stream_type: u8, seen: Seen) -> u8
 }
 
 // Where the mark of a record's index stands: at the index, and past all of them for a stream that is no layer.
-pub fn slot_of(record: Record) -> usize
-    ensures { λ r. ⌜ (r ≡ slotOf «record») × (indexOf «record» < 256) ⌝ }
+pub fn slot_of(stream_type: u8, record: Record) -> usize
+    ensures { λ r. ⌜ (r ≡ slotOf «stream_type» «record») × (indexOf «stream_type» «record» < 256) ⌝ }
 {
-    let index = descriptors::layer_index(record);
+    let index = descriptors::layer_index(stream_type, record);
     if descriptors::is_layer(record) {
         return wide(index.0);
     }

@@ -4,6 +4,7 @@ mod entries;
 mod faults;
 mod reader;
 mod verdict;
+mod views;
 
 pub use entries::Entry;
 pub use entries::MOST_BYTES;
@@ -27,3 +28,4 @@ pub use verdict::judge_next;
 pub use verdict::no_fault;
 pub use verdict::no_indices;
 pub use verdict::no_pids;
+pub use views::implied_pair;

@@ -37,8 +37,8 @@ fn refused(refusal: Refusal) -> LoopRead
 }
 
 // The entries of a loop that was judged and accepted.
-fn entries_in(reading: Reading, bytes: &[u8]) -> [Entry; MOST_ENTRIES]
-    requires { ⌜ verdictOf reading (now bytes) ≡ Verdict.Entries (length (streamsOf reading (now bytes))) ⌝ }
+fn entries_in(reading: Reading, pair: bool, bytes: &[u8]) -> [Entry; MOST_ENTRIES]
+    requires { ⌜ verdictOf reading (now bytes) ≡ Verdict.Entries (length (streamsOf reading (now bytes))) pair ⌝ }
     ensures { λ r. ⌜ r ≡ entriesOf (streamsOf reading (now (bytes .entry))) ⌝ }
 {
     let mut entries = blank_entries();
@@ -47,7 +47,7 @@ fn entries_in(reading: Reading, bytes: &[u8]) -> [Entry; MOST_ENTRIES]
     while at < bytes.len() {
         let left = &bytes[at..];
         let size = entry_size(left);
-        entries[count] = entry_of(read_stream(reading, &left[..size]));
+        entries[count] = entry_of(read_stream(reading, pair, &left[..size]));
         count += 1;
         at += size;
     }
@@ -60,10 +60,10 @@ pub fn read_loop(reading: Reading, bytes: &[u8]) -> LoopRead
 {
     match judge(reading, bytes) {
         Verdict::Refused(refusal) => refused(refusal),
-        Verdict::Entries(count) => LoopRead {
+        Verdict::Entries { count, pair } => LoopRead {
             outcome: Outcome::Accepted,
             count,
-            entries: entries_in(reading, bytes),
+            entries: entries_in(reading, pair, bytes),
         },
     }
 }

@@ -5,7 +5,7 @@ ghost use mathlib.Core.Bool.{true, false};
 ghost use Prim.Native.Nat.{_≤_, _<_};
 ghost use lib.ListN.{length, replicate, set};
 ghost use Rattle.descriptors.specs.Records.{indexOf};
-ghost use Rattle.es_loop.specs.Entries.{streamsOf};
+ghost use Rattle.es_loop.specs.Entries.{pairOf, streamsAlone, streamsOf};
 ghost use Rattle.es_loop.specs.Conditions.{slotOf, faultAt, lowerOf};
 ghost use Rattle.es_loop.specs.Reading.{judged, verdictOf};
 use super::entries::MOST_BYTES;
@@ -18,12 +18,13 @@ use super::faults::lower;
 use super::faults::lowest_fault;
 use super::faults::refusal_of;
 use super::faults::slot_of;
+use super::views::implied_pair;
 use vocabulary::Reading;
 use vocabulary::Refusal;
 
-// How many entries an accepted loop has, or the refusal.
+// How many entries an accepted loop has, and whether it has the two views without a hierarchy descriptor; or the refusal.
 pub enum Verdict {
-    Entries(usize),
+    Entries { count: usize, pair: bool },
     Refused(Refusal),
 }
 
@@ -51,32 +52,33 @@ pub fn no_fault() -> Fault
     }
 }
 
-// One stream more: the lowest fault so far or this stream's, and the marks with its PID and its layer index.
+// One stream more, and whether it is given the implied mark: the lowest fault so far or this stream's, and the marks with its PID and its layer index.
 pub fn judge_next(
     pids: &mut [bool; 8192],
     indices: &mut [bool; 257],
     so_far: Fault,
+    given: bool,
     stream: Stream,
     place: usize,
 ) -> Fault
     requires { ⌜ stream .pid < 8192 ⌝ }
-    ensures { λ r. ⌜ (r ≡ lowerOf «so_far» (faultAt (now (pids .entry)) (now (indices .entry)) stream) place) × (indexOf (stream .seen .«record») < 256) ⌝ }
-    ensures { λ r. ⌜ (now (pids .exit) ≡ set (now (pids .entry)) (stream .pid) true) × (now (indices .exit) ≡ set (now (indices .entry)) (slotOf (stream .seen .«record»)) true) ⌝ }
+    ensures { λ r. ⌜ (r ≡ lowerOf «so_far» (faultAt given (now (pids .entry)) (now (indices .entry)) stream) place) × (indexOf (stream .«stream_type») (stream .seen .«record») < 256) ⌝ }
+    ensures { λ r. ⌜ (now (pids .exit) ≡ set (now (pids .entry)) (stream .pid) true) × (now (indices .exit) ≡ set (now (indices .entry)) (slotOf (stream .«stream_type») (stream .seen .«record»)) true) ⌝ }
 {
     let seen = stream.seen;
     let record = seen.record;
     let pid = stream.pid as usize;
-    let slot = slot_of(record);
+    let slot = slot_of(stream.stream_type, record);
     let index_held = descriptors::is_layer(record) & indices[slot];
-    let number = lowest_fault(pids[pid], index_held, stream);
+    let number = lowest_fault(given, pids[pid], index_held, stream);
     pids[pid] = true;
     indices[slot] = true;
     lower(so_far, number, place)
 }
 
-// A loop of at most 1,008 bytes.
-fn judge_entries(reading: Reading, bytes: &[u8]) -> Verdict
-    requires { ⌜ length (now bytes) ≤ 1008 ⌝ }
+// A loop of at most 1,008 bytes, by whether it has the two views.
+fn judge_entries(reading: Reading, pair: bool, bytes: &[u8]) -> Verdict
+    requires { ⌜ (length (now bytes) ≤ 1008) × (pair ≡ pairOf (streamsAlone reading (now bytes))) ⌝ }
     ensures { λ r. ⌜ r ≡ judged (streamsOf reading (now (bytes .entry))) ⌝ }
 {
     let mut pids = no_pids();
@@ -90,18 +92,19 @@ fn judge_entries(reading: Reading, bytes: &[u8]) -> Verdict
         if left.len() < size {
             return Verdict::Refused(Refusal::DoesNotFit(count));
         }
-        let stream = read_stream(reading, &left[..size]);
+        let stream = read_stream(reading, pair, &left[..size]);
         if !stream.fits {
             return Verdict::Refused(Refusal::DoesNotFit(count));
         }
-        fault = judge_next(&mut pids, &mut indices, fault, stream, count);
+        let given = implied::gives(pair, stream.stream_type);
+        fault = judge_next(&mut pids, &mut indices, fault, given, stream, count);
         count += 1;
         at += size;
     }
     if fault.number < NO_FAULT {
         return Verdict::Refused(refusal_of(fault.number, fault.place));
     }
-    Verdict::Entries(count)
+    Verdict::Entries { count, pair }
 }
 
 // The loop of a program map section, any bytes at all.
@@ -111,5 +114,5 @@ pub fn judge(reading: Reading, bytes: &[u8]) -> Verdict
     if MOST_BYTES < bytes.len() {
         return Verdict::Refused(Refusal::LoopTooLong);
     }
-    judge_entries(reading, bytes)
+    judge_entries(reading, implied_pair(reading, bytes), bytes)
 }

@@ -1,68 +1,57 @@
--- `es_loop::read_layer` meets its contract: the branch says whether the reading knows the stream type, which is the first byte.
+-- `es_loop::read_layer` meets its contract: the stream type is the first byte, and the mark comes with its names.
 -- Assumes nothing.
 use Prim.Native.Nat.{ℕ}
-use mathlib.Core.Path.{_≡_, _∙_, ap, sym}
-use mathlib.Core.Bool.{Bool, cond}
+use mathlib.Core.Path.{_≡_, _∙_, ap}
 use mathlib.Core.List.{List}
 use native.Mathlib.Omega.{arith}
-use lib.ListN.{drop}
+use lib.ListN.{getD, drop}
 use Rattle.combinators.specs.Lists.{part-to-end}
-use Rattle.descriptors.specs.Looking.{seenOf, nothingSeen}
 use Rattle.descriptors.specs.Finding.{namedBy}
+use Rattle.implied.specs.Marking.{markedNamed}
+use Rattle.implied.proofs.Marks.{named-marked}
 use Rattle.es_loop.specs.declared.entries.Stream.{Stream}
+use Rattle.es_loop.specs.Entries.{seenIn, markedStream, namedOf}
 use Rattle.es_loop.proofs.Heads.{stream-bytes}
 use borrow.Author.Needs.{needs}
 use Rattle.es_loop.proofs.entries.read_layer.Statement.{statement}
 use Rattle.es_loop.proofs.entries.read_layer.Tie as tie
 
-shared-slice-read-knows : tie.Need-shared-slice-read-knows
-shared-slice-read-knows c = search needs
+shared-slice-read-stream-type : tie.Need-shared-slice-read-stream-type
+shared-slice-read-stream-type c = search needs
 
-knows-requires : tie.Need-knows-requires
-knows-requires c κs = search needs
+sub-name-in : tie.Need-sub-name-in
+sub-name-in c = search needs
 
-sub-name-layers : tie.Need-sub-name-layers
-sub-name-layers c = search needs
+part-name-in-start : tie.Need-part-name-in-start
+part-name-in-start c = search needs
 
-part-name-layers-start : tie.Need-part-name-layers-start
-part-name-layers-start c = search needs
+part-name-in-end : tie.Need-part-name-in-end
+part-name-in-end c = search needs
 
-part-name-layers-end : tie.Need-part-name-layers-end
-part-name-layers-end c = search needs
+name-in-requires : tie.Need-name-in-requires
+name-in-requires c κs = search needs
 
-name-layers-requires : tie.Need-name-layers-requires
-name-layers-requires c κs = search needs
+mark-named-requires : tie.Need-mark-named-requires
+mark-named-requires c κs = search needs
 
 returns : tie.Need-returns
 returns c =
-    let a = c .before .before .before .before .before .before .args in
-    let entry = a .entry .now in
-    c .name-layers .ensures
-    ∙ ap (λ (l : List ℕ). namedBy (seenOf (a .reading) l)) (part-to-end entry 5)
-    ∙ sym (ap (λ (b : Bool). namedBy (cond b (seenOf (a .reading) (drop 5 entry)) nothingSeen)) (sym (c .before .before .before .knows .ensures) ∙ c .before .before .if1 .taken))
-    ∙ ap (λ (s : Stream). namedBy (s .seen)) (stream-bytes (a .reading) entry (λ i. omega (arith, c .before .before .before .before .shared-slice-known2 .given i)))
-
-nothing-named-requires : tie.Need-nothing-named-requires
-nothing-named-requires c κs = search needs
-
-returns-2 : tie.Need-returns-2
-returns-2 c =
     let a = c .before .before .before .before .before .args in
     let entry = a .entry .now in
-    c .nothing-named .ensures
-    ∙ sym (ap (λ (b : Bool). namedBy (cond b (seenOf (a .reading) (drop 5 entry)) nothingSeen)) (sym (c .before .before .knows .ensures) ∙ c .before .if1 .left))
-    ∙ ap (λ (s : Stream). namedBy (s .seen)) (stream-bytes (a .reading) entry (λ i. omega (arith, c .before .before .before .shared-slice-known2 .given i)))
+    let t : ℕ = getD entry 0 0 in
+    c .mark-named .ensures
+    ∙ ap (markedNamed (a .pair) t) (c .before .name-in .ensures ∙ ap (λ (l : List ℕ). namedBy t (seenIn (a .reading) t l)) (part-to-end entry 5))
+    ∙ named-marked (a .pair) t (seenIn (a .reading) t (drop 5 entry))
+    ∙ ap (λ (s : Stream). namedOf (markedStream (a .pair) s)) (stream-bytes (a .reading) entry (λ i. omega (arith, c .before .before .before .shared-slice-known2 .given i)))
 
 pub read-layer-spec : {M : Type 1} → statement M
 read-layer-spec =
     tie.close
     (tie.spec
-    shared-slice-read-knows
-    knows-requires
-    sub-name-layers
-    part-name-layers-start
-    part-name-layers-end
-    name-layers-requires
-    returns
-    nothing-named-requires
-    returns-2)
+    shared-slice-read-stream-type
+    sub-name-in
+    part-name-in-start
+    part-name-in-end
+    name-in-requires
+    mark-named-requires
+    returns)

@@ -1,7 +1,9 @@
 -- `es_loop::read_stream` meets its contract: at bytes, the head's values are those that the code takes.
 -- Assumes nothing.
+use mathlib.Core.Path.{ap}
 use native.Mathlib.Omega.{arith}
 use Rattle.combinators.specs.Lists.{part-to-end}
+use Rattle.es_loop.specs.Entries.{markedStream}
 use Rattle.es_loop.proofs.Heads.{stream-bytes}
 use borrow.Author.Needs.{needs}
 use Rattle.es_loop.proofs.entries.read_stream.Statement.{statement}
@@ -31,12 +33,15 @@ part-look-into-end c = search needs
 look-into-requires : tie.Need-look-into-requires
 look-into-requires c κs = search needs
 
+mark-seen-requires : tie.Need-mark-seen-requires
+mark-seen-requires c κs = search needs
+
 returns : tie.Need-returns
 returns c =
-    let a = c .before .before .before .before .before .before .before .args in
+    let a = c .before .before .before .before .before .before .before .before .args in
     let entry = a .entry .now in
-    rw (c .look-into .ensures, part-to-end entry 5, c .before .before .elementary-pid .ensures)
-    (stream-bytes (a .reading) entry (λ i. omega (arith, c .before .before .before .shared-slice-known4 .given i)))
+    rw (c .mark-seen .ensures, c .before .look-into .ensures, part-to-end entry 5, c .before .before .before .elementary-pid .ensures)
+    (ap (markedStream (a .pair)) (stream-bytes (a .reading) entry (λ i. omega (arith, c .before .before .before .before .shared-slice-known4 .given i))))
 
 pub read-stream-spec : {M : Type 1} → statement M
 read-stream-spec =
@@ -50,4 +55,5 @@ read-stream-spec =
     part-look-into-start
     part-look-into-end
     look-into-requires
+    mark-seen-requires
     returns)

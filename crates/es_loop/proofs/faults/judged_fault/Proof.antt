@@ -24,10 +24,14 @@ wrong-embedded-requires : tie.Need-wrong-embedded-requires
 wrong-embedded-requires c κs = search needs
 
 returns-4 : tie.Need-returns-4
-returns-4 c = rw (sym (c .before .before .before .before .before .before .type-not-allowed .ensures) ∙ c .before .before .before .before .before .if1 .left, sym (c .before .before .before .before .wrong-flags .ensures) ∙ c .before .before .before .if2 .left, c .before .before .if3 .left, sym (c .before .wrong-embedded .ensures) ∙ c .if4 .taken)
+returns-4 c =
+    let t = c .before .before .before .before .before .before .before .before .args .stream-type in
+    rw (sym (c .before .before .before .before .before .before .type-not-allowed .ensures) ∙ c .before .before .before .before .before .if1 .left, sym (c .before .before .before .before .wrong-flags .ensures) ∙ c .before .before .before .if2 .left, c .before .before .if3 .left, sym (c .before .wrong-embedded .ensures t) ∙ c .if4 .taken)
 
 returns-5 : tie.Need-returns-5
-returns-5 c = rw (sym (c .before .before .before .before .before .before .type-not-allowed .ensures) ∙ c .before .before .before .before .before .if1 .left, sym (c .before .before .before .before .wrong-flags .ensures) ∙ c .before .before .before .if2 .left, c .before .before .if3 .left, sym (c .before .wrong-embedded .ensures) ∙ c .if4 .left)
+returns-5 c =
+    let t = c .before .before .before .before .before .before .before .before .args .stream-type in
+    rw (sym (c .before .before .before .before .before .before .type-not-allowed .ensures) ∙ c .before .before .before .before .before .if1 .left, sym (c .before .before .before .before .wrong-flags .ensures) ∙ c .before .before .before .if2 .left, c .before .before .if3 .left, sym (c .before .wrong-embedded .ensures t) ∙ c .if4 .left)
 
 pub judged-fault-spec : {M : Type 1} → statement M
 judged-fault-spec =

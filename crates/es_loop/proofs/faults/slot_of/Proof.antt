@@ -19,14 +19,18 @@ wide-requires c κs = search needs
 
 returns : tie.Need-returns
 returns c =
-    let r = c .before .before .before .before .args .«record» in
-    let index : c .before .before .before .layer-index .result .0 ≡ indexOf r = ap plain (c .before .before .before .layer-index .ensures) in
-    (c .wide .ensures ∙ index ∙ sym (ap (λ (b : Bool). cond b (indexOf r) 256) (sym (c .before .before .is-layer .ensures) ∙ c .before .if1 .taken)), omega (arith, c .before .before .before .layer-index .ok .1 .1 .0 .1, index))
+    let a = c .before .before .before .before .args in
+    let t = a .stream-type in
+    let r = a .«record» in
+    let index : c .before .before .before .layer-index .result .0 ≡ indexOf t r = ap plain (c .before .before .before .layer-index .ensures) in
+    (c .wide .ensures ∙ index ∙ sym (ap (λ (b : Bool). cond b (indexOf t r) 256) (sym (c .before .before .is-layer .ensures) ∙ c .before .if1 .taken)), omega (arith, c .before .before .before .layer-index .ok .1 .1 .0 .1, index))
 
 returns-2 : tie.Need-returns-2
 returns-2 c =
-    let r = c .before .before .before .args .«record» in (
-      sym (ap (λ (b : Bool). cond b (indexOf r) 256) (sym (c .before .is-layer .ensures) ∙ c .if1 .left)),
+    let a = c .before .before .before .args in
+    let t = a .stream-type in
+    let r = a .«record» in (
+      sym (ap (λ (b : Bool). cond b (indexOf t r) 256) (sym (c .before .is-layer .ensures) ∙ c .if1 .left)),
       omega (arith, c .before .before .layer-index .ok .1 .1 .0 .1, ap plain (c .before .before .layer-index .ensures)),
     )
 

@@ -17,10 +17,10 @@ use Rattle.es_loop.proofs.reader.entries_in.Statement.{statement}
 use Rattle.es_loop.proofs.reader.entries_in.Tie as tie
 
 abbrev Inv-loop : tie.InvT-loop
-Inv-loop reading bytes entries₀ count₀ at₀ entries count at = Cursor reading bytes count at × (entries ≡ entriesOf (take count (streamsOf reading bytes)))
+Inv-loop reading pair bytes entries₀ count₀ at₀ entries count at = Cursor reading bytes count at × (entries ≡ entriesOf (take count (streamsOf reading bytes)))
 
 abbrev μ-loop : tie.MeasureT-loop
-μ-loop reading bytes entries₀ count₀ at₀ entries count at = length bytes - at
+μ-loop reading pair bytes entries₀ count₀ at₀ entries count at = length bytes - at
 
 blank-entries-requires : tie.Need-blank-entries-requires Inv-loop μ-loop
 blank-entries-requires c κs = search needs
@@ -53,11 +53,11 @@ slice-aggregate-read-stream c =
     let size = c .before .entry-size .result in
     let is-size = c .before .entry-size .ensures in
     let long = left-long (a .reading) bytes (loop .at) in
-    let accepted = sound (a .reading) bytes _ (start .pre) in
+    let accepted = sound (a .reading) bytes _ (a .pair) (start .pre) in
     let short = accepted .short in
     let spaced = cursor .spaced in
     let large : 5 ≤ size = size-5 (a .reading) bytes (loop .count) (loop .at) cursor more size is-size in
-    let room : size ≤ length (leftAt (a .reading) bytes (loop .at)) = size-fits (a .reading) bytes _ accepted (loop .count) (loop .at) cursor more size is-size in
+    let room : size ≤ length (leftAt (a .reading) bytes (loop .at)) = size-fits (a .reading) bytes _ (a .pair) accepted (loop .count) (loop .at) cursor more size is-size in
     sym (length-take-le size (leftAt (a .reading) bytes (loop .at)) room)
 
 read-stream-requires : tie.Need-read-stream-requires Inv-loop μ-loop
@@ -71,11 +71,11 @@ read-stream-requires c κs =
     let size = c .before .entry-size .result in
     let is-size = c .before .entry-size .ensures in
     let long = left-long (a .reading) bytes (loop .at) in
-    let accepted = sound (a .reading) bytes _ (start .pre) in
+    let accepted = sound (a .reading) bytes _ (a .pair) (start .pre) in
     let short = accepted .short in
     let spaced = cursor .spaced in
     let large : 5 ≤ size = size-5 (a .reading) bytes (loop .count) (loop .at) cursor more size is-size in
-    let room : size ≤ length (leftAt (a .reading) bytes (loop .at)) = size-fits (a .reading) bytes _ accepted (loop .count) (loop .at) cursor more size is-size in
+    let room : size ≤ length (leftAt (a .reading) bytes (loop .at)) = size-fits (a .reading) bytes _ (a .pair) accepted (loop .count) (loop .at) cursor more size is-size in
     rw (length-take-le size (leftAt (a .reading) bytes (loop .at)) room) large
 
 entry-of-requires : tie.Need-entry-of-requires Inv-loop μ-loop
@@ -92,11 +92,11 @@ mul-entries c =
     let size = c .before .before .before .entry-size .result in
     let is-size = c .before .before .before .entry-size .ensures in
     let long = left-long (a .reading) bytes (loop .at) in
-    let accepted = sound (a .reading) bytes _ (start .pre) in
+    let accepted = sound (a .reading) bytes _ (a .pair) (start .pre) in
     let short = accepted .short in
     let spaced = cursor .spaced in
     let large : 5 ≤ size = size-5 (a .reading) bytes (loop .count) (loop .at) cursor more size is-size in
-    let room : size ≤ length (leftAt (a .reading) bytes (loop .at)) = size-fits (a .reading) bytes _ accepted (loop .count) (loop .at) cursor more size is-size in
+    let room : size ≤ length (leftAt (a .reading) bytes (loop .at)) = size-fits (a .reading) bytes _ (a .pair) accepted (loop .count) (loop .at) cursor more size is-size in
     omega arith
 
 array-set-from-entries : tie.Need-array-set-from-entries Inv-loop μ-loop
@@ -110,11 +110,11 @@ array-set-from-entries c =
     let size = c .before .before .before .entry-size .result in
     let is-size = c .before .before .before .entry-size .ensures in
     let long = left-long (a .reading) bytes (loop .at) in
-    let accepted = sound (a .reading) bytes _ (start .pre) in
+    let accepted = sound (a .reading) bytes _ (a .pair) (start .pre) in
     let short = accepted .short in
     let spaced = cursor .spaced in
     let large : 5 ≤ size = size-5 (a .reading) bytes (loop .count) (loop .at) cursor more size is-size in
-    let room : size ≤ length (leftAt (a .reading) bytes (loop .at)) = size-fits (a .reading) bytes _ accepted (loop .count) (loop .at) cursor more size is-size in
+    let room : size ≤ length (leftAt (a .reading) bytes (loop .at)) = size-fits (a .reading) bytes _ (a .pair) accepted (loop .count) (loop .at) cursor more size is-size in
     omega arith
 
 add-count : tie.Need-add-count Inv-loop μ-loop
@@ -128,11 +128,11 @@ add-count c =
     let size = c .before .before .before .entry-size .result in
     let is-size = c .before .before .before .entry-size .ensures in
     let long = left-long (a .reading) bytes (loop .at) in
-    let accepted = sound (a .reading) bytes _ (start .pre) in
+    let accepted = sound (a .reading) bytes _ (a .pair) (start .pre) in
     let short = accepted .short in
     let spaced = cursor .spaced in
     let large : 5 ≤ size = size-5 (a .reading) bytes (loop .count) (loop .at) cursor more size is-size in
-    let room : size ≤ length (leftAt (a .reading) bytes (loop .at)) = size-fits (a .reading) bytes _ accepted (loop .count) (loop .at) cursor more size is-size in
+    let room : size ≤ length (leftAt (a .reading) bytes (loop .at)) = size-fits (a .reading) bytes _ (a .pair) accepted (loop .count) (loop .at) cursor more size is-size in
     omega arith
 
 add-at : tie.Need-add-at Inv-loop μ-loop
@@ -146,11 +146,11 @@ add-at c =
     let size = c .before .before .before .entry-size .result in
     let is-size = c .before .before .before .entry-size .ensures in
     let long = left-long (a .reading) bytes (loop .at) in
-    let accepted = sound (a .reading) bytes _ (start .pre) in
+    let accepted = sound (a .reading) bytes _ (a .pair) (start .pre) in
     let short = accepted .short in
     let spaced = cursor .spaced in
     let large : 5 ≤ size = size-5 (a .reading) bytes (loop .count) (loop .at) cursor more size is-size in
-    let room : size ≤ length (leftAt (a .reading) bytes (loop .at)) = size-fits (a .reading) bytes _ accepted (loop .count) (loop .at) cursor more size is-size in
+    let room : size ≤ length (leftAt (a .reading) bytes (loop .at)) = size-fits (a .reading) bytes _ (a .pair) accepted (loop .count) (loop .at) cursor more size is-size in
     omega arith
 
 loop-less : tie.Need-loop-less Inv-loop μ-loop
@@ -164,11 +164,11 @@ loop-less c =
     let size = c .before .before .before .entry-size .result in
     let is-size = c .before .before .before .entry-size .ensures in
     let long = left-long (a .reading) bytes (loop .at) in
-    let accepted = sound (a .reading) bytes _ (start .pre) in
+    let accepted = sound (a .reading) bytes _ (a .pair) (start .pre) in
     let short = accepted .short in
     let spaced = cursor .spaced in
     let large : 5 ≤ size = size-5 (a .reading) bytes (loop .count) (loop .at) cursor more size is-size in
-    let room : size ≤ length (leftAt (a .reading) bytes (loop .at)) = size-fits (a .reading) bytes _ accepted (loop .count) (loop .at) cursor more size is-size in
+    let room : size ≤ length (leftAt (a .reading) bytes (loop .at)) = size-fits (a .reading) bytes _ (a .pair) accepted (loop .count) (loop .at) cursor more size is-size in
     omega arith
 
 loop-again : tie.Need-loop-again Inv-loop μ-loop
@@ -182,19 +182,19 @@ loop-again c =
     let size = c .before .before .before .entry-size .result in
     let is-size = c .before .before .before .entry-size .ensures in
     let long = left-long (a .reading) bytes (loop .at) in
-    let accepted = sound (a .reading) bytes _ (start .pre) in
+    let accepted = sound (a .reading) bytes _ (a .pair) (start .pre) in
     let short = accepted .short in
     let spaced = cursor .spaced in
     let large : 5 ≤ size = size-5 (a .reading) bytes (loop .count) (loop .at) cursor more size is-size in
-    let room : size ≤ length (leftAt (a .reading) bytes (loop .at)) = size-fits (a .reading) bytes _ accepted (loop .count) (loop .at) cursor more size is-size in
+    let room : size ≤ length (leftAt (a .reading) bytes (loop .at)) = size-fits (a .reading) bytes _ (a .pair) accepted (loop .count) (loop .at) cursor more size is-size in
     let stream = c .before .read-stream .result in
     let is-stream = c .before .read-stream .ensures in
     let all : List Stream = streamsOf (a .reading) bytes in
-    let here = stands-here (a .reading) bytes (loop .count) (loop .at) cursor more size is-size room stream is-stream in (
-      next-here (a .reading) bytes (loop .count) (loop .at) cursor more size is-size room stream is-stream,
+    let here = stands-here (a .reading) bytes (loop .count) (loop .at) cursor more size is-size room (a .pair) (accepted .paired) stream is-stream in (
+      next-here (a .reading) bytes (loop .count) (loop .at) cursor more size is-size room (a .pair) (accepted .paired) stream is-stream,
       ap (λ (l : List Entry). set l (loop .count) (c .entry-of .result)) (loop .inv .1)
           ∙ ap (λ (e : Entry). set (entriesOf (take (loop .count) all)) (loop .count) e) (c .entry-of .ensures ∙ ap entryOf (sym here))
-          ∙ store-map 201 blankEntry entryOf all (loop .count) noStream (inside-here (a .reading) bytes (loop .count) (loop .at) cursor more size is-size room stream is-stream) (omega arith),
+          ∙ store-map 201 blankEntry entryOf all (loop .count) noStream (inside-here (a .reading) bytes (loop .count) (loop .at) cursor more size is-size room (a .pair) (accepted .paired) stream is-stream) (omega arith),
     )
 
 returns : tie.Need-returns Inv-loop μ-loop

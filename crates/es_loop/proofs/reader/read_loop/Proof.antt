@@ -31,7 +31,7 @@ entries-in-requires c κs =
     let a = c .before .before .before .before .before .args in
     let told = c .before .count .given in
     let verdict = sym (c .before .before .before .judge .ensures) ∙ told .1 in
-    verdict ∙ ap (λ (n : ℕ). Entries n) (sound (a .reading) (a .bytes .now) (told .0 .0) verdict .counted)
+    verdict ∙ ap (λ (n : ℕ). Entries n (told .0 .1 .0)) (sound (a .reading) (a .bytes .now) (told .0 .0) (told .0 .1 .0) verdict .counted)
 
 returns : tie.Need-returns
 returns c =
@@ -45,7 +45,7 @@ returns-2 c =
     let told = c .before .before .count .given in
     let verdict = sym (c .before .before .before .before .judge .ensures) ∙ told .1 in
     ap₂ (λ (n : ℕ) (l : List Entry). record { outcome = Accepted; count = n; entries = l })
-    (sound (a .reading) (a .bytes .now) (told .0 .0) verdict .counted) (c .entries-in .ensures)
+    (sound (a .reading) (a .bytes .now) (told .0 .0) (told .0 .1 .0) verdict .counted) (c .entries-in .ensures)
     ∙ ap (answerBy (streamsOf (a .reading) (a .bytes .now))) (sym verdict)
 
 pub read-loop-spec : {M : Type 1} → statement M

@@ -17,14 +17,17 @@ returns c =
     let a = c .before .before .args in
     sym (ap (λ (b : Bool). cond b (Refuses LoopTooLong) (judged (streamsOf (a .reading) (a .bytes .now)))) (lt-ltb 1008 (length (a .bytes .now)) (c .if1 .taken)))
 
+implied-pair-requires : tie.Need-implied-pair-requires
+implied-pair-requires c κs = search needs
+
 judge-entries-requires : tie.Need-judge-entries-requires
-judge-entries-requires c κs = search needs
+judge-entries-requires c κs = (search needs, c .implied-pair .ensures)
 
 returns-2 : tie.Need-returns-2
 returns-2 c =
-    let a = c .before .before .before .args in
+    let a = c .before .before .before .before .args in
     c .judge-entries .ensures
-    ∙ sym (ap (λ (b : Bool). cond b (Refuses LoopTooLong) (judged (streamsOf (a .reading) (a .bytes .now)))) (le-ltb 1008 (length (a .bytes .now)) (c .before .if1 .left)))
+    ∙ sym (ap (λ (b : Bool). cond b (Refuses LoopTooLong) (judged (streamsOf (a .reading) (a .bytes .now)))) (le-ltb 1008 (length (a .bytes .now)) (c .before .before .if1 .left)))
 
 pub judge-spec : {M : Type 1} → statement M
-judge-spec = tie.close (tie.spec returns judge-entries-requires returns-2)
+judge-spec = tie.close (tie.spec returns implied-pair-requires judge-entries-requires returns-2)

@@ -13,16 +13,16 @@ use Rattle.es_loop.specs.declared.entries.Stream.{Stream}
 use Rattle.es_loop.specs.declared.verdict.Verdict.the-variants.{Refused as Refuses}
 use Rattle.es_loop.specs.Entries.{streamsOf}
 use Rattle.es_loop.proofs.Passing.{Passed, passed-start, passed-next, stays-above}
-use Rattle.es_loop.proofs.Walk.{Cursor, cursor-start, leftAt, left-long, size-5, no-entry, stands-here, inside-here, pid-here, next-here, does-not-fit, end-refused, end-accepted}
+use Rattle.es_loop.proofs.Walk.{Cursor, cursor-start, leftAt, left-long, size-5, no-entry, stands-here, given-here, inside-here, pid-here, next-here, does-not-fit, end-refused, end-accepted}
 use Rattle.es_loop.proofs.verdict.judge_entries.Statement.{statement}
 use Rattle.es_loop.proofs.verdict.judge_entries.Tie as tie
 
 abbrev Inv-loop : tie.InvT-loop
-Inv-loop reading bytes pids₀ indices₀ fault₀ count₀ at₀ pids indices fault count at =
+Inv-loop reading pair bytes pids₀ indices₀ fault₀ count₀ at₀ pids indices fault count at =
     Cursor reading bytes count at × Passed (streamsOf reading bytes) pids indices fault count × (3 ≤ fault .number)
 
 abbrev μ-loop : tie.MeasureT-loop
-μ-loop reading bytes pids₀ indices₀ fault₀ count₀ at₀ pids indices fault count at = length bytes - at
+μ-loop reading pair bytes pids₀ indices₀ fault₀ count₀ at₀ pids indices fault count at = length bytes - at
 
 no-pids-requires : tie.Need-no-pids-requires Inv-loop μ-loop
 no-pids-requires c κs = search needs
@@ -96,7 +96,8 @@ read-stream-requires c κs =
 
 returns-2 : tie.Need-returns-2 Inv-loop μ-loop
 returns-2 c =
-    let a = c .before .before .before .before .before .before .before .before .before .before .before .before .before .args in
+    let start = c .before .before .before .before .before .before .before .before .before .before .before .before .before in
+    let a = start .args in
     let bytes = a .bytes .now in
     let loop = c .before .before .before .before .before .before .before .before .loop in
     let cursor = loop .inv .0 in
@@ -108,73 +109,18 @@ returns-2 c =
     let room : size ≤ length (leftAt (a .reading) bytes (loop .at)) = c .before .before .before .before .if1 .left in
     let stream = c .before .before .read-stream .result in
     let is-stream = c .before .before .read-stream .ensures in
-    let here = stands-here (a .reading) bytes (loop .count) (loop .at) cursor more size is-size room stream is-stream in
+    let here = stands-here (a .reading) bytes (loop .count) (loop .at) cursor more size is-size room (a .pair) (start .pre .1) stream is-stream in
     does-not-fit (streamsOf (a .reading) bytes) (loop .fault .number) (loop .fault .place) (loop .count)
-    (inside-here (a .reading) bytes (loop .count) (loop .at) cursor more size is-size room stream is-stream)
+    (inside-here (a .reading) bytes (loop .count) (loop .at) cursor more size is-size room (a .pair) (start .pre .1) stream is-stream)
     (ap (λ (s : Stream). s .fits) here ∙ not-true (stream .fits) (c .if2 .taken)) (loop .inv .2) (loop .inv .1 .lowest)
+
+gives-requires : tie.Need-gives-requires Inv-loop μ-loop
+gives-requires c κs = search needs
 
 judge-next-requires : tie.Need-judge-next-requires Inv-loop μ-loop
 judge-next-requires c κs =
-    let a = c .before .before .before .before .before .before .before .before .before .before .before .before .before .before .before .args in
-    let bytes = a .bytes .now in
-    let loop = c .before .before .before .before .before .before .before .before .before .before .loop in
-    let cursor = loop .inv .0 in
-    let more = c .before .before .before .before .before .before .before .before .before .loop-test .taken in
-    let size = c .before .before .before .before .before .before .before .entry-size .result in
-    let is-size = c .before .before .before .before .before .before .before .entry-size .ensures in
-    let long = left-long (a .reading) bytes (loop .at) in
-    let large : 5 ≤ size = size-5 (a .reading) bytes (loop .count) (loop .at) cursor more size is-size in
-    let room : size ≤ length (leftAt (a .reading) bytes (loop .at)) = c .before .before .before .before .before .before .if1 .left in
-    let stream = c .before .before .before .before .read-stream .result in
-    let is-stream = c .before .before .before .before .read-stream .ensures in
-    pid-here (a .reading) bytes (loop .count) (loop .at) cursor more size is-size room stream is-stream
-
-add-count : tie.Need-add-count Inv-loop μ-loop
-add-count c =
-    let a = c .before .before .before .before .before .before .before .before .before .before .before .before .before .before .before .before .args in
-    let bytes = a .bytes .now in
-    let loop = c .before .before .before .before .before .before .before .before .before .before .before .loop in
-    let cursor = loop .inv .0 in
-    let more = c .before .before .before .before .before .before .before .before .before .before .loop-test .taken in
-    let size = c .before .before .before .before .before .before .before .before .entry-size .result in
-    let is-size = c .before .before .before .before .before .before .before .before .entry-size .ensures in
-    let long = left-long (a .reading) bytes (loop .at) in
-    let large : 5 ≤ size = size-5 (a .reading) bytes (loop .count) (loop .at) cursor more size is-size in
-    let room : size ≤ length (leftAt (a .reading) bytes (loop .at)) = c .before .before .before .before .before .before .before .if1 .left in
-    let short = cursor .spaced in
-    omega arith
-
-add-at : tie.Need-add-at Inv-loop μ-loop
-add-at c =
-    let a = c .before .before .before .before .before .before .before .before .before .before .before .before .before .before .before .before .args in
-    let bytes = a .bytes .now in
-    let loop = c .before .before .before .before .before .before .before .before .before .before .before .loop in
-    let cursor = loop .inv .0 in
-    let more = c .before .before .before .before .before .before .before .before .before .before .loop-test .taken in
-    let size = c .before .before .before .before .before .before .before .before .entry-size .result in
-    let is-size = c .before .before .before .before .before .before .before .before .entry-size .ensures in
-    let long = left-long (a .reading) bytes (loop .at) in
-    let large : 5 ≤ size = size-5 (a .reading) bytes (loop .count) (loop .at) cursor more size is-size in
-    let room : size ≤ length (leftAt (a .reading) bytes (loop .at)) = c .before .before .before .before .before .before .before .if1 .left in
-    omega arith
-
-loop-less : tie.Need-loop-less Inv-loop μ-loop
-loop-less c =
-    let a = c .before .before .before .before .before .before .before .before .before .before .before .before .before .before .before .before .args in
-    let bytes = a .bytes .now in
-    let loop = c .before .before .before .before .before .before .before .before .before .before .before .loop in
-    let cursor = loop .inv .0 in
-    let more = c .before .before .before .before .before .before .before .before .before .before .loop-test .taken in
-    let size = c .before .before .before .before .before .before .before .before .entry-size .result in
-    let is-size = c .before .before .before .before .before .before .before .before .entry-size .ensures in
-    let long = left-long (a .reading) bytes (loop .at) in
-    let large : 5 ≤ size = size-5 (a .reading) bytes (loop .count) (loop .at) cursor more size is-size in
-    let room : size ≤ length (leftAt (a .reading) bytes (loop .at)) = c .before .before .before .before .before .before .before .if1 .left in
-    omega arith
-
-loop-again : tie.Need-loop-again Inv-loop μ-loop
-loop-again c =
-    let a = c .before .before .before .before .before .before .before .before .before .before .before .before .before .before .before .before .args in
+    let start = c .before .before .before .before .before .before .before .before .before .before .before .before .before .before .before .before in
+    let a = start .args in
     let bytes = a .bytes .now in
     let loop = c .before .before .before .before .before .before .before .before .before .before .before .loop in
     let cursor = loop .inv .0 in
@@ -186,16 +132,84 @@ loop-again c =
     let room : size ≤ length (leftAt (a .reading) bytes (loop .at)) = c .before .before .before .before .before .before .before .if1 .left in
     let stream = c .before .before .before .before .before .read-stream .result in
     let is-stream = c .before .before .before .before .before .read-stream .ensures in
+    pid-here (a .reading) bytes (loop .count) (loop .at) cursor more size is-size room (a .pair) (start .pre .1) stream is-stream
+
+add-count : tie.Need-add-count Inv-loop μ-loop
+add-count c =
+    let start = c .before .before .before .before .before .before .before .before .before .before .before .before .before .before .before .before .before in
+    let a = start .args in
+    let within = start .pre .0 in
+    let bytes = a .bytes .now in
+    let loop = c .before .before .before .before .before .before .before .before .before .before .before .before .loop in
+    let cursor = loop .inv .0 in
+    let more = c .before .before .before .before .before .before .before .before .before .before .before .loop-test .taken in
+    let size = c .before .before .before .before .before .before .before .before .before .entry-size .result in
+    let is-size = c .before .before .before .before .before .before .before .before .before .entry-size .ensures in
+    let long = left-long (a .reading) bytes (loop .at) in
+    let large : 5 ≤ size = size-5 (a .reading) bytes (loop .count) (loop .at) cursor more size is-size in
+    let room : size ≤ length (leftAt (a .reading) bytes (loop .at)) = c .before .before .before .before .before .before .before .before .if1 .left in
+    let short = cursor .spaced in
+    omega arith
+
+add-at : tie.Need-add-at Inv-loop μ-loop
+add-at c =
+    let start = c .before .before .before .before .before .before .before .before .before .before .before .before .before .before .before .before .before in
+    let a = start .args in
+    let within = start .pre .0 in
+    let bytes = a .bytes .now in
+    let loop = c .before .before .before .before .before .before .before .before .before .before .before .before .loop in
+    let cursor = loop .inv .0 in
+    let more = c .before .before .before .before .before .before .before .before .before .before .before .loop-test .taken in
+    let size = c .before .before .before .before .before .before .before .before .before .entry-size .result in
+    let is-size = c .before .before .before .before .before .before .before .before .before .entry-size .ensures in
+    let long = left-long (a .reading) bytes (loop .at) in
+    let large : 5 ≤ size = size-5 (a .reading) bytes (loop .count) (loop .at) cursor more size is-size in
+    let room : size ≤ length (leftAt (a .reading) bytes (loop .at)) = c .before .before .before .before .before .before .before .before .if1 .left in
+    omega arith
+
+loop-less : tie.Need-loop-less Inv-loop μ-loop
+loop-less c =
+    let start = c .before .before .before .before .before .before .before .before .before .before .before .before .before .before .before .before .before in
+    let a = start .args in
+    let within = start .pre .0 in
+    let bytes = a .bytes .now in
+    let loop = c .before .before .before .before .before .before .before .before .before .before .before .before .loop in
+    let cursor = loop .inv .0 in
+    let more = c .before .before .before .before .before .before .before .before .before .before .before .loop-test .taken in
+    let size = c .before .before .before .before .before .before .before .before .before .entry-size .result in
+    let is-size = c .before .before .before .before .before .before .before .before .before .entry-size .ensures in
+    let long = left-long (a .reading) bytes (loop .at) in
+    let large : 5 ≤ size = size-5 (a .reading) bytes (loop .count) (loop .at) cursor more size is-size in
+    let room : size ≤ length (leftAt (a .reading) bytes (loop .at)) = c .before .before .before .before .before .before .before .before .if1 .left in
+    omega arith
+
+loop-again : tie.Need-loop-again Inv-loop μ-loop
+loop-again c =
+    let start = c .before .before .before .before .before .before .before .before .before .before .before .before .before .before .before .before .before in
+    let a = start .args in
+    let bytes = a .bytes .now in
+    let loop = c .before .before .before .before .before .before .before .before .before .before .before .before .loop in
+    let cursor = loop .inv .0 in
+    let more = c .before .before .before .before .before .before .before .before .before .before .before .loop-test .taken in
+    let size = c .before .before .before .before .before .before .before .before .before .entry-size .result in
+    let is-size = c .before .before .before .before .before .before .before .before .before .entry-size .ensures in
+    let long = left-long (a .reading) bytes (loop .at) in
+    let large : 5 ≤ size = size-5 (a .reading) bytes (loop .count) (loop .at) cursor more size is-size in
+    let room : size ≤ length (leftAt (a .reading) bytes (loop .at)) = c .before .before .before .before .before .before .before .before .if1 .left in
+    let stream = c .before .before .before .before .before .before .read-stream .result in
+    let is-stream = c .before .before .before .before .before .before .read-stream .ensures in
     let next = c .judge-next in
     let all = streamsOf (a .reading) bytes in
-    let here = stands-here (a .reading) bytes (loop .count) (loop .at) cursor more size is-size room stream is-stream in
-    let small = pid-here (a .reading) bytes (loop .count) (loop .at) cursor more size is-size room stream is-stream in
+    let here = stands-here (a .reading) bytes (loop .count) (loop .at) cursor more size is-size room (a .pair) (start .pre .1) stream is-stream in
+    let small = pid-here (a .reading) bytes (loop .count) (loop .at) cursor more size is-size room (a .pair) (start .pre .1) stream is-stream in
+    let gives = c .before .before .before .gives in
+    let is-given = gives .ensures ∙ given-here (a .reading) bytes (loop .count) (loop .at) cursor more size is-size room (a .pair) (start .pre .1) stream is-stream in
     let index = next .ensures .0 .1 in (
-      next-here (a .reading) bytes (loop .count) (loop .at) cursor more size is-size room stream is-stream,
-      passed-next all (loop .pids) (loop .indices) (loop .fault) (loop .count) (loop .inv .1) stream here small index (next .result) _ _
+      next-here (a .reading) bytes (loop .count) (loop .at) cursor more size is-size room (a .pair) (start .pre .1) stream is-stream,
+      passed-next all (loop .pids) (loop .indices) (loop .fault) (loop .count) (loop .inv .1) (gives .result) stream here is-given small index (next .result) _ _
           (next .ensures .0 .0) (next .ensures .1 .0) (next .ensures .1 .1),
-      stays-above all (loop .pids) (loop .indices) (loop .fault) (loop .count) (loop .inv .1) stream here small index
-          (not-false (stream .fits) (c .before .before .before .if2 .left)) (loop .inv .2) (next .result) (next .ensures .0 .0),
+      stays-above all (loop .pids) (loop .indices) (loop .fault) (loop .count) (loop .inv .1) (gives .result) stream here is-given small index
+          (not-false (stream .fits) (c .before .before .before .before .if2 .left)) (loop .inv .2) (next .result) (next .ensures .0 .0),
     )
 
 refusal-of-requires : tie.Need-refusal-of-requires Inv-loop μ-loop
@@ -210,9 +224,10 @@ returns-3 c =
 
 returns-4 : tie.Need-returns-4 Inv-loop μ-loop
 returns-4 c =
-    let a = c .before .before .before .before .before .before .before .before .args in
+    let start = c .before .before .before .before .before .before .before .before in
+    let a = start .args in
     let loop = c .before .before .before .loop in
-    end-accepted (a .reading) (a .bytes .now) (loop .fault) (loop .count) (loop .at) (loop .inv .0) (loop .inv .1 .lowest) (c .before .before .loop-test .left) (c .if3 .left)
+    end-accepted (a .reading) (a .bytes .now) (loop .fault) (loop .count) (loop .at) (loop .inv .0) (loop .inv .1 .lowest) (c .before .before .loop-test .left) (a .pair) (start .pre .1) (c .if3 .left)
 
 pub judge-entries-spec : {M : Type 1} → statement M
 judge-entries-spec =
@@ -232,6 +247,7 @@ judge-entries-spec =
     slice-aggregate-read-stream
     read-stream-requires
     returns-2
+    gives-requires
     judge-next-requires
     add-count
     add-at

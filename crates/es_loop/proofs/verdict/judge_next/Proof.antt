@@ -23,7 +23,9 @@ is-layer-requires : tie.Need-is-layer-requires
 is-layer-requires c κs = search needs
 
 element-copy-out-index-held : tie.Need-element-copy-out-index-held
-element-copy-out-index-held c = rw (c .before .slot-of .ensures .0) (slot-below (c .before .before .before .before .args .stream .seen .«record») (c .before .slot-of .ensures .1))
+element-copy-out-index-held c =
+    let s = c .before .before .before .before .args .stream in
+    rw (c .before .slot-of .ensures .0) (slot-below (s .«stream_type») (s .seen .«record») (c .before .slot-of .ensures .1))
 
 element-copy-out-lowest-fault : tie.Need-element-copy-out-lowest-fault
 element-copy-out-lowest-fault c = search needs
@@ -35,7 +37,9 @@ element-write-pids : tie.Need-element-write-pids
 element-write-pids c = search needs
 
 element-write-indices : tie.Need-element-write-indices
-element-write-indices c = rw (c .before .before .before .before .slot-of .ensures .0) (slot-below (c .before .before .before .before .before .before .before .args .stream .seen .«record») (c .before .before .before .before .slot-of .ensures .1))
+element-write-indices c =
+    let s = c .before .before .before .before .before .before .before .args .stream in
+    rw (c .before .before .before .before .slot-of .ensures .0) (slot-below (s .«stream_type») (s .seen .«record») (c .before .before .before .before .slot-of .ensures .1))
 
 lower-requires : tie.Need-lower-requires
 lower-requires c κs = search needs
@@ -48,8 +52,8 @@ returns c =
     let pids : List Bool = a .pids .now in
     let indices : List Bool = a .indices .now in
     let number = c .before .lowest-fault .ensures
-    ∙ ap (λ (i : ℕ). firstTrue (conditions (getD pids (a .stream .pid) false) (layer .result && getD indices i false) (a .stream))) (slot .ensures .0)
-    ∙ ap (λ (b : Bool). firstTrue (conditions (getD pids (a .stream .pid) false) (b && getD indices (slotOf (a .stream .seen .«record»)) false) (a .stream))) (layer .ensures) in
+    ∙ ap (λ (i : ℕ). firstTrue (conditions (a .given) (getD pids (a .stream .pid) false) (layer .result && getD indices i false) (a .stream))) (slot .ensures .0)
+    ∙ ap (λ (b : Bool). firstTrue (conditions (a .given) (getD pids (a .stream .pid) false) (b && getD indices (slotOf (a .stream .«stream_type») (a .stream .seen .«record»)) false) (a .stream))) (layer .ensures) in
     ((c .lower .ensures ∙ ap (λ (n : ℕ). lowerOf (a .so-far) n (a .place)) number, slot .ensures .1), (refl, ap (λ (i : ℕ). set indices i true) (slot .ensures .0)))
 
 pub judge-next-spec : {M : Type 1} → statement M
