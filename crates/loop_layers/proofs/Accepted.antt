@@ -25,13 +25,17 @@ use Rattle.descriptors.specs.Hierarchy.{hierarchyOf}
 use Rattle.descriptors.specs.Extension.{extensionOf, embeddedOf}
 use Rattle.descriptors.specs.Looking.{Kind, does-not-fit, skipped, wrong-length, hierarchy, extension, tag4Kind, tag63Kind, kindOf, Held, heldIn, firstRecord, seenOf, nothingSeen}
 use Rattle.descriptors.specs.Head.{descriptorTag, descriptorLength}
-use Rattle.descriptors.specs.Records.{indexOf, named}
+use Rattle.descriptors.specs.declared.«record».Record.{Record}
+use Rattle.descriptors.specs.declared.«record».Record.the-variants.{NoRecord, Hierarchy, Extension, Implied}
+use Rattle.descriptors.specs.Records.{isSecondView, indexOf, named}
+use Rattle.implied.specs.Rule.{given}
+use Rattle.implied.specs.Marking.{withMark, markedRecord}
 use Rattle.judging.specs.Judging.{sameIndex, wrongAt, wrongEmbedded}
 use Rattle.es_loop.specs.declared.entries.Entry.{Entry}
 use Rattle.es_loop.specs.declared.entries.Stream.{Stream}
 use Rattle.es_loop.specs.declared.reader.Outcome.the-variants.{Accepted}
-use Rattle.es_loop.specs.Entries.{streamType, esInfoLength, noStream, streamOf, streamsOf, entryOf}
-use Rattle.es_loop.specs.Conditions.{streamAt, recordAt}
+use Rattle.es_loop.specs.Entries.{streamType, esInfoLength, noStream, streamOf, pairOf, markedStream, streamsAlone, streamsOf, entryOf}
+use Rattle.es_loop.specs.Conditions.{streamAt}
 use Rattle.es_loop.specs.Reading.{loopRead}
 use Rattle.es_loop.proofs.Judged.{Taken, taken}
 use Rattle.closure.specs.Meaning.{Names}
@@ -71,27 +75,45 @@ kind-index reading (whole head payload) =
         (either-way SixBits (eqb (length payload) _) (extension (extensionOf payload) (embeddedOf payload)) wrong-length (extension-index payload) tt)
         tt
 
-first-index : (reading : Reading) (items : List Item) → indexOf (firstRecord (gather heldIn (map (kindOf reading) items))) < 64
-first-index reading [] = omega arith
-first-index reading (x ∷ xs) = go (kindOf reading x) (kind-index reading x) (first-index reading xs)
+first-index : (t : ℕ) (reading : Reading) (items : List Item) → indexOf t (firstRecord (gather heldIn (map (kindOf reading) items))) < 64
+first-index t reading [] = omega arith
+first-index t reading (x ∷ xs) = go (kindOf reading x) (kind-index reading x) (first-index t reading xs)
   where
     later : List Held
     later = gather heldIn (map (kindOf reading) xs)
 
-    go : (k : Kind) → SixBits k → indexOf (firstRecord later) < 64 → indexOf (firstRecord (heldIn k ++ later)) < 64
+    go : (k : Kind) → SixBits k → indexOf t (firstRecord later) < 64 → indexOf t (firstRecord (heldIn k ++ later)) < 64
     go does-not-fit s l = l
     go skipped s l = l
     go wrong-length s l = l
     go (hierarchy h) s l = s
     go (extension e layers) s l = s
 
-stream-index : (reading : Reading) (x : Item) → indexOf ((streamOf reading x) .seen .«record») < 64
-stream-index reading broken = omega arith
-stream-index reading (whole head info) = go (known reading (streamType head))
+stream-index : (t : ℕ) (reading : Reading) (x : Item) → indexOf t ((streamOf reading x) .seen .«record») < 64
+stream-index t reading broken = omega arith
+stream-index t reading (whole head info) = go (known reading (streamType head))
   where
-    go : (b : Bool) → indexOf ((cond b (seenOf reading info) nothingSeen) .«record») < 64
-    go true = first-index reading (cut 2 descriptorLength info)
+    go : (b : Bool) → indexOf t ((cond b (seenOf reading info) nothingSeen) .«record») < 64
+    go true = first-index t reading (cut 2 descriptorLength info)
     go false = omega arith
+
+-- and so has an implied one
+marked-index : (pair : Bool) (t : ℕ) (r : Record) → indexOf t r < 64 → indexOf t (markedRecord pair t r) < 64
+marked-index pair t r small = by-mark (given pair t)
+  where
+    implied-small : (second : Bool) → cond second 1 0 < 64
+    implied-small true = omega arith
+    implied-small false = omega arith
+
+    with-mark : (r : Record) → indexOf t r < 64 → indexOf t (withMark r) < 64
+    with-mark NoRecord s = implied-small (isSecondView t)
+    with-mark (Hierarchy h) s = s
+    with-mark (Extension x) s = s
+    with-mark Implied s = s
+
+    by-mark : (b : Bool) → indexOf t (cond b (withMark r) r) < 64
+    by-mark true = with-mark r small
+    by-mark false = small
 
 -- ---- an accepted loop: no number applies at any entry
 
@@ -108,61 +130,68 @@ module _ (reading : Reading) (bytes : List ℕ) (is-accepted : (loopRead reading
   are-entries : entries ≡ map entryOf streams
   are-entries = ap entriesRead (fine .is-read) ∙ entries-read streams
 
+  abbrev pair : Bool
+  pair = pairOf (streamsAlone reading bytes)
+
   -- the stream of an entry
   record StreamOf (k : ℕ) (e : Entry) : Type 0 where
     item : Item
     inside : k < length streams
-    at-place : streamAt streams k ≡ streamOf reading item
-    is-entry : entryOf (streamOf reading item) ≡ e
+    at-place : streamAt streams k ≡ markedStream pair (streamOf reading item)
+    is-entry : entryOf (markedStream pair (streamOf reading item)) ≡ e
 
   stream-of : {k : ℕ} {e : Entry} → Nth entries k e → StreamOf k e
   stream-of {k} {e} n =
       let w = nth-of-map entryOf streams (subst (λ (l : List Entry). Nth l k e) are-entries n) in
-      let v = nth-of-map (streamOf reading) (cut 5 esInfoLength bytes) (w .1) in
+      let v = nth-of-map (markedStream pair) (streamsAlone reading bytes) (w .1) in
+      let u = nth-of-map (streamOf reading) (cut 5 esInfoLength bytes) (v .1) in
+      let is-marked : markedStream pair (streamOf reading (u .0)) ≡ w .0 = ap (markedStream pair) (u .2) ∙ v .2 in
       record {
-        item = v .0;
+        item = u .0;
         inside = nth-inside (w .1);
-        at-place = nth-getD noStream (w .1) ∙ sym (v .2);
-        is-entry = ap entryOf (v .2) ∙ w .2;
+        at-place = nth-getD noStream (w .1) ∙ sym is-marked;
+        is-entry = ap entryOf is-marked ∙ w .2;
       }
 
-  record-at : {k : ℕ} {e : Entry} → StreamOf k e → recordAt streams k ≡ e .«record»
-  record-at s = ap (λ (x : Stream). x .seen .«record») (s .at-place) ∙ ap (λ (x : Entry). x .«record») (s .is-entry)
-
-  embedded-at : {k : ℕ} {e : Entry} → StreamOf k e → (streamAt streams k) .seen .embedded ≡ e .embedded
-  embedded-at s = ap (λ (x : Stream). x .seen .embedded) (s .at-place) ∙ ap (λ (x : Entry). x .embedded) (s .is-entry)
+  entry-at : {k : ℕ} {e : Entry} → StreamOf k e → entryOf (streamAt streams k) ≡ e
+  entry-at s = ap entryOf (s .at-place) ∙ s .is-entry
 
   -- an index is one of six bits
   pub index-small : {k i : ℕ} {e : Entry} → LayerAt entries k i e → i < 64
   index-small l =
       let s = stream-of (l .entry) in
-      let same = ap (λ (x : Entry). indexOf (x .«record»)) (s .is-entry) ∙ l .index in
-      subst (λ (n : ℕ). n < 64) same (stream-index reading (s .item))
+      let alone : Stream = streamOf reading (s .item) in
+      let same = ap (λ (x : Entry). indexOf (x .«stream_type») (x .«record»)) (s .is-entry) ∙ l .index in
+      subst (λ (n : ℕ). n < 64) same
+      (marked-index pair (alone .«stream_type») (alone .seen .«record») (stream-index (alone .«stream_type») reading (s .item)))
+
+  abbrev sameEntries : Entry → Entry → Bool
+  sameEntries a b = sameIndex (a .«stream_type») (a .«record») (b .«stream_type») (b .«record»)
 
   -- 8 was not given: no later layer has the index
   not-again : {j k i : ℕ} {a b : Entry} → j < k → LayerAt entries j i a → LayerAt entries k i b → ⊥
   not-again {j} {k} {i} {a} {b} h l m =
       let s = stream-of (l .entry) in
       let t = stream-of (m .entry) in
-      let unlike : sameIndex (recordAt streams j) (recordAt streams k) ≡ false =
-      none-at (λ n. sameIndex (recordAt streams n) (recordAt streams k)) k (fine .none 8 k (omega arith) (t .inside)) j h in
-      let like : sameIndex (a .«record») (b .«record») ≡ true =
-      ap₂ (λ (x y : Bool). x && y && eqb (indexOf (a .«record»)) (indexOf (b .«record»))) (l .layer) (m .layer)
-      ∙ eq-eqb (indexOf (a .«record»)) (indexOf (b .«record»)) (l .index ∙ sym (m .index)) in
-      true≢false (sym like ∙ sym (ap₂ sameIndex (record-at s) (record-at t)) ∙ unlike)
+      let unlike : sameEntries (entryOf (streamAt streams j)) (entryOf (streamAt streams k)) ≡ false =
+      none-at (λ n. sameEntries (entryOf (streamAt streams n)) (entryOf (streamAt streams k))) k (fine .none 8 k (omega arith) (t .inside)) j h in
+      let like : sameEntries a b ≡ true =
+      ap₂ (λ (x y : Bool). x && y && eqb (indexOf (a .«stream_type») (a .«record»)) (indexOf (b .«stream_type») (b .«record»))) (l .layer) (m .layer)
+      ∙ eq-eqb (indexOf (a .«stream_type») (a .«record»)) (indexOf (b .«stream_type») (b .«record»)) (l .index ∙ sym (m .index)) in
+      true≢false (sym like ∙ sym (ap₂ sameEntries (entry-at s) (entry-at t)) ∙ unlike)
 
   -- ONE LAYER of an index: each entry that is a layer is the layer of its index.
   pub every-layer : {k i : ℕ} {e : Entry} → LayerAt entries k i e → LayerOf entries i e
   every-layer {k} l = record { six-bits = index-small l; place = k; at-place = l; last = λ j x h m. not-again h l m }
 
   -- 9 was not given: A LAYER LISTS LOWER INDICES ALONE.
-  pub listed-lower : {k i : ℕ} {e : Entry} (j : ℕ) → LayerAt entries k i e → member j (named (e .«record») (e .embedded)) ≡ true → j < i
+  pub listed-lower : {k i : ℕ} {e : Entry} (j : ℕ) → LayerAt entries k i e → member j (named (e .«stream_type») (e .«record») (e .embedded)) ≡ true → j < i
   listed-lower {k} {i} {e} j l m =
       let s = stream-of (l .entry) in
-      let right : wrongEmbedded (e .«record») (e .embedded) ≡ false =
-      sym (ap₂ wrongEmbedded (record-at s) (embedded-at s)) ∙ fine .none 9 k (omega arith) (s .inside) in
-      let indices : List ℕ = named (e .«record») (e .embedded) in
-      let own : ℕ = indexOf (e .«record») in
+      let right : wrongEmbedded (e .«stream_type») (e .«record») (e .embedded) ≡ false =
+      sym (ap (λ (x : Entry). wrongEmbedded (x .«stream_type») (x .«record») (x .embedded)) (entry-at s)) ∙ fine .none 9 k (omega arith) (s .inside) in
+      let indices : List ℕ = named (e .«stream_type») (e .«record») (e .embedded) in
+      let own : ℕ = indexOf (e .«stream_type») (e .«record») in
       let w = member-which j indices m in
       let fine-there = none-at (wrongAt own indices) (length indices) right (w .0) (w .1) in
       let below : getD indices (w .0) 0 < own =
@@ -174,7 +203,7 @@ module _ (reading : Reading) (bytes : List ℕ) (is-accepted : (loopRead reading
     pub place : ℕ
     pub entry : Entry
     pub layer : LayerAt entries place i entry
-    pub listed : member j (named (entry .«record») (entry .embedded)) ≡ true
+    pub listed : member j (named (entry .«stream_type») (entry .«record») (entry .embedded)) ≡ true
 
   -- NOTHING IS LOST: the step by which a target rests on more, `Names`, asks that j is below i, and that is so of all that is listed.
   pub names-lists : (i j : ℕ) → Names (layersOf entries) i j ↔ Lists i j

@@ -25,24 +25,24 @@ column-length value column (x ∷ xs) = column-length value (set column (placeOf
 -- ---- an entry's place in a column, and the layer that it is
 
 -- a layer stands at its index
-stands : (r : Record) (i : ℕ) → isLayer r ≡ true → indexOf r ≡ i → slotOf r ≡ i
-stands r i l e = ap (λ (b : Bool). cond b (indexOf r) 256) l ∙ e
+stands : (t : ℕ) (r : Record) (i : ℕ) → isLayer r ≡ true → indexOf t r ≡ i → slotOf t r ≡ i
+stands t r i l e = ap (λ (b : Bool). cond b (indexOf t r) 256) l ∙ e
 
 -- and what stands at an index of six bits is the layer of that index
-standing : (r : Record) (i : ℕ) → i < 64 → slotOf r ≡ i → (isLayer r ≡ true) × (indexOf r ≡ i)
-standing r i h e = go (isLayer r) refl
+standing : (t : ℕ) (r : Record) (i : ℕ) → i < 64 → slotOf t r ≡ i → (isLayer r ≡ true) × (indexOf t r ≡ i)
+standing t r i h e = go (isLayer r) refl
   where
-    go : (b : Bool) → isLayer r ≡ b → (isLayer r ≡ true) × (indexOf r ≡ i)
-    go true p = (p, sym (ap (λ (b : Bool). cond b (indexOf r) 256) p) ∙ e)
-    go false p = let past : slotOf r ≡ 256 = ap (λ (b : Bool). cond b (indexOf r) 256) p in absurd (omega arith)
+    go : (b : Bool) → isLayer r ≡ b → (isLayer r ≡ true) × (indexOf t r ≡ i)
+    go true p = (p, sym (ap (λ (b : Bool). cond b (indexOf t r) 256) p) ∙ e)
+    go false p = let past : slotOf t r ≡ 256 = ap (λ (b : Bool). cond b (indexOf t r) 256) p in absurd (omega arith)
 
 module _ (entries : List Entry) where
   pub layer-stands : {k i : ℕ} {e : Entry} → LayerAt entries k i e → placeOf e ≡ i
-  layer-stands {i = i} {e = e} l = stands (e .«record») i (l .layer) (l .index)
+  layer-stands {i = i} {e = e} l = stands (e .«stream_type») (e .«record») i (l .layer) (l .index)
 
   pub stands-layer : {k i : ℕ} {e : Entry} → i < 64 → Nth entries k e → placeOf e ≡ i → LayerAt entries k i e
   stands-layer {i = i} {e = e} h n p =
-      let w = standing (e .«record») i h p in
+      let w = standing (e .«stream_type») (e .«record») i h p in
       record { entry = n; layer = w .0; index = w .1 }
 
 -- ---- what a column holds at an index

@@ -20,7 +20,7 @@ use Rattle.judging.proofs.Sets.{indices-in, indices-within, names-in}
 use Rattle.es_loop.specs.declared.entries.Entry.{Entry}
 use Rattle.es_loop.specs.declared.entries.Stream.{Stream}
 use Rattle.es_loop.specs.declared.reader.LoopRead.{LoopRead}
-use Rattle.es_loop.specs.Entries.{streamOf, entryOf}
+use Rattle.es_loop.specs.Entries.{streamOf, markedStreams, entryOf}
 use Rattle.es_loop.specs.Reading.{refusedWith, accepted, loopRead}
 use Rattle.es_loop.specs.Meaning.{too-long, refuses, accepts}
 use Rattle.es_loop.specs.Meaning as Loop
@@ -62,8 +62,8 @@ module _ (entries : List Entry) where
       go : i < 64 → LayerOrNone entries i → Embeds entries i j
       go h (a-layer x l) =
           let names : has (embeddedIn x) j ≡ true = sym (ap (λ (s : ℕ). has s j) (column-meant 0 embeddedIn entries .layer i x l)) ∙ e in
-          let small : j < 64 = has-within 64 (indices-within 0 (named (x .«record») (x .embedded)) (pow-pos 64)) names in
-          record { entry = x; layer = l; listed = sym (names-in (x .«record») (x .embedded) j small) ∙ names; six-bits = small }
+          let small : j < 64 = has-within 64 (indices-within 0 (named (x .«stream_type») (x .«record») (x .embedded)) (pow-pos 64)) names in
+          record { entry = x; layer = l; listed = sym (names-in (x .«stream_type») (x .«record») (x .embedded) j small) ∙ names; six-bits = small }
       go h (no-layer f g) = nothing e (column-meant 0 embeddedIn entries .no-layer i h f)
 
       inside : Dec (i < 64) → Embeds entries i j
@@ -75,7 +75,7 @@ module _ (entries : List Entry) where
   embeds-embedded : (i j : ℕ) → Embeds entries i j → has (getD embedded i 0) j ≡ true
   embeds-embedded i j b =
       ap (λ (s : ℕ). has s j) (column-meant 0 embeddedIn entries .layer i (b .entry) (b .layer))
-      ∙ names-in (b .entry .«record») (b .entry .embedded) j (b .six-bits)
+      ∙ names-in (b .entry .«stream_type») (b .entry .«record») (b .entry .embedded) j (b .six-bits)
       ∙ b .listed
 
   pub layers-meant : LayersOf entries (layersOf entries)
@@ -129,7 +129,7 @@ data Cases (read : LoopRead) : Type 0 where
 cases : {reading : Reading} {bytes : List ℕ} {read : LoopRead} → Loop.Answers reading bytes read → Cases read
 cases (too-long h) = is-refused _ refl
 cases (refuses short c at-k lower earlier) = is-refused _ refl
-cases {reading} (accepts {entries} short c none) = is-accepted (map (streamOf reading) entries) refl
+cases {reading} (accepts {entries} short c none) = is-accepted (markedStreams (map (streamOf reading) entries)) refl
 
 -- THE ANSWER TO A TARGET: what is computed is right,
 module _ (reading : Reading) (bytes : List ℕ) (target : ℕ) where

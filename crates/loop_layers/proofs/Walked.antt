@@ -3,24 +3,27 @@
 -- Assumes nothing.
 use Prim.Native.Nat.{ℕ, _+_, _-_, _≤_, _<_}
 use mathlib.Core.Path.{_≡_, refl, sym, _∙_, ap}
+use mathlib.Core.Bool.{Bool}
 use mathlib.Core.List.{List, [], _∷_, map}
 use native.Mathlib.Decide.{decLt}
 use native.Mathlib.Omega.{arith}
 use borrow.Author.Tests.{lt-ltb, le-ltb}
-use lib.ListN.{length, set, take, drop, replicate, length-replicate, drop-of-length-le}
+use lib.ListN.{length, getD, set, take, drop, replicate, length-replicate, drop-of-length-le}
 use lib.Seq.{length-take-le, set-out}
 use Rattle.combinators.specs.Lists.{part-to-end}
 use Rattle.framing.specs.Pieces.{whole}
+use Rattle.syntax.specs.Table.{AreBytes}
 use Rattle.vocabulary.specs.declared.stream_types.Reading.{Reading}
 use Rattle.sets.specs.Sets.{added}
 use Rattle.descriptors.specs.Records.{withIndices, channelOf}
 use Rattle.es_loop.specs.declared.entries.Entry.{Entry}
 use Rattle.es_loop.specs.declared.entries.Stream.{Stream}
 use Rattle.es_loop.specs.declared.verdict.Verdict.the-variants.{Entries}
-use Rattle.es_loop.specs.Entries.{sizeOf, streamOf, streamsOf, entryOf}
+use Rattle.es_loop.specs.Entries.{sizeOf, streamOf, markedStream, streamsOf, entryOf}
 use Rattle.es_loop.specs.Reading.{verdictOf}
 use Rattle.es_loop.proofs.Judged.{Sound, sound}
-use Rattle.es_loop.proofs.Walk.{Cursor, cursor-start, leftAt, left-long, size-5, size-fits, front-of, next-here}
+use Rattle.es_loop.proofs.Heads.{stream-bytes}
+use Rattle.es_loop.proofs.Walk.{restOf, Cursor, cursor-start, leftAt, left-long, size-5, size-fits, marked-front, next-here}
 use Rattle.closure.specs.declared.Layers.{Layers}
 use Rattle.loop_layers.specs.declared.table.LayerTable.{LayerTable}
 use Rattle.loop_layers.specs.Layers.{placeOf, presentIn, columnWith, columnOf, embeddedIn, layersOf, tableOf, putAt, withEntry}
@@ -85,38 +88,43 @@ module _ (reading : Reading) (bytes : List ℕ) where
   standing-first = record { count = 0; cursor = cursor-start reading bytes }
 
   -- a loop that was accepted has all its entries
-  pub counted-verdict : {total : ℕ} → verdictOf reading bytes ≡ Entries total → verdictOf reading bytes ≡ Entries (length (streamsOf reading bytes))
-  counted-verdict {total} e = e ∙ ap (λ (n : ℕ). Entries n) (sound reading bytes total e .counted)
+  pub counted-verdict : {total : ℕ} {pair : Bool} → verdictOf reading bytes ≡ Entries total pair
+      → verdictOf reading bytes ≡ Entries (length (streamsOf reading bytes)) pair
+  counted-verdict {total} {pair} e = e ∙ ap (λ (n : ℕ). Entries n pair) (sound reading bytes total pair e .counted)
 
-  -- the entries that are left
+  -- the entries that are left, with the marks of the whole loop
   abbrev pub leftFrom : ℕ → List Entry
-  leftFrom at = map entryOf (streamsOf reading (drop at bytes))
+  leftFrom at = map entryOf (restOf reading bytes (drop at bytes))
 
   -- the bytes of the entry that stands there, and what is read of it
   abbrev pub bytesAt : ℕ → ℕ → List ℕ
   bytesAt at size = take size (leftAt reading bytes at)
 
-  abbrev pub streamFrom : ℕ → ℕ → Stream
-  streamFrom at size = streamOf reading (whole (take 5 (bytesAt at size)) (drop 5 (bytesAt at size)))
+  abbrev pub streamFrom : Bool → ℕ → ℕ → Stream
+  streamFrom pair at size = markedStream pair (streamOf reading (whole (take 5 (bytesAt at size)) (drop 5 (bytesAt at size))))
+
+  -- its type is the first of them
+  pub type-there : (pair : Bool) (at size : ℕ) → AreBytes (bytesAt at size) → getD (bytesAt at size) 0 0 ≡ (streamFrom pair at size) .«stream_type»
+  type-there pair at size b = ap (λ (s : Stream). s .«stream_type») (stream-bytes reading (bytesAt at size) b)
 
   -- What the walk finds: a whole entry, and the place after it.
-  pub record Turn (at size : ℕ) : Type 0 where
+  pub record Turn (pair : Bool) (at size : ℕ) : Type 0 where
     pub short : length bytes ≤ 1008
     pub large : 5 ≤ size
     pub long : length (leftAt reading bytes at) ≡ length bytes - at
     pub room : size ≤ length (leftAt reading bytes at)
     pub whole-long : length (bytesAt at size) ≡ size
-    pub front : leftFrom at ≡ entryOf (streamFrom at size) ∷ leftFrom (at + size)
+    pub front : leftFrom at ≡ entryOf (streamFrom pair at size) ∷ leftFrom (at + size)
     pub next : Standing (at + size)
 
-  pub turn : {total : ℕ} → verdictOf reading bytes ≡ Entries total → (at : ℕ) → Standing at → at < length bytes → (size : ℕ)
-      → size ≡ sizeOf (leftAt reading bytes at) → Turn at size
-  turn {total} accepted at standing more size is-size =
+  pub turn : {total : ℕ} {pair : Bool} → verdictOf reading bytes ≡ Entries total pair → (at : ℕ) → Standing at → at < length bytes → (size : ℕ)
+      → size ≡ sizeOf (leftAt reading bytes at) → Turn pair at size
+  turn {total} {pair} accepted at standing more size is-size =
       let count : ℕ = standing .count in
       let cursor = standing .cursor in
-      let is-sound : Sound reading bytes total = sound reading bytes total accepted in
+      let is-sound : Sound reading bytes total pair = sound reading bytes total pair accepted in
       let long : length (leftAt reading bytes at) ≡ length bytes - at = left-long reading bytes at in
-      let room : size ≤ length (leftAt reading bytes at) = size-fits reading bytes total is-sound count at cursor more size is-size in
+      let room : size ≤ length (leftAt reading bytes at) = size-fits reading bytes total pair is-sound count at cursor more size is-size in
       record {
         short = is-sound .short;
         large = size-5 reading bytes count at cursor more size is-size;
@@ -125,10 +133,10 @@ module _ (reading : Reading) (bytes : List ℕ) where
         whole-long = length-take-le size (leftAt reading bytes at) room;
         front =
             ap (map entryOf)
-            (sym (cursor .rest) ∙ front-of reading bytes (leftAt reading bytes at) count at (part-to-end bytes at) (cursor .rest) (omega arith) size is-size room (streamFrom at size) refl);
-        next = record { count = count + 1; cursor = next-here reading bytes count at cursor more size is-size room (streamFrom at size) refl };
+            (sym (cursor .rest) ∙ marked-front reading bytes (leftAt reading bytes at) at (part-to-end bytes at) (omega arith) count (cursor .rest) size is-size room pair (is-sound .paired) (streamFrom pair at size) refl);
+        next = record { count = count + 1; cursor = next-here reading bytes count at cursor more size is-size room pair (is-sound .paired) (streamFrom pair at size) refl };
       }
 
   -- After the last entry none is left.
   pub none-left : (at : ℕ) → length bytes ≤ at → leftFrom at ≡ []
-  none-left at done = ap (λ (l : List ℕ). map entryOf (streamsOf reading l)) (drop-of-length-le bytes done)
+  none-left at done = ap (λ (l : List ℕ). map entryOf (restOf reading bytes l)) (drop-of-length-le bytes done)

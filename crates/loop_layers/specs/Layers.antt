@@ -15,7 +15,7 @@ use Rattle.loop_layers.specs.declared.table.LayerTable.{LayerTable}
 
 -- Where an entry stands in a column of 64 places: at its layer index. A stream that is no layer stands past all of them, and adds nothing.
 abbrev pub placeOf : Entry → ℕ
-placeOf e = slotOf (e .«record»)
+placeOf e = slotOf (e .«stream_type») (e .«record»)
 
 -- the layer indices that the entries hold, as a set
 abbrev pub presentIn : List Entry → ℕ
@@ -31,7 +31,7 @@ columnOf blank value entries = columnWith value (replicate 64 blank) entries
 
 -- the set of the layers that an entry's record names; a base layer names none, whatever its embedded index says
 abbrev pub embeddedIn : Entry → ℕ
-embeddedIn e = namesOf (e .«record») (e .embedded)
+embeddedIn e = namesOf (e .«stream_type») (e .«record») (e .embedded)
 
 abbrev pub layersOf : List Entry → Layers
 layersOf entries = record { present = presentIn entries; embedded = columnOf 0 embeddedIn entries }

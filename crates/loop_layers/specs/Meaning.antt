@@ -29,7 +29,7 @@ module _ (entries : List Entry) where
   pub record LayerAt (k i : ℕ) (e : Entry) : Type 0 where
     pub entry : Nth entries k e
     pub layer : isLayer (e .«record») ≡ true
-    pub index : indexOf (e .«record») ≡ i
+    pub index : indexOf (e .«stream_type») (e .«record») ≡ i
 
   -- THE LAYER OF AN INDEX, which is a number of six bits: the last entry that is one. In an accepted loop no index has two, by refusal 8.
   pub record LayerOf (i : ℕ) (e : Entry) : Type 0 where
@@ -42,11 +42,11 @@ module _ (entries : List Entry) where
     pub entry : Entry
     pub layer : LayerOf i entry
 
-  -- Layer i embeds j: it is one of the indices that the layer lists (a base layer, type 15, lists none).
+  -- Layer i embeds j: it is one of the indices that the layer lists (a base layer, type 15, lists none, and an implied layer of type 0x20 lists 0).
   pub record Embeds (i j : ℕ) : Type 0 where
     pub entry : Entry
     pub layer : LayerOf i entry
-    pub listed : member j (named (entry .«record») (entry .embedded)) ≡ true
+    pub listed : member j (named (entry .«stream_type») (entry .«record») (entry .embedded)) ≡ true
     pub six-bits : j < 64
 
   -- THE LAYERS of the entries: bit i of `present` is 1 exactly where they have a layer of index i, and bit j of `embedded` at i exactly

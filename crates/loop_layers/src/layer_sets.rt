@@ -32,11 +32,17 @@ pub fn no_layers() -> Layers
 
 // One entry more among the layers: what its record names is put at its index, and the answer is the set of the indices that are present with its own.
 // A stream that is no layer adds nothing.
-pub fn add_layer(record: Record, names: u64, present: u64, embedded: &mut [u64; 64]) -> u64
-    ensures { λ r. ⌜ r ≡ added present (slotOf «record») ⌝ }
-    ensures { λ r. ⌜ now (embedded .exit) ≡ putAt (now (embedded .entry)) (slotOf «record») names ⌝ }
+pub fn add_layer(
+    stream_type: u8,
+    record: Record,
+    names: u64,
+    present: u64,
+    embedded: &mut [u64; 64],
+) -> u64
+    ensures { λ r. ⌜ r ≡ added present (slotOf «stream_type» «record») ⌝ }
+    ensures { λ r. ⌜ now (embedded .exit) ≡ putAt (now (embedded .entry)) (slotOf «stream_type» «record») names ⌝ }
 {
-    let index = es_loop::slot_of(record);
+    let index = es_loop::slot_of(stream_type, record);
     if 64 <= index {
         return present;
     }
@@ -45,8 +51,8 @@ pub fn add_layer(record: Record, names: u64, present: u64, embedded: &mut [u64; 
 }
 
 // The layers of a loop that was judged and accepted.
-fn layers_in(reading: Reading, bytes: &[u8]) -> Layers
-    requires { ⌜ verdictOf reading (now bytes) ≡ Verdict.Entries (length (streamsOf reading (now bytes))) ⌝ }
+fn layers_in(reading: Reading, pair: bool, bytes: &[u8]) -> Layers
+    requires { ⌜ verdictOf reading (now bytes) ≡ Verdict.Entries (length (streamsOf reading (now bytes))) pair ⌝ }
     ensures { λ r. ⌜ r ≡ layersOf (map entryOf (streamsOf reading (now (bytes .entry)))) ⌝ }
 {
     let none = no_layers();
@@ -56,9 +62,10 @@ fn layers_in(reading: Reading, bytes: &[u8]) -> Layers
     while at < bytes.len() {
         let left = &bytes[at..];
         let size = es_loop::entry_size(left);
-        let layer = es_loop::read_layer(reading, &left[..size]);
+        let entry = &left[..size];
+        let layer = es_loop::read_layer(reading, pair, entry);
         let record = layer.record;
-        present = add_layer(record, layer.names, present, &mut embedded);
+        present = add_layer(entry[0], record, layer.names, present, &mut embedded);
         at += size;
     }
     Layers { present, embedded }
@@ -69,9 +76,9 @@ pub fn read_layers(reading: Reading, bytes: &[u8]) -> LayersRead
     ensures { λ r. ⌜ r ≡ loopLayers reading (now (bytes .entry)) ⌝ }
 {
     match es_loop::judge(reading, bytes) {
-        Verdict::Entries(_) => LayersRead {
+        Verdict::Entries { count: _, pair } => LayersRead {
             outcome: Outcome::Accepted,
-            layers: layers_in(reading, bytes),
+            layers: layers_in(reading, pair, bytes),
         },
         Verdict::Refused(refusal) => LayersRead {
             outcome: Outcome::Refused(refusal),

@@ -48,20 +48,21 @@ fn with_entry(table: LayerTable, entry: Entry) -> LayerTable
     ensures { λ r. ⌜ r ≡ withEntry table entry ⌝ }
 {
     let record = entry.record;
-    let index = es_loop::slot_of(record);
+    let stream_type = entry.stream_type;
+    let index = es_loop::slot_of(stream_type, record);
     if 64 <= index {
         return table;
     }
     let layers = table.layers;
     let mut embedded = layers.embedded;
     let named = entry.embedded;
-    let names = descriptors::names(record, named);
-    let present = add_layer(record, names, layers.present, &mut embedded);
+    let names = descriptors::names(stream_type, record, named);
+    let present = add_layer(stream_type, record, names, layers.present, &mut embedded);
     let mut pids = table.pids;
     let mut stream_types = table.stream_types;
     let mut channels = table.channels;
     pids[index] = entry.pid;
-    stream_types[index] = entry.stream_type;
+    stream_types[index] = stream_type;
     channels[index] = descriptors::channel(record);
     LayerTable {
         layers: Layers { present, embedded },
@@ -105,8 +106,8 @@ pub fn layers_of(count: usize, entries: [Entry; MOST_ENTRIES]) -> Layers
 }
 
 // The table of them.
-fn table_in(reading: Reading, bytes: &[u8]) -> LayerTable
-    requires { ⌜ verdictOf reading (now bytes) ≡ Verdict.Entries (length (streamsOf reading (now bytes))) ⌝ }
+fn table_in(reading: Reading, pair: bool, bytes: &[u8]) -> LayerTable
+    requires { ⌜ verdictOf reading (now bytes) ≡ Verdict.Entries (length (streamsOf reading (now bytes))) pair ⌝ }
     ensures { λ r. ⌜ r ≡ tableOf (map entryOf (streamsOf reading (now (bytes .entry)))) ⌝ }
 {
     let mut table = no_table();
@@ -114,7 +115,7 @@ fn table_in(reading: Reading, bytes: &[u8]) -> LayerTable
     while at < bytes.len() {
         let left = &bytes[at..];
         let size = es_loop::entry_size(left);
-        let stream = es_loop::read_stream(reading, &left[..size]);
+        let stream = es_loop::read_stream(reading, pair, &left[..size]);
         table = with_entry(table, es_loop::entry_of(stream));
         at += size;
     }
@@ -126,9 +127,9 @@ pub fn read_table(reading: Reading, bytes: &[u8]) -> TableRead
     ensures { λ r. ⌜ r ≡ loopTable reading (now (bytes .entry)) ⌝ }
 {
     match es_loop::judge(reading, bytes) {
-        Verdict::Entries(_) => TableRead {
+        Verdict::Entries { count: _, pair } => TableRead {
             outcome: Outcome::Accepted,
-            table: table_in(reading, bytes),
+            table: table_in(reading, pair, bytes),
         },
         Verdict::Refused(refusal) => TableRead {
             outcome: Outcome::Refused(refusal),

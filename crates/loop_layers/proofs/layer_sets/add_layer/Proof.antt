@@ -18,8 +18,8 @@ slot-of-requires c κs = search needs
 returns : tie.Need-returns
 returns c =
     let a = c .before .before .args in
-    let past : 64 ≤ slotOf (a .«record») = omega (arith, c .before .slot-of .ensures .0, c .if1 .taken) in
-    rw (le-ltb (slotOf (a .«record»)) 64 past) (refl, refl)
+    let past : 64 ≤ slotOf (a .stream-type) (a .«record») = omega (arith, c .before .slot-of .ensures .0, c .if1 .taken) in
+    rw (le-ltb (slotOf (a .stream-type) (a .«record»)) 64 past) (refl, refl)
 
 mul-embedded : tie.Need-mul-embedded
 mul-embedded c = search needs
@@ -34,9 +34,9 @@ returns-2 : tie.Need-returns-2
 returns-2 c =
     let a = c .before .before .before .args in
     let slot = c .before .before .slot-of in
-    let inside : slotOf (a .«record») < 64 = omega (arith, slot .ensures .0, c .before .if1 .left) in (
+    let inside : slotOf (a .stream-type) (a .«record») < 64 = omega (arith, slot .ensures .0, c .before .if1 .left) in (
       c .with .ensures ∙ ap (added (a .present)) (slot .ensures .0),
-      rw (lt-ltb (slotOf (a .«record»)) 64 inside) (ap (λ (i : ℕ). set (a .embedded .now) i (a .names)) (slot .ensures .0)),
+      rw (lt-ltb (slotOf (a .stream-type) (a .«record»)) 64 inside) (ap (λ (i : ℕ). set (a .embedded .now) i (a .names)) (slot .ensures .0)),
     )
 
 pub add-layer-spec : {M : Type 1} → statement M

@@ -1,29 +1,30 @@
 -- `loop_layers::layers_in` meets its contract. The invariant: where the walk stands, and that the layers so far, continued over the entries left, are
 -- those of all.
 -- Assumes nothing.
-use Prim.Native.Nat.{_+_, _-_}
+use Prim.Native.Nat.{ℕ, _+_, _-_}
 use native.Mathlib.Omega.{arith}
 use borrow.Author.Needs.{needs}
-use mathlib.Core.Path.{_≡_, sym, _∙_, ap}
+use mathlib.Core.Path.{_≡_, sym, _∙_, ap, ap₂}
 use lib.ListN.{length}
 use Rattle.sets.specs.Sets.{added}
 use Rattle.descriptors.specs.declared.looking.Named.{Named}
 use Rattle.closure.specs.declared.Layers.{Layers}
 use Rattle.es_loop.specs.declared.entries.Entry.{Entry}
+use Rattle.es_loop.specs.declared.entries.Stream.{Stream}
 use Rattle.es_loop.specs.Entries.{entryOf}
 use Rattle.es_loop.specs.Conditions.{slotOf}
 use Rattle.loop_layers.specs.Layers.{layersOf, putAt}
-use Rattle.loop_layers.proofs.Walked.{Standing, standing-first, leftFrom, streamFrom, turn, none-left, layersWith, layers-next}
+use Rattle.loop_layers.proofs.Walked.{Standing, standing-first, leftFrom, streamFrom, type-there, turn, none-left, layersWith, layers-next}
 use Rattle.loop_layers.proofs.layer_sets.layers_in.Statement.{statement}
 use Rattle.loop_layers.proofs.layer_sets.layers_in.Tie as tie
 
 abbrev Inv-loop : tie.InvT-loop
-Inv-loop reading bytes present₀ embedded₀ at₀ present embedded at =
+Inv-loop reading pair bytes present₀ embedded₀ at₀ present embedded at =
     Standing reading bytes at
     × (layersWith (record { present = present; embedded = embedded }) (leftFrom reading bytes at) ≡ layersOf (leftFrom reading bytes 0))
 
 abbrev μ-loop : tie.MeasureT-loop
-μ-loop reading bytes present₀ embedded₀ at₀ present embedded at = length bytes - at
+μ-loop reading pair bytes present₀ embedded₀ at₀ present embedded at = length bytes - at
 
 no-layers-requires : tie.Need-no-layers-requires Inv-loop μ-loop
 no-layers-requires c κs = search needs
@@ -45,8 +46,8 @@ part-left-end c = search needs
 entry-size-requires : tie.Need-entry-size-requires Inv-loop μ-loop
 entry-size-requires c κs = search needs
 
-slice-aggregate-read-layer : tie.Need-slice-aggregate-read-layer Inv-loop μ-loop
-slice-aggregate-read-layer c =
+slice-aggregate-entry : tie.Need-slice-aggregate-entry Inv-loop μ-loop
+slice-aggregate-entry c =
     let start = c .before .before .before .before .before .before .before .before in
     let a = start .args in
     let loop = c .before .before .before .before .loop in
@@ -63,16 +64,25 @@ read-layer-requires c κs =
     let t = turn (a .reading) (a .bytes .now) (start .pre) (loop .at) (loop .inv .0) (c .before .before .before .loop-test .taken) (size .result) (size .ensures) in
     rw (t .whole-long) (t .large)
 
+shared-slice-read-add-layer : tie.Need-shared-slice-read-add-layer Inv-loop μ-loop
+shared-slice-read-add-layer c =
+    let start = c .before .before .before .before .before .before .before .before .before .before in
+    let a = start .args in
+    let loop = c .before .before .before .before .before .before .loop in
+    let size = c .before .before .before .entry-size in
+    let t = turn (a .reading) (a .bytes .now) (start .pre) (loop .at) (loop .inv .0) (c .before .before .before .before .before .loop-test .taken) (size .result) (size .ensures) in
+    rw (t .whole-long) (omega (arith, t .large))
+
 add-layer-requires : tie.Need-add-layer-requires Inv-loop μ-loop
 add-layer-requires c κs = search needs
 
 add-at : tie.Need-add-at Inv-loop μ-loop
 add-at c =
-    let start = c .before .before .before .before .before .before .before .before .before .before .before in
+    let start = c .before .before .before .before .before .before .before .before .before .before .before .before in
     let a = start .args in
-    let loop = c .before .before .before .before .before .before .before .loop in
-    let size = c .before .before .before .before .entry-size in
-    let t = turn (a .reading) (a .bytes .now) (start .pre) (loop .at) (loop .inv .0) (c .before .before .before .before .before .before .loop-test .taken) (size .result) (size .ensures) in
+    let loop = c .before .before .before .before .before .before .before .before .loop in
+    let size = c .before .before .before .before .before .entry-size in
+    let t = turn (a .reading) (a .bytes .now) (start .pre) (loop .at) (loop .inv .0) (c .before .before .before .before .before .before .before .loop-test .taken) (size .result) (size .ensures) in
     let short = t .short in
     let large = t .large in
     let room = t .room in
@@ -81,11 +91,11 @@ add-at c =
 
 loop-less : tie.Need-loop-less Inv-loop μ-loop
 loop-less c =
-    let start = c .before .before .before .before .before .before .before .before .before .before .before in
+    let start = c .before .before .before .before .before .before .before .before .before .before .before .before in
     let a = start .args in
-    let loop = c .before .before .before .before .before .before .before .loop in
-    let size = c .before .before .before .before .entry-size in
-    let t = turn (a .reading) (a .bytes .now) (start .pre) (loop .at) (loop .inv .0) (c .before .before .before .before .before .before .loop-test .taken) (size .result) (size .ensures) in
+    let loop = c .before .before .before .before .before .before .before .before .loop in
+    let size = c .before .before .before .before .before .entry-size in
+    let t = turn (a .reading) (a .bytes .now) (start .pre) (loop .at) (loop .inv .0) (c .before .before .before .before .before .before .before .loop-test .taken) (size .result) (size .ensures) in
     let short = t .short in
     let large = t .large in
     let room = t .room in
@@ -94,21 +104,23 @@ loop-less c =
 
 loop-again : tie.Need-loop-again Inv-loop μ-loop
 loop-again c =
-    let start = c .before .before .before .before .before .before .before .before .before .before .before in
+    let start = c .before .before .before .before .before .before .before .before .before .before .before .before in
     let a = start .args in
-    let loop = c .before .before .before .before .before .before .before .loop in
-    let size = c .before .before .before .before .entry-size in
-    let t = turn (a .reading) (a .bytes .now) (start .pre) (loop .at) (loop .inv .0) (c .before .before .before .before .before .before .loop-test .taken) (size .result) (size .ensures) in
-    let layer = c .before .before .read-layer in
+    let loop = c .before .before .before .before .before .before .before .before .loop in
+    let size = c .before .before .before .before .before .entry-size in
+    let t = turn (a .reading) (a .bytes .now) (start .pre) (loop .at) (loop .inv .0) (c .before .before .before .before .before .before .before .loop-test .taken) (size .result) (size .ensures) in
+    let layer = c .before .before .before .read-layer in
     let before : Layers = record { present = loop .present; embedded = loop .embedded } in
-    let entry : Entry = entryOf (streamFrom (a .reading) (a .bytes .now) (loop .at) (size .result)) in
+    let stream : Stream = streamFrom (a .reading) (a .bytes .now) (a .pair) (loop .at) (size .result) in
+    let entry : Entry = entryOf stream in
+    let type = type-there (a .reading) (a .bytes .now) (a .pair) (loop .at) (size .result) (λ i. omega (arith, c .before .before .shared-slice-known2 .given i)) in
     let rest = leftFrom (a .reading) (a .bytes .now) (loop .at + size .result) in
     let more = c .add-layer in (
       t .next,
-      layers-next before entry rest (leftFrom (a .reading) (a .bytes .now) 0) (sym (ap (layersWith before) (t .front)) ∙ loop .inv .1) (layer .result .names) (more .result) (more .last .1 .1 .1 .0)
+      layers-next before entry rest (leftFrom (a .reading) (a .bytes .now) 0) (sym (ap (layersWith before) (t .front)) ∙ loop .inv .1) (layer .result .names) (more .result) (more .last .1 .1 .1 .1 .0)
           (ap (λ (n : Named). n .names) (layer .ensures))
-          (more .ensures .0 ∙ ap (λ (n : Named). added (loop .present) (slotOf (n .«record»))) (layer .ensures))
-          (more .ensures .1 ∙ ap (λ (n : Named). putAt (loop .embedded) (slotOf (n .«record»)) (layer .result .names)) (layer .ensures)),
+          (more .ensures .0 ∙ ap₂ (λ (t : ℕ) (n : Named). added (loop .present) (slotOf t (n .«record»))) type (layer .ensures))
+          (more .ensures .1 ∙ ap₂ (λ (t : ℕ) (n : Named). putAt (loop .embedded) (slotOf t (n .«record»)) (layer .result .names)) type (layer .ensures)),
     )
 
 returns : tie.Need-returns Inv-loop μ-loop
@@ -130,8 +142,9 @@ layers-in-spec =
     part-left-start
     part-left-end
     entry-size-requires
-    slice-aggregate-read-layer
+    slice-aggregate-entry
     read-layer-requires
+    shared-slice-read-add-layer
     add-layer-requires
     add-at
     loop-less

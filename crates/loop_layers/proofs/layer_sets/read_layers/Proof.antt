@@ -16,13 +16,13 @@ use Rattle.loop_layers.proofs.layer_sets.read_layers.Tie as tie
 judge-requires : tie.Need-judge-requires
 judge-requires c κs = search needs
 
-enum-told : tie.Need-enum-told
-enum-told c = search needs
+enum-known-pair : tie.Need-enum-known-pair
+enum-known-pair c = search needs
 
 layers-in-requires : tie.Need-layers-in-requires
 layers-in-requires c κs =
-    let a = c .before .before .before .before .args in
-    counted-verdict (a .reading) (a .bytes .now) (sym (c .before .before .judge .ensures) ∙ c .enum-told .given .1)
+    let a = c .before .before .before .before .before .args in
+    counted-verdict (a .reading) (a .bytes .now) (sym (c .before .before .before .judge .ensures) ∙ c .before .pair .given .1)
 
 enum-known-refusal : tie.Need-enum-known-refusal
 enum-known-refusal c = search needs
@@ -32,8 +32,8 @@ no-layers-requires c κs = search needs
 
 returns : tie.Need-returns
 returns c =
-    let a = c .before .before .before .before .before .args in
-    let verdict = sym (c .before .before .before .judge .ensures) ∙ c .before .enum-told .given .1 in
+    let a = c .before .before .before .before .before .before .args in
+    let verdict = sym (c .before .before .before .before .judge .ensures) ∙ c .before .before .pair .given .1 in
     ap (λ (l : Layers). record { outcome = Accepted; layers = l })
     (c .layers-in .ensures ∙ ap layersOf (sym (entries-read (streamsOf (a .reading) (a .bytes .now)))))
     ∙ ap (λ v. layersIn (answerBy (streamsOf (a .reading) (a .bytes .now)) v)) (sym verdict)
@@ -50,7 +50,7 @@ read-layers-spec =
     tie.close
     (tie.spec
     judge-requires
-    enum-told
+    enum-known-pair
     layers-in-requires
     enum-known-refusal
     no-layers-requires

@@ -16,13 +16,13 @@ use Rattle.loop_layers.proofs.table.read_table.Tie as tie
 judge-requires : tie.Need-judge-requires
 judge-requires c κs = search needs
 
-enum-told : tie.Need-enum-told
-enum-told c = search needs
+enum-known-pair : tie.Need-enum-known-pair
+enum-known-pair c = search needs
 
 table-in-requires : tie.Need-table-in-requires
 table-in-requires c κs =
-    let a = c .before .before .before .before .args in
-    counted-verdict (a .reading) (a .bytes .now) (sym (c .before .before .judge .ensures) ∙ c .enum-told .given .1)
+    let a = c .before .before .before .before .before .args in
+    counted-verdict (a .reading) (a .bytes .now) (sym (c .before .before .before .judge .ensures) ∙ c .before .pair .given .1)
 
 enum-known-refusal : tie.Need-enum-known-refusal
 enum-known-refusal c = search needs
@@ -32,8 +32,8 @@ no-table-requires c κs = search needs
 
 returns : tie.Need-returns
 returns c =
-    let a = c .before .before .before .before .before .args in
-    let verdict = sym (c .before .before .before .judge .ensures) ∙ c .before .enum-told .given .1 in
+    let a = c .before .before .before .before .before .before .args in
+    let verdict = sym (c .before .before .before .before .judge .ensures) ∙ c .before .before .pair .given .1 in
     ap (λ (l : LayerTable). record { outcome = Accepted; table = l })
     (c .table-in .ensures ∙ ap tableOf (sym (entries-read (streamsOf (a .reading) (a .bytes .now)))))
     ∙ ap (λ v. tableIn (answerBy (streamsOf (a .reading) (a .bytes .now)) v)) (sym verdict)
@@ -50,7 +50,7 @@ read-table-spec =
     tie.close
     (tie.spec
     judge-requires
-    enum-told
+    enum-known-pair
     table-in-requires
     enum-known-refusal
     no-table-requires

@@ -15,11 +15,11 @@ use Rattle.loop_layers.proofs.table.table_in.Statement.{statement}
 use Rattle.loop_layers.proofs.table.table_in.Tie as tie
 
 abbrev Inv-loop : tie.InvT-loop
-Inv-loop reading bytes table₀ at₀ table at =
+Inv-loop reading pair bytes table₀ at₀ table at =
     Standing reading bytes at × (tableWith table (leftFrom reading bytes at) ≡ tableOf (leftFrom reading bytes 0))
 
 abbrev μ-loop : tie.MeasureT-loop
-μ-loop reading bytes table₀ at₀ table at = length bytes - at
+μ-loop reading pair bytes table₀ at₀ table at = length bytes - at
 
 no-table-requires : tie.Need-no-table-requires Inv-loop μ-loop
 no-table-requires c κs = search needs
@@ -98,7 +98,7 @@ loop-again c =
     let loop = c .before .before .before .before .before .before .before .loop in
     let size = c .before .before .before .before .entry-size in
     let t = turn (a .reading) (a .bytes .now) (start .pre) (loop .at) (loop .inv .0) (c .before .before .before .before .before .before .loop-test .taken) (size .result) (size .ensures) in
-    let entry : Entry = entryOf (streamFrom (a .reading) (a .bytes .now) (loop .at) (size .result)) in
+    let entry : Entry = entryOf (streamFrom (a .reading) (a .bytes .now) (a .pair) (loop .at) (size .result)) in
     let rest = leftFrom (a .reading) (a .bytes .now) (loop .at + size .result) in (
       t .next,
       table-next (loop .table) (c .with-entry .result) entry rest (leftFrom (a .reading) (a .bytes .now) 0) (sym (ap (tableWith (loop .table)) (t .front)) ∙ loop .inv .1)
