@@ -1,4 +1,5 @@
--- What document 01 says the program prints for loop A and for no layer, and some lines more, each computed from the definitions.
+-- What document 01 says the program prints for loop A and for no layer, and some lines more, each computed from the definitions; and two views without a
+-- hierarchy descriptor (document 02, W-201).
 -- Assumes nothing.
 use mathlib.Core.List.{[], _∷_}
 use mathlib.Core.Path.{_≡_, refl}
@@ -8,6 +9,7 @@ use Rattle.text.specs.Text.{ascii, decimal, decimalWidth, texts}
 use Rattle.vocabulary.specs.declared.refusal.Refusal.the-variants.{LoopTooLong, WrongLength}
 use Rattle.vocabulary.specs.declared.stream_types.Reading.the-variants.{Edition2009, Edition2015}
 use Rattle.es_loop.specs.Examples.{loopA}
+use Rattle.loop_layers.specs.Examples.{twoViews}
 use Rattle.loop_layers.specs.declared.table.LayerTable.{LayerTable}
 use Rattle.listing.specs.Lines.{members, layerLine, lineAt, layersText, acceptedText, refusedText, loopText}
 
@@ -22,6 +24,17 @@ loop-a-in-2009 : loopText Edition2009 loopA
     ≡ ascii "accepted 2\nlayer 0 pid 256 type 27 channel 0 closure 0\nlayer 1 pid 257 type 31 channel 1 closure 0 1\n"
 unfolding loopText size acceptedText layersText lineAt layerLine members texts decimal decimalWidth
 loop-a-in-2009 = refl
+
+-- two views: implied layers are counted and listed, each on channel 0
+two-views : loopText Edition2015 twoViews
+    ≡ ascii "accepted 2\nlayer 0 pid 256 type 27 channel 0 closure 0\nlayer 1 pid 257 type 32 channel 0 closure 0 1\n"
+unfolding loopText size acceptedText layersText lineAt layerLine members texts decimal decimalWidth
+two-views = refl
+
+two-views-in-2009 : loopText Edition2009 twoViews
+    ≡ ascii "accepted 2\nlayer 0 pid 256 type 27 channel 0 closure 0\nlayer 1 pid 257 type 32 channel 0 closure 0 1\n"
+unfolding loopText size acceptedText layersText lineAt layerLine members texts decimal decimalWidth
+two-views-in-2009 = refl
 
 -- the empty loop
 no-layer : loopText Edition2015 [] ≡ ascii "accepted 0\n"
