@@ -102,10 +102,10 @@ pub fn read_stream(reading: Reading, pair: bool, entry: &[u8]) -> Stream
 fn name_in(reading: Reading, stream_type: u8, info: &[u8]) -> Named
     ensures { λ r. ⌜ r ≡ namedBy «stream_type» (seenIn reading «stream_type» (now (info .entry))) ⌝ }
 {
-    if vocabulary::knows(reading, stream_type) {
-        return descriptors::name_layers(reading, info);
+    if !vocabulary::knows(reading, stream_type) {
+        return descriptors::nothing_named();
     }
-    descriptors::nothing_named()
+    descriptors::name_layers(reading, info)
 }
 
 // What makes a whole entry a layer, if anything does, and the set of the layers that it names.

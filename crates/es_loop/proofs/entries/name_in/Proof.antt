@@ -2,6 +2,7 @@
 -- Assumes nothing.
 use mathlib.Core.Path.{_∙_, ap, sym}
 use mathlib.Core.Bool.{Bool, cond}
+use borrow.Author.Tests.{not-true, not-false}
 use Rattle.descriptors.specs.Looking.{seenOf, nothingSeen}
 use Rattle.descriptors.specs.Finding.{namedBy}
 use borrow.Author.Needs.{needs}
@@ -11,25 +12,27 @@ use Rattle.es_loop.proofs.entries.name_in.Tie as tie
 knows-requires : tie.Need-knows-requires
 knows-requires c κs = search needs
 
-name-layers-requires : tie.Need-name-layers-requires
-name-layers-requires c κs = search needs
+nothing-named-requires : tie.Need-nothing-named-requires
+nothing-named-requires c κs = search needs
 
 returns : tie.Need-returns
 returns c =
     let a = c .before .before .before .before .args in
-    c .name-layers .ensures (a .stream-type)
-    ∙ sym (ap (λ (b : Bool). namedBy (a .stream-type) (cond b (seenOf (a .reading) (a .info .now)) nothingSeen)) (sym (c .before .before .knows .ensures) ∙ c .before .if1 .taken))
+    let knows = c .before .before .knows in
+    c .nothing-named .ensures (a .stream-type)
+    ∙ sym (ap (λ (b : Bool). namedBy (a .stream-type) (cond b (seenOf (a .reading) (a .info .now)) nothingSeen)) (sym (knows .ensures) ∙ not-true (knows .result) (c .before .if1 .taken)))
 
-nothing-named-requires : tie.Need-nothing-named-requires
-nothing-named-requires c κs = search needs
+name-layers-requires : tie.Need-name-layers-requires
+name-layers-requires c κs = search needs
 
 returns-2 : tie.Need-returns-2
 returns-2 c =
     let a = c .before .before .before .before .args in
-    c .nothing-named .ensures (a .stream-type)
-    ∙ sym (ap (λ (b : Bool). namedBy (a .stream-type) (cond b (seenOf (a .reading) (a .info .now)) nothingSeen)) (sym (c .before .before .knows .ensures) ∙ c .before .if1 .left))
+    let knows = c .before .before .knows in
+    c .name-layers .ensures (a .stream-type)
+    ∙ sym (ap (λ (b : Bool). namedBy (a .stream-type) (cond b (seenOf (a .reading) (a .info .now)) nothingSeen)) (sym (knows .ensures) ∙ not-false (knows .result) (c .before .if1 .left)))
 
 pub name-in-spec : {M : Type 1} → statement M
 name-in-spec =
     tie.close
-    (tie.spec knows-requires name-layers-requires returns nothing-named-requires returns-2)
+    (tie.spec knows-requires nothing-named-requires returns name-layers-requires returns-2)
