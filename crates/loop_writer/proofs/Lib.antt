@@ -1,4 +1,5 @@
 pub mod Entries
+pub mod Pairs
 pub mod Writes
 pub mod Answers
 pub mod Weights

@@ -10,22 +10,29 @@ use lib.Dec.{eqb, ltb}
 use lib.ListN.{length, drop, getD, take}
 use Rattle.combinators.specs.Below.{some-at, some-which}
 use Rattle.combinators.specs.Bools.{both-left, both-right, either-left, either-right, apart, both-ways, false-unless}
-use Rattle.combinators.specs.Lists.{Nth, here, nth-inside, nth-getD, getD-nth, getD-map, any, any-true, any-false, any-which, handled}
+use Rattle.combinators.specs.Lists.{Nth, here, nth-inside, nth-getD, getD-nth, nth-map, nth-of-map, getD-map, any, any-true, any-false, any-which, handled}
 use Rattle.combinators.specs.Lowest.{Lowest, lowestNumber, earliestPlace, lowest-number, earliest-place, lowest-is}
 use Rattle.syntax.specs.Table.{fits}
 use Rattle.syntax.proofs.Laws.{fits-fit, fit-fits}
 use Rattle.vocabulary.specs.declared.stream_types.Reading.the-variants.{Edition2015}
 use Rattle.vocabulary.specs.StreamTypes.{known}
+use Rattle.descriptors.specs.declared.«record».Record.{Record}
+use Rattle.descriptors.specs.declared.«record».Record.the-variants.{NoRecord, Hierarchy, Extension, Implied}
 use Rattle.descriptors.specs.Records.{isLayer, indexOf}
+use Rattle.implied.specs.Rule.{Shown, isView, given as given-by}
+use Rattle.implied.specs.Marking.{isDescribed}
+use Rattle.implied.specs.Meaning.{OnlyOne}
+use Rattle.implied.proofs.Meant.{pair-meant, pair-only}
 use Rattle.judging.specs.Judging.{sameIndex, typeNotAllowed, wrongFlags, wrongEmbedded}
+use Rattle.judging.specs.Meaning.{hasDescriptor}
 use Rattle.judging.proofs.Meant.{refusal-6, refusal-7, refusal-9}
 use Rattle.es_loop.specs.declared.entries.Entry.{Entry}
 use Rattle.es_loop.specs.declared.entries.Stream.{Stream}
-use Rattle.es_loop.specs.Entries.{noStream, blankEntry}
-use Rattle.es_loop.specs.Conditions.{refusalOf, streamAt, pidAt, recordAt, repeatedPid, repeatedIndex, conditions, applies}
+use Rattle.es_loop.specs.Entries.{noStream, blankEntry, shownOf}
+use Rattle.es_loop.specs.Conditions.{refusalOf, streamAt, pidAt, repeatedPid, repeatedIndex, conditions, applies}
 use Rattle.syntax.specs.Filled.{Filled, valuesIn, tooWideIn}
 use Rattle.loop_writer.specs.Layout.{entryTables, loopBytes, tooWide}
-use Rattle.loop_writer.specs.Verdict.{streamFor, appliesTo}
+use Rattle.loop_writer.specs.Verdict.{streamFor, appliesTo, pairFor, givenTo}
 use Rattle.es_loop.proofs.Meant.{named-refusal}
 use Rattle.vocabulary.specs.Refusals.{numberOf, placeOf}
 use Rattle.vocabulary.specs.declared.refusal.Refusal.{Refusal}
@@ -33,7 +40,7 @@ use Rattle.loop_writer.specs.declared.writer.Written.{Written}
 use Rattle.loop_writer.specs.declared.writer.Written.the-variants.{Bytes, Refused}
 use Rattle.loop_writer.proofs.Writes.{bytes-meant, bytes-only}
 use Rattle.loop_writer.specs.Writing.{answer, contentAfter}
-use Rattle.loop_writer.specs.Meaning.{SomeTooWide, too-wide-at, EachFits, Condition, pid-seen, type-wrong, flags-wrong, index-held, embedded-wrong, Answers, too-wide, too-many, too-long, refuses, no-room, accepts}
+use Rattle.loop_writer.specs.Meaning.{SomeTooWide, too-wide-at, EachFits, OnlyView, ImpliedViews, Condition, pid-seen, type-wrong, mark-not-given, mark-missing, flags-wrong, index-held, embedded-wrong, Answers, too-wide, too-many, too-long, refuses, no-room, accepts}
 
 module _ (es : List Entry) where
   -- 25
@@ -62,25 +69,92 @@ module _ (es : List Entry) where
   abbrev given : List Stream
   given = map streamFor es
 
+  abbrev shown : List Shown
+  shown = map shownOf given
+
   at : {k : ℕ} {e : Entry} → Nth es k e → streamAt given k ≡ streamFor e
   at n = getD-map streamFor noStream n
 
-  record-of : {k : ℕ} {e : Entry} → Nth es k e → recordAt given k ≡ e .«record»
-  record-of n = ap (λ (s : Stream). s .seen .«record») (at n)
+  abbrev indexSame : Stream → Stream → Bool
+  indexSame s s′ = sameIndex (s .«stream_type») (s .seen .«record») (s′ .«stream_type») (s′ .seen .«record»)
+
+  -- the two views: what the rule looks at of an entry is what the meaning says of it
+  shown-at : {k : ℕ} {e : Entry} → Nth es k e → Nth shown k (shownOf (streamFor e))
+  shown-at n = nth-map shownOf (nth-map streamFor n)
+
+  which-entry : {k : ℕ} {s : Shown} → Nth shown k s → (e : Entry) × Nth es k e × (shownOf (streamFor e) ≡ s)
+  which-entry n =
+      let stream = nth-of-map shownOf given n in
+      let entry = nth-of-map streamFor es (stream .1) in
+      (entry .0, entry .1, ap shownOf (entry .2) ∙ stream .2)
+
+  only-shown : {t : ℕ} → OnlyView es t → OnlyOne t shown
+  only-shown {t} only =
+      record {
+        place = only .place;
+        entry = shownOf (streamFor (only .entry));
+        stands = shown-at (only .stands);
+        type = only .type;
+        alone = alone-there;
+        plain = undescribed (only .entry .«record») refl;
+      }
+    where
+      alone-there : (j : ℕ) (other : Shown) → Nth shown j other → other .type ≡ t → j ≡ only .place
+      alone-there j other n p = let w = which-entry n in only .alone j (w .0) (w .1) (ap (λ (x : Shown). x .type) (w .2) ∙ p)
+
+      undescribed : (r : Record) → only .entry .«record» ≡ r → isDescribed (only .entry .«record») ≡ false
+      undescribed NoRecord p = ap isDescribed p
+      undescribed (Hierarchy h) p = absurd (only .plain h p)
+      undescribed (Extension x) p = ap isDescribed p
+      undescribed Implied p = ap isDescribed p
+
+  shown-only : {t : ℕ} → OnlyOne t shown → OnlyView es t
+  shown-only {t} only =
+      let w = which-entry (only .stands) in
+      record {
+        place = only .place;
+        entry = w .0;
+        stands = w .1;
+        type = ap (λ (x : Shown). x .type) (w .2) ∙ only .type;
+        alone = λ j other n p. only .alone j (shownOf (streamFor other)) (shown-at n) p;
+        plain = λ h p. both-ways (ap isDescribed p) (ap (λ (x : Shown). x .described) (w .2) ∙ only .plain);
+      }
+
+  pub views-meant : pairFor es ≡ true → ImpliedViews es
+  views-meant t = let pair = pair-meant shown t in record { first = shown-only (pair .first); second = shown-only (pair .second) }
+
+  pub views-only : ImpliedViews es → pairFor es ≡ true
+  views-only views = pair-only (record { first = only-shown (views .first); second = only-shown (views .second) })
+
+  abbrev six : Stream → Bool
+  six s = typeNotAllowed (given-by (pairFor es) (s .«stream_type»)) (s .«stream_type») (s .seen .«record»)
+
+  -- of a descriptor what is given says nothing
+  unmarked : (isGiven : Bool) (t : ℕ) (r : Record) → hasDescriptor r ≡ true → typeNotAllowed isGiven t r ≡ typeNotAllowed false t r
+  unmarked isGiven t NoRecord d = apart d
+  unmarked isGiven t (Hierarchy h) d = refl
+  unmarked isGiven t (Extension x) d = refl
+  unmarked isGiven t Implied d = apart d
 
   tested : {n k : ℕ} → Condition es n k → appliesTo es n k ≡ true
   tested (pid-seen {j} {k} h n m p) =
       (some-at (λ j. eqb (pidAt given j) (pidAt given k)) k j h
       (eq-eqb (pidAt given j) (pidAt given k) (ap (λ (s : Stream). s .pid) (at n) ∙ p ∙ sym (ap (λ (s : Stream). s .pid) (at m)))))
-  tested (type-wrong {k} {e} n w) =
-      (ap (λ (s : Stream). typeNotAllowed (s .«stream_type») (s .seen .«record»)) (at n) ∙ (refusal-6 (e .«stream_type») (e .«record»)) .1 w)
+  tested (type-wrong {k} {e} n d w) =
+      (ap six (at n) ∙ unmarked (givenTo (pairFor es) e) (e .«stream_type») (e .«record») d ∙ (refusal-6 false (e .«stream_type») (e .«record»)) .1 w)
+  tested (mark-not-given {k} {e} n p none) =
+      ap six (at n) ∙ ap (typeNotAllowed (givenTo (pairFor es) e) (e .«stream_type»)) p
+      ∙ ap not (false-unless (givenTo (pairFor es) e) (λ t. none (views-meant (both-right (isView (e .«stream_type»)) (pairFor es) t)) (both-left (isView (e .«stream_type»)) (pairFor es) t)))
+  tested (mark-missing {k} {e} n p views view) =
+      ap six (at n) ∙ ap (typeNotAllowed (givenTo (pairFor es) e) (e .«stream_type»)) p ∙ rw (view, views-only views)
   tested (flags-wrong {k} {e} n w) =
       (ap (λ (s : Stream). wrongFlags (s .seen .«record»)) (at n) ∙ (refusal-7 (e .«record»)) .1 w)
   tested (index-held {j} {k} {e} {e′} h n m l l′ p) =
-      (some-at (λ j. sameIndex (recordAt given j) (recordAt given k)) k j h
-      (ap₂ sameIndex (record-of n) (record-of m) ∙ rw (l, l′, eq-eqb (indexOf (e .«record»)) (indexOf (e′ .«record»)) p)))
+      (some-at (λ j. indexSame (streamAt given j) (streamAt given k)) k j h
+      (ap₂ indexSame (at n) (at m) ∙ rw (l, l′, eq-eqb (indexOf (e .«stream_type») (e .«record»)) (indexOf (e′ .«stream_type») (e′ .«record»)) p)))
   tested (embedded-wrong {k} {e} n w) =
-      (ap (λ (s : Stream). wrongEmbedded (s .seen .«record») (s .seen .embedded)) (at n) ∙ (refusal-9 (e .«record») (e .embedded)) .1 w)
+      (ap (λ (s : Stream). wrongEmbedded (s .«stream_type») (s .seen .«record») (s .seen .embedded)) (at n)
+      ∙ (refusal-9 (e .«stream_type») (e .«record») (e .embedded)) .1 w)
 
   module _ (k : ℕ) (h : k < length es) where
     abbrev e : Entry
@@ -98,19 +172,28 @@ module _ (es : List Entry) where
 
     held : repeatedIndex given k ≡ true → Condition es 8 k
     held t =
-        let w = some-which (λ j. sameIndex (recordAt given j) (recordAt given k)) k t in
+        let w = some-which (λ j. indexSame (streamAt given j) (streamAt given k)) k t in
         let x : Entry = getD es (w .0) blankEntry in
         let m : Nth es (w .0) x = getD-nth es (w .0) blankEntry (omega (arith, w .1)) in
-        let same : sameIndex (x .«record») (e .«record») ≡ true = sym (ap₂ sameIndex (record-of m) (record-of n)) ∙ w .2 in
+        let same : indexSame (streamFor x) (streamFor e) ≡ true = sym (ap₂ indexSame (at m) (at n)) ∙ w .2 in
         let a : Bool = isLayer (x .«record») in
         let b : Bool = isLayer (e .«record») in
-        let i : Bool = eqb (indexOf (x .«record»)) (indexOf (e .«record»)) in
+        let i : Bool = eqb (indexOf (x .«stream_type») (x .«record»)) (indexOf (e .«stream_type») (e .«record»)) in
         let layers : (a && b) ≡ true = both-left (a && b) i same in
-        index-held (w .1) m n (both-left a b layers) (both-right a b layers) (eqb-true (indexOf (x .«record»)) (indexOf (e .«record»)) (both-right (a && b) i same))
+        index-held (w .1) m n (both-left a b layers) (both-right a b layers) (eqb-true (indexOf (x .«stream_type») (x .«record»)) (indexOf (e .«stream_type») (e .«record»)) (both-right (a && b) i same))
+
+    -- 6 by the record: a descriptor is judged, a mark has to be given, and where there is neither none may be
+    by-record : (r : Record) → e .«record» ≡ r → typeNotAllowed (givenTo (pairFor es) e) (e .«stream_type») r ≡ true → Condition es 6 k
+    by-record NoRecord p t =
+        mark-missing n p (views-meant (both-right (isView (e .«stream_type»)) (pairFor es) t)) (both-left (isView (e .«stream_type»)) (pairFor es) t)
+    by-record (Hierarchy h) p t = type-wrong n (ap hasDescriptor p) (rw p ((refusal-6 false (e .«stream_type») (Hierarchy h)) .0 t))
+    by-record (Extension x) p t = type-wrong n (ap hasDescriptor p) (rw p ((refusal-6 false (e .«stream_type») (Extension x)) .0 t))
+    by-record Implied p t =
+        mark-not-given n p (λ views view. both-ways {b = givenTo (pairFor es) e} (rw (view, views-only views)) (not-true (givenTo (pairFor es) e) t))
 
     named : (number : ℕ) → applies given number k ≡ true → Condition es number k
     named number t =
-        handled (λ m. Condition es m k) (conditions (repeatedPid given k) (repeatedIndex given k) (streamFor e)) (
+        handled (λ m. Condition es m k) (conditions (givenTo (pairFor es) e) (repeatedPid given k) (repeatedIndex given k) (streamFor e)) (
           apart,
           (
             apart,
@@ -123,13 +206,13 @@ module _ (es : List Entry) where
                   (
                     apart,
                     (
-                      (λ p. type-wrong n ((refusal-6 (e .«stream_type») (e .«record»)) .0 p)),
+                      by-record (e .«record») refl,
                       (
                         (λ p. flags-wrong n ((refusal-7 (e .«record»)) .0 p)),
                         (
                           held,
                           (
-                            (λ p. embedded-wrong n ((refusal-9 (e .«record») (e .embedded)) .0 p)),
+                            (λ p. embedded-wrong n ((refusal-9 (e .«stream_type») (e .«record») (e .embedded)) .0 p)),
                             tt,
                           ),
                         ),
@@ -141,18 +224,22 @@ module _ (es : List Entry) where
             ),
           ),
         ) number
-        (sym (ap (λ (s : Stream). getD (conditions (repeatedPid given k) (repeatedIndex given k) s) number false) (at n)) ∙ t)
+        (sym (ap (λ (s : Stream). getD (conditions (given-by (pairFor es) (s .«stream_type»)) (repeatedPid given k) (repeatedIndex given k) s) number false) (at n)) ∙ t)
 
   inside : {m k : ℕ} → Condition es m k → k < length es
   inside (pid-seen h a b p) = nth-inside b
-  inside (type-wrong a w) = nth-inside a
+  inside (type-wrong a d w) = nth-inside a
+  inside (mark-not-given a p none) = nth-inside a
+  inside (mark-missing a p views view) = nth-inside a
   inside (flags-wrong a w) = nth-inside a
   inside (index-held h a b l l′ p) = nth-inside b
   inside (embedded-wrong a w) = nth-inside a
 
   numbers : {m k : ℕ} → Condition es m k → m < 10
   numbers (pid-seen h a b p) = omega arith
-  numbers (type-wrong a w) = omega arith
+  numbers (type-wrong a d w) = omega arith
+  numbers (mark-not-given a p none) = omega arith
+  numbers (mark-missing a p views view) = omega arith
   numbers (flags-wrong a w) = omega arith
   numbers (index-held h a b l l′ p) = omega arith
   numbers (embedded-wrong a w) = omega arith
@@ -160,7 +247,9 @@ module _ (es : List Entry) where
   -- the refusal of a number whose condition holds at an entry has that number, and that entry for its place
   named-place : {m k : ℕ} → Condition es m k → (numberOf (refusalOf m k) ≡ m) × (placeOf (refusalOf m k) ≡ k)
   named-place (pid-seen h a b p) = (refl, refl)
-  named-place (type-wrong a w) = (refl, refl)
+  named-place (type-wrong a d w) = (refl, refl)
+  named-place (mark-not-given a p none) = (refl, refl)
+  named-place (mark-missing a p views view) = (refl, refl)
   named-place (flags-wrong a w) = (refl, refl)
   named-place (index-held h a b l l′ p) = (refl, refl)
   named-place (embedded-wrong a w) = (refl, refl)

@@ -10,13 +10,15 @@ use lib.Seq.{take-all}
 use Rattle.combinators.specs.Lists.{gather-next, getD-nth, getD-map}
 use Rattle.combinators.specs.Lowest.{Lowest}
 use Rattle.descriptors.specs.Records.{indexOf}
+use Rattle.implied.specs.Rule.{given as givenBy}
 use Rattle.es_loop.specs.declared.entries.Entry.{Entry}
+use Rattle.es_loop.specs.declared.entries.Stream.{Stream}
 use Rattle.es_loop.specs.Entries.{noStream}
 use Rattle.es_loop.specs.Conditions.{streamAt, slotOf}
 use Rattle.es_loop.proofs.Passing.{Passed, passed-start, passed-next}
 use Rattle.loop_writer.specs.declared.weighing.Weighed.{Weighed}
 use Rattle.loop_writer.specs.Layout.{entryBytes, loopBytes, tooWide}
-use Rattle.loop_writer.specs.Verdict.{streamFor, appliesTo}
+use Rattle.loop_writer.specs.Verdict.{streamFor, appliesTo, pairFor, givenTo}
 use Rattle.loop_writer.specs.Weighing.{nothingWeighed, weighedNext, Weighs}
 use Rattle.loop_writer.proofs.Entries.{pid-small}
 
@@ -34,9 +36,10 @@ module _ (given : List Entry) where
 
   -- another entry, with the values that the code holds
   module _ (marks held : List Bool) (weighed : Weighed) (i : ℕ) (known : Weighing marks held weighed i) (inside : i < length given)
-      (d e : Entry) (here : getD given i d ≡ e) (fine : tooWide e ≡ false) (index-small : indexOf (e .«record») < 256) where
-    pub weighing-next : (after : Weighed) (marks₂ held₂ : List Bool) → after ≡ weighedNext marks held weighed e i → after .size ≤ 77 * (i + 1)
-        → marks₂ ≡ set marks (e .pid) true → held₂ ≡ set held (slotOf (e .«record»)) true → Weighing marks₂ held₂ after (i + 1)
+      (d e : Entry) (here : getD given i d ≡ e) (fine : tooWide e ≡ false) (isGiven : Bool) (is-given : isGiven ≡ givenTo (pairFor given) e)
+      (index-small : indexOf (e .«stream_type») (e .«record») < 256) where
+    pub weighing-next : (after : Weighed) (marks₂ held₂ : List Bool) → after ≡ weighedNext isGiven marks held weighed e i → after .size ≤ 77 * (i + 1)
+        → marks₂ ≡ set marks (e .pid) true → held₂ ≡ set held (slotOf (e .«stream_type») (e .«record»)) true → Weighing marks₂ held₂ after (i + 1)
     weighing-next after marks₂ held₂ is-after small is-marks is-held =
         record {
           within = omega arith;
@@ -45,7 +48,8 @@ module _ (given : List Entry) where
               ∙ ap (λ (n : ℕ). n + length (entryBytes e)) (known .size)
               ∙ sym (length-append (loopBytes (take i given)) (entryBytes e))
               ∙ sym (ap length (gather-next given d entryBytes i inside ∙ ap (λ (x : Entry). loopBytes (take i given) ++ entryBytes x) here));
-          passed = passed-next (map streamFor given) marks held (weighed .fault) i (known .passed) (streamFor e) stands (pid-small e fine) index-small
+          passed = passed-next (map streamFor given) marks held (weighed .fault) i (known .passed) isGiven (streamFor e) stands
+              (is-given ∙ ap (λ (s : Stream). givenBy (pairFor given) (s .«stream_type»)) (sym stands)) (pid-small e fine) index-small
               (after .fault) marks₂ held₂ (ap (λ (w : Weighed). w .fault) is-after) is-marks is-held;
         }
       where

@@ -13,7 +13,7 @@ use Rattle.syntax.proofs.NamedLaws.{written-by-meant, written-by-only}
 use Rattle.syntax.proofs.FilledLaws.{Proper, AllProper, none, one-then, NoneTooWide, none as all-fit, one-then as fit-then, bytesOfAll, writes-meant, writes-only}
 use Rattle.vocabulary.specs.declared.LayerIndex.{LayerIndex}
 use Rattle.descriptors.specs.declared.«record».Record.{Record}
-use Rattle.descriptors.specs.declared.«record».Record.the-variants.{NoRecord, Hierarchy, Extension}
+use Rattle.descriptors.specs.declared.«record».Record.the-variants.{NoRecord, Hierarchy, Extension, Implied}
 use Rattle.descriptors.specs.Extension.{layerTable}
 use Rattle.descriptors.specs.Records.{recordTables}
 use Rattle.es_loop.specs.declared.entries.Entry.{Entry}
@@ -34,6 +34,7 @@ record-proper (Hierarchy h) layers =
 record-proper (Extension x) layers =
     one-then (record { sound = record { whole = refl; fixed-fit = refl }; lines = refl })
     (one-then (record { sound = record { whole = refl; fixed-fit = refl }; lines = refl }) (layers-proper (take (x .«num_embedded_layers») layers)))
+record-proper Implied layers = none
 
 all-bytes : (fs : List Filled) → bytesOfAll fs ≡ gather bytesIn fs
 all-bytes [] = refl

@@ -1,11 +1,13 @@
--- Document 01's loop A, written.
+-- Document 01's loop A, and two views with the implied mark, written.
 -- Assumes nothing.
+use Prim.Native.Nat.{ℕ}
 use mathlib.Core.Path.{_≡_, refl}
 use mathlib.Core.Bool.{true, false}
 use mathlib.Core.List.{[], _∷_}
 use Rattle.combinators.specs.Padding.{padTo}
 use Rattle.vocabulary.specs.declared.refusal.Refusal.the-variants.{RepeatedPid, TypeNotAllowed, NoRoom, TooWide}
-use Rattle.descriptors.specs.declared.«record».Record.the-variants.{Hierarchy, Extension}
+use Rattle.descriptors.specs.declared.«record».Record.{Record}
+use Rattle.descriptors.specs.declared.«record».Record.the-variants.{NoRecord, Hierarchy, Extension, Implied}
 use Rattle.descriptors.specs.Extension.{noLayer}
 use Rattle.es_loop.specs.declared.entries.Entry.{Entry}
 use Rattle.es_loop.specs.Entries.{blankEntry}
@@ -94,3 +96,26 @@ unknown-type = refl
 -- a PID of 14 bits: 25, whatever else is wrong
 wide-pid : answer 0 2 (padTo 201 blankEntry (base ∷ record { «stream_type» = 0x1B; pid = 8192; «record» = base .«record»; embedded = base .embedded } ∷ [])) ≡ Refused TooWide
 wide-pid = refl
+
+-- W-201: two views with the implied mark are written without a descriptor; 6 at the first mark that the rule doesn't give, and at the first that is missing
+abbrev view : ℕ → ℕ → Record → Entry
+view t pid r = record { «stream_type» = t; pid = pid; «record» = r; embedded = padTo 63 noLayer [] }
+
+pair-bytes : loopBytes (view 0x1B 256 Implied ∷ view 0x20 257 Implied ∷ [])
+    ≡ 0x1B ∷ 0xE1 ∷ 0x00 ∷ 0xF0 ∷ 0x00 ∷ 0x20 ∷ 0xE1 ∷ 0x01 ∷ 0xF0 ∷ 0x00 ∷ []
+pair-bytes = refl
+
+pair-written : answer 10 2 (padTo 201 blankEntry (view 0x1B 256 Implied ∷ view 0x20 257 Implied ∷ [])) ≡ Bytes 10
+pair-written = refl
+
+mark-alone : answer 1008 1 (padTo 201 blankEntry (view 0x1B 256 Implied ∷ [])) ≡ Refused (TypeNotAllowed 0)
+mark-alone = refl
+
+mark-beside-a-descriptor : answer 1008 2 (padTo 201 blankEntry (base ∷ view 0x20 257 Implied ∷ [])) ≡ Refused (TypeNotAllowed 1)
+mark-beside-a-descriptor = refl
+
+mark-missing : answer 1008 2 (padTo 201 blankEntry (view 0x1B 256 Implied ∷ view 0x20 257 NoRecord ∷ [])) ≡ Refused (TypeNotAllowed 1)
+mark-missing = refl
+
+both-missing : answer 1008 2 (padTo 201 blankEntry (view 0x20 257 NoRecord ∷ view 0x1B 256 NoRecord ∷ [])) ≡ Refused (TypeNotAllowed 0)
+both-missing = refl

@@ -1,9 +1,9 @@
--- WHAT WRITING A LOOP MEANS, in the words of document 01: the bytes, the condition of each number at an entry, and the answer with what the buffer then
+-- WHAT WRITING A LOOP MEANS, in the words of document 01 and of W-201: the bytes, the condition of each number at an entry, and the answer with what the buffer then
 -- holds. proofs/Meant.antt has the law that joins this to what is computed: the computed answer has this meaning, and no other answer has it.
 -- Assumes nothing.
 use Prim.Native.Nat.{ℕ, _≤_, _<_}
 use mathlib.Core.Path.{_≡_}
-use mathlib.Core.Bool.{true}
+use mathlib.Core.Bool.{true, false}
 use mathlib.Core.List.{List, [], _∷_, _++_}
 use lib.ListN.{length, take, drop}
 use Rattle.combinators.specs.Lists.{Nth}
@@ -13,14 +13,18 @@ use Rattle.syntax.specs.Filled.{Filled, valuesIn, Writes}
 use Rattle.vocabulary.specs.declared.refusal.Refusal.{Refusal}
 use Rattle.vocabulary.specs.declared.refusal.Refusal.the-variants.{LoopTooLong, NoRoom, TooWide}
 use Rattle.vocabulary.specs.Refusals.{numberOf, placeOf}
+use Rattle.descriptors.specs.declared.hierarchy.HierarchyRecord.{HierarchyRecord}
+use Rattle.descriptors.specs.declared.«record».Record.the-variants.{NoRecord, Hierarchy, Implied}
 use Rattle.descriptors.specs.Records.{isLayer, indexOf, recordTables}
-use Rattle.judging.specs.Meaning.{TypeNotAllowed, WrongFlags, WrongEmbedded}
+use Rattle.implied.specs.Rule.{isView}
+use Rattle.judging.specs.Meaning.{hasDescriptor, TypeNotAllowed, WrongFlags, WrongEmbedded}
 use Rattle.es_loop.specs.declared.entries.Entry.{Entry}
 use Rattle.loop_writer.specs.Layout.{entryHeadTable, entryTables}
 use Rattle.loop_writer.specs.declared.writer.Written.{Written}
 use Rattle.loop_writer.specs.declared.writer.Written.the-variants.{Bytes, Refused}
 
--- THE BYTES. An entry: its head, in which ES_info_length counts the descriptor bytes, and the descriptor, if any.
+-- THE BYTES. An entry: its head, in which ES_info_length counts the descriptor bytes, and the descriptor, if any: 'the writer writes no
+-- descriptor for these implied layers'.
 pub data WritesEntry (e : Entry) : List ℕ → Type 0 where
   head-then : {head info : List ℕ} → (let table : Filled = entryHeadTable (e .«stream_type») (e .pid) (length info) in WrittenBy (table .table) (table .given) head)
       → Writes (recordTables (e .«record») (e .embedded)) info → WritesEntry e (head ++ info)
@@ -37,20 +41,37 @@ pub data SomeTooWide (entries : List Entry) : Type 0 where
 abbrev pub EachFits : List Entry → Type 0
 EachFits entries = (k i : ℕ) (e : Entry) (f : Filled) → Nth entries k e → Nth (entryTables e) i f → Fit (f .table) (valuesIn f)
 
+-- W-201: 'exactly one' entry of this type, and it has no hierarchy descriptor.
+pub record OnlyView (entries : List Entry) (t : ℕ) : Type 0 where
+  pub place : ℕ
+  pub entry : Entry
+  pub stands : Nth entries place entry
+  pub type : entry .«stream_type» ≡ t
+  pub alone : (j : ℕ) (other : Entry) → Nth entries j other → other .«stream_type» ≡ t → j ≡ place
+  pub plain : (h : HierarchyRecord) → entry .«record» ≡ Hierarchy h → ⊥
+
+-- 'When a loop holds exactly one 0x1B and exactly one 0x20 and neither has a hierarchy descriptor'
+pub record ImpliedViews (entries : List Entry) : Type 0 where
+  pub first : OnlyView entries 0x1B
+  pub second : OnlyView entries 0x20
+
 -- The table 'Refusal numbers', 3 and 6 to 9: the condition of each number, and the entry that is its place.
 module _ (entries : List Entry) where
   pub data Condition : ℕ → ℕ → Type 0 where
     -- 3: a PID seen in an earlier entry
     pid-seen : {j k : ℕ} {e e′ : Entry} → j < k → Nth entries j e → Nth entries k e′ → e .pid ≡ e′ .pid → Condition 3 k
     -- 6: type not allowed on this stream, or an extension on 0x1B, 0x1F, 0x20; also a record on a stream type the 2015 reading doesn't know
-    type-wrong : {k : ℕ} {e : Entry} → Nth entries k e → TypeNotAllowed (e .«stream_type») (e .«record») → Condition 6 k
+    type-wrong : {k : ℕ} {e : Entry} → Nth entries k e → hasDescriptor (e .«record») ≡ true → TypeNotAllowed false (e .«stream_type») (e .«record») → Condition 6 k
+    -- also an 'entry whose implied mark isn't what this rule gives': a mark where it gives none, and none where it gives one
+    mark-not-given : {k : ℕ} {e : Entry} → Nth entries k e → e .«record» ≡ Implied → (ImpliedViews entries → isView (e .«stream_type») ≡ true → ⊥) → Condition 6 k
+    mark-missing : {k : ℕ} {e : Entry} → Nth entries k e → e .«record» ≡ NoRecord → ImpliedViews entries → isView (e .«stream_type») ≡ true → Condition 6 k
     -- 7: type 9 with a flag at 0, or more than one flag at 0 and type not 8
     flags-wrong : {k : ℕ} {e : Entry} → Nth entries k e → WrongFlags (e .«record») → Condition 7 k
-    -- 8: a layer index held by an earlier layer
+    -- 8: a layer index held by an earlier layer, 'also when an implied index meets a written one, at the later entry'
     index-held : {j k : ℕ} {e e′ : Entry} → j < k → Nth entries j e → Nth entries k e′ → isLayer (e .«record») ≡ true → isLayer (e′ .«record») ≡ true
-        → indexOf (e .«record») ≡ indexOf (e′ .«record») → Condition 8 k
+        → indexOf (e .«stream_type») (e .«record») ≡ indexOf (e′ .«stream_type») (e′ .«record») → Condition 8 k
     -- 9: an embedded index not below the layer's own, or listed twice
-    embedded-wrong : {k : ℕ} {e : Entry} → Nth entries k e → WrongEmbedded (e .«record») (e .embedded) → Condition 9 k
+    embedded-wrong : {k : ℕ} {e : Entry} → Nth entries k e → WrongEmbedded (e .«stream_type») (e .«record») (e .embedded) → Condition 9 k
 
 -- The answer, and what the buffer then holds, where the entries are the first `count` of the array: on a refusal what it held, and on acceptance the
 -- bytes, and beyond them what it held.

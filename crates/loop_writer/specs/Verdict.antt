@@ -1,11 +1,14 @@
 -- WHICH NUMBERS APPLY to entries that are to be written, and at which of them: as reading judges. Of the numbers that reading uses, 2, 4 and 5 apply to
--- no entry that is to be written.
+-- no entry that is to be written. The rule of W-201 is that of reading: what it gives follows from the types of all entries and from the hierarchy descriptors
+-- that are to be written, and 6 applies to an entry whose mark isn't that.
 -- Assumes nothing.
 use Prim.Native.Nat.{ℕ}
 use mathlib.Core.Bool.{Bool, true, false}
 use mathlib.Core.List.{List, map}
 use Rattle.es_loop.specs.declared.entries.Entry.{Entry}
 use Rattle.es_loop.specs.declared.entries.Stream.{Stream}
+use Rattle.implied.specs.Rule.{given}
+use Rattle.es_loop.specs.Entries.{pairOf}
 use Rattle.es_loop.specs.Conditions.{applies}
 
 -- An entry as it is judged: a stream that fits, with its record the first and only one.
@@ -26,3 +29,10 @@ streamFor e =
 
 abbrev pub appliesTo : List Entry → ℕ → ℕ → Bool
 appliesTo entries number k = applies (map streamFor entries) number k
+
+-- W-201: whether two views without a hierarchy descriptor are to be written, and whether the rule gives an entry the implied mark
+abbrev pub pairFor : List Entry → Bool
+pairFor entries = pairOf (map streamFor entries)
+
+abbrev pub givenTo : Bool → Entry → Bool
+givenTo pair e = given pair (e .«stream_type»)

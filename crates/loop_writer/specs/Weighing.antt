@@ -20,12 +20,12 @@ use Rattle.loop_writer.specs.Writing.{inRoom}
 abbrev pub nothingWeighed : Weighed
 nothingWeighed = record { size = 0; fault = record { number = 10; place = 0 } }
 
--- one entry more, with marks for the PIDs and the layer indices before it
-abbrev pub weighedNext : List Bool → List Bool → Weighed → Entry → ℕ → Weighed
-weighedNext pids indices so-far entry place =
+-- one entry more, given whether the rule of W-201 gives it the implied mark, with marks for the PIDs and the layer indices before it
+abbrev pub weighedNext : Bool → List Bool → List Bool → Weighed → Entry → ℕ → Weighed
+weighedNext isGiven pids indices so-far entry place =
     record {
       size = so-far .size + length (entryBytes entry);
-      fault = lowerOf (so-far .fault) (faultAt pids indices (streamFor entry)) place;
+      fault = lowerOf (so-far .fault) (faultAt isGiven pids indices (streamFor entry)) place;
     }
 
 -- what entries come to

@@ -5,8 +5,12 @@ ghost use Prim.Native.Nat.{_≤_, _<_};
 ghost use lib.ListN.{length};
 ghost use Rattle.buffers.specs.Buffers.{Laid};
 ghost use Rattle.syntax.specs.Filled.{bytesIn};
+ghost use Rattle.implied.specs.Walking.{viewNext};
+ghost use Rattle.es_loop.specs.Entries.{shownOf};
 ghost use Rattle.loop_writer.specs.Layout.{entryHeadTable, entryBytes, tooWide};
+ghost use Rattle.loop_writer.specs.Verdict.{streamFor};
 use es_loop::Entry;
+use implied::Views;
 
 // Reserved bits are 1: 224 is three of them before five bits, 240 four before four.
 fn entry_head(stream_type: u8, pid: u16, info_length: u16) -> [u8; 5]
@@ -32,6 +36,14 @@ pub fn too_wide(entry: Entry) -> bool
         return true;
     }
     descriptors::record_too_wide(record, embedded)
+}
+
+// One entry more, as the rule of the two views looks at it.
+pub fn view_of(views: Views, entry: Entry) -> Views
+    ensures { λ r. ⌜ r ≡ viewNext views (shownOf (streamFor entry)) ⌝ }
+{
+    let record = entry.record;
+    implied::view_next(views, entry.stream_type, implied::is_described(record))
 }
 
 pub fn entry_size(entry: Entry) -> usize

@@ -9,6 +9,7 @@ mod weighing;
 mod writer;
 
 pub use entry::put_entry;
+pub use entry::view_of;
 pub use weighing::Weighed;
 pub use weighing::nothing_weighed;
 pub use weighing::weigh_next;

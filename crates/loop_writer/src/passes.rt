@@ -1,4 +1,4 @@
-// The passes over the entries of an array that are to be written: whether a value is too wide, what they come to, and their bytes.
+// The passes over the entries of an array that are to be written: whether a value is too wide, whether layers are implied, what they come to, and their bytes.
 ghost use mathlib.Core.Path.{_≡_};
 ghost use mathlib.Core.Bool.{false};
 ghost use Prim.Native.Nat.{_≤_};
@@ -6,9 +6,11 @@ ghost use lib.ListN.{take};
 ghost use Rattle.combinators.specs.Lists.{any};
 ghost use Rattle.buffers.specs.Buffers.{Laid};
 ghost use Rattle.loop_writer.specs.Layout.{loopBytes, tooWide};
+ghost use Rattle.loop_writer.specs.Verdict.{pairFor};
 ghost use Rattle.loop_writer.specs.Weighing.{Weighs};
 use super::entry::put_entry;
 use super::entry::too_wide;
+use super::entry::view_of;
 use super::weighing::Weighed;
 use super::weighing::nothing_weighed;
 use super::weighing::weigh_next;
@@ -32,9 +34,23 @@ pub fn some_too_wide(count: usize, entries: [Entry; MOST_ENTRIES]) -> bool
     false
 }
 
-// What the first `count` entries come to, none with a value that is too wide.
-pub fn weigh(count: usize, entries: [Entry; MOST_ENTRIES]) -> Weighed
-    requires { ⌜ (count ≤ 201) × (any tooWide (take count entries) ≡ false) ⌝ }
+// Whether the first `count` entries are to have implied layers: two views, and neither with a hierarchy descriptor.
+pub fn implied_pair(count: usize, entries: [Entry; MOST_ENTRIES]) -> bool
+    requires { ⌜ count ≤ 201 ⌝ }
+    ensures { λ r. ⌜ r ≡ pairFor (take count entries) ⌝ }
+{
+    let mut views = implied::no_views();
+    let mut i = 0;
+    while i < count {
+        views = view_of(views, entries[i]);
+        i += 1;
+    }
+    implied::is_pair(views)
+}
+
+// What the first `count` entries come to, none with a value that is too wide, by whether they are to have implied layers.
+pub fn weigh(pair: bool, count: usize, entries: [Entry; MOST_ENTRIES]) -> Weighed
+    requires { ⌜ (count ≤ 201) × (any tooWide (take count entries) ≡ false) × (pair ≡ pairFor (take count entries)) ⌝ }
     ensures { λ r. ⌜ Weighs (take count entries) r ⌝ }
 {
     let mut pids = no_pids();
@@ -42,7 +58,9 @@ pub fn weigh(count: usize, entries: [Entry; MOST_ENTRIES]) -> Weighed
     let mut weighed = nothing_weighed();
     let mut i = 0;
     while i < count {
-        weighed = weigh_next(&mut pids, &mut indices, weighed, entries[i], i);
+        let entry = entries[i];
+        let given = implied::gives(pair, entry.stream_type);
+        weighed = weigh_next(&mut pids, &mut indices, weighed, given, entry, i);
         i += 1;
     }
     weighed

@@ -54,19 +54,20 @@ fn stream_for(entry: Entry) -> Stream
     }
 }
 
-// One entry more, with no value that is too wide: its bytes, its lowest fault, and the marks with its PID and its layer index.
+// One entry more, with no value that is too wide, and whether it is given the implied mark: its bytes, its lowest fault, and the marks with its PID and its layer index.
 pub fn weigh_next(
     pids: &mut [bool; 8192],
     indices: &mut [bool; 257],
     so_far: Weighed,
+    given: bool,
     entry: Entry,
     place: usize,
 ) -> Weighed
     requires { ⌜ (tooWide entry ≡ false) × («so_far» .size ≤ 77 * place) × (place < 201) ⌝ }
-    ensures { λ r. ⌜ (r ≡ weighedNext (now (pids .entry)) (now (indices .entry)) «so_far» entry place) × (r .size ≤ 77 * (place + 1)) × (indexOf (entry .«record») < 256) ⌝ }
-    ensures { λ r. ⌜ (now (pids .exit) ≡ set (now (pids .entry)) (entry .pid) true) × (now (indices .exit) ≡ set (now (indices .entry)) (slotOf (entry .«record»)) true) ⌝ }
+    ensures { λ r. ⌜ (r ≡ weighedNext given (now (pids .entry)) (now (indices .entry)) «so_far» entry place) × (r .size ≤ 77 * (place + 1)) × (indexOf (entry .«stream_type») (entry .«record») < 256) ⌝ }
+    ensures { λ r. ⌜ (now (pids .exit) ≡ set (now (pids .entry)) (entry .pid) true) × (now (indices .exit) ≡ set (now (indices .entry)) (slotOf (entry .«stream_type») (entry .«record»)) true) ⌝ }
 {
     let size = so_far.size + entry_size(entry);
-    let fault = judge_next(pids, indices, so_far.fault, stream_for(entry), place);
+    let fault = judge_next(pids, indices, so_far.fault, given, stream_for(entry), place);
     Weighed { size, fault }
 }

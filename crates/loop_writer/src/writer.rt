@@ -3,6 +3,7 @@ ghost use mathlib.Core.Path.{_≡_};
 ghost use lib.ListN.{length};
 ghost use Rattle.loop_writer.specs.Writing.{answer, content};
 ghost use Rattle.loop_writer.specs.Weighing.{decidedBy};
+use super::passes::implied_pair;
 use super::passes::put_entries;
 use super::passes::some_too_wide;
 use super::passes::weigh;
@@ -50,7 +51,8 @@ pub fn write_loop(count: usize, entries: [Entry; MOST_ENTRIES], out: &mut [u8]) 
     if MOST_ENTRIES < count {
         return Written::Refused(Refusal::LoopTooLong);
     }
-    let answer = decide(weigh(given, entries), out.len());
+    let pair = implied_pair(given, entries);
+    let answer = decide(weigh(pair, given, entries), out.len());
     match answer {
         Written::Refused(refusal) => Written::Refused(refusal),
         Written::Bytes(size) => {

@@ -35,10 +35,11 @@ returns c =
     let size = c .before .before .before .before .before .entry-size in
     let stream = c .before .stream-for in
     let next = c .judge-next in
-    let fault = next .ensures .0 .0 ∙ ap (λ (s : Stream). lowerOf (a .so-far .fault) (faultAt (a .pids .now) (a .indices .now) s) (a .place)) (stream .ensures) in
-    let index : indexOf (a .entry .«record») < 256 = subst (λ (s : Stream). indexOf (s .seen .«record») < 256) (stream .ensures) (next .ensures .0 .1) in (
+    let fault = next .ensures .0 .0 ∙ ap (λ (s : Stream). lowerOf (a .so-far .fault) (faultAt (a .given) (a .pids .now) (a .indices .now) s) (a .place)) (stream .ensures) in
+    let index : indexOf (a .entry .«stream_type») (a .entry .«record») < 256 =
+    subst (λ (s : Stream). indexOf (s .«stream_type») (s .seen .«record») < 256) (stream .ensures) (next .ensures .0 .1) in (
       (ap₂ (λ (n : ℕ) (f : Fault). record { size = a .so-far .size + n; fault = f }) (size .ensures .0) fault, omega (arith, size .ensures .1), index),
-      (next .ensures .1 .0 ∙ ap (λ (s : Stream). set (a .pids .now) (s .pid) true) (stream .ensures), next .ensures .1 .1 ∙ ap (λ (s : Stream). set (a .indices .now) (slotOf (s .seen .«record»)) true) (stream .ensures)),
+      (next .ensures .1 .0 ∙ ap (λ (s : Stream). set (a .pids .now) (s .pid) true) (stream .ensures), next .ensures .1 .1 ∙ ap (λ (s : Stream). set (a .indices .now) (slotOf (s .«stream_type») (s .seen .«record»)) true) (stream .ensures)),
     )
 
 pub weigh-next-spec : {M : Type 1} → statement M

@@ -39,8 +39,11 @@ returns-2 c =
     sym (ap (any tooWide) same) ∙ sym (c .before .before .some-too-wide .ensures) ∙ c .before .if1 .left in
     too-many (a .count) (a .entries) (a .out .now) fine (c .if2 .taken)
 
+implied-pair-requires : tie.Need-implied-pair-requires
+implied-pair-requires c κs = search needs
+
 weigh-requires : tie.Need-weigh-requires
-weigh-requires c κs = (omega arith, sym (c .before .before .some-too-wide .ensures) ∙ c .before .if1 .left)
+weigh-requires c κs = (omega arith, sym (c .before .before .before .some-too-wide .ensures) ∙ c .before .before .if1 .left, c .implied-pair .ensures)
 
 decide-requires : tie.Need-decide-requires
 decide-requires c κs = search needs
@@ -52,16 +55,16 @@ enum-known-answer-2 : tie.Need-enum-known-answer-2
 enum-known-answer-2 c = search needs
 
 put-entries-requires : tie.Need-put-entries-requires
-put-entries-requires c κs = (omega arith, sym (c .before .before .before .before .before .before .before .before .some-too-wide .ensures) ∙ c .before .before .before .before .before .before .before .if1 .left)
+put-entries-requires c κs = (omega arith, sym (c .before .before .before .before .before .before .before .before .before .some-too-wide .ensures) ∙ c .before .before .before .before .before .before .before .before .if1 .left)
 
 returns-3 : tie.Need-returns-3
 returns-3 c =
-    let a = c .before .before .before .before .before .before .before .before .before .before .args in
+    let a = c .before .before .before .before .before .before .before .before .before .before .before .args in
     let long : length (a .entries) ≡ 201 = omega arith in
-    let same : take (c .before .before .before .before .before .before .before .before .lesser .result) (a .entries) ≡ take (a .count) (a .entries) =
-    take-within (a .entries) (a .count) (c .before .before .before .before .before .before .before .before .lesser .result) 201 long (c .before .before .before .before .before .before .before .before .lesser .ensures) in
+    let same : take (c .before .before .before .before .before .before .before .before .before .lesser .result) (a .entries) ≡ take (a .count) (a .entries) =
+    take-within (a .entries) (a .count) (c .before .before .before .before .before .before .before .before .before .lesser .result) 201 long (c .before .before .before .before .before .before .before .before .before .lesser .ensures) in
     let fine : any tooWide (take (a .count) (a .entries)) ≡ false =
-    sym (ap (any tooWide) same) ∙ sym (c .before .before .before .before .before .before .before .some-too-wide .ensures) ∙ c .before .before .before .before .before .before .if1 .left in
+    sym (ap (any tooWide) same) ∙ sym (c .before .before .before .before .before .before .before .before .some-too-wide .ensures) ∙ c .before .before .before .before .before .before .before .if1 .left in
     let weighed = c .before .before .before .before .weigh in
     let weighs : Weighs (take (a .count) (a .entries)) (weighed .result) = subst (λ (l : List Entry). Weighs l (weighed .result)) same (weighed .ensures) in
     let decided = c .before .before .before .decide in
@@ -73,12 +76,12 @@ same-length c = search needs
 
 returns-4 : tie.Need-returns-4
 returns-4 c =
-    let a = c .before .before .before .before .before .before .before .before .before .before .before .before .before .before .args in
+    let a = c .before .before .before .before .before .before .before .before .before .before .before .before .before .before .before .args in
     let long : length (a .entries) ≡ 201 = omega arith in
-    let same : take (c .before .before .before .before .before .before .before .before .before .before .before .before .lesser .result) (a .entries) ≡ take (a .count) (a .entries) =
-    take-within (a .entries) (a .count) (c .before .before .before .before .before .before .before .before .before .before .before .before .lesser .result) 201 long (c .before .before .before .before .before .before .before .before .before .before .before .before .lesser .ensures) in
+    let same : take (c .before .before .before .before .before .before .before .before .before .before .before .before .before .lesser .result) (a .entries) ≡ take (a .count) (a .entries) =
+    take-within (a .entries) (a .count) (c .before .before .before .before .before .before .before .before .before .before .before .before .before .lesser .result) 201 long (c .before .before .before .before .before .before .before .before .before .before .before .before .before .lesser .ensures) in
     let fine : any tooWide (take (a .count) (a .entries)) ≡ false =
-    sym (ap (any tooWide) same) ∙ sym (c .before .before .before .before .before .before .before .before .before .before .before .some-too-wide .ensures) ∙ c .before .before .before .before .before .before .before .before .before .before .if1 .left in
+    sym (ap (any tooWide) same) ∙ sym (c .before .before .before .before .before .before .before .before .before .before .before .before .some-too-wide .ensures) ∙ c .before .before .before .before .before .before .before .before .before .before .before .if1 .left in
     let weighed = c .before .before .before .before .before .before .before .before .weigh in
     let weighs : Weighs (take (a .count) (a .entries)) (weighed .result) = subst (λ (l : List Entry). Weighs l (weighed .result)) same (weighed .ensures) in
     let decided = c .before .before .before .before .before .before .before .decide in
@@ -95,6 +98,7 @@ write-loop-spec =
     some-too-wide-requires
     returns
     returns-2
+    implied-pair-requires
     weigh-requires
     decide-requires
     enum-known-answer
