@@ -16,7 +16,7 @@ use Rattle.es_loop.specs.declared.entries.Entry.{Entry}
 use Rattle.es_loop.specs.declared.entries.Stream.{Stream}
 use Rattle.es_loop.specs.declared.reader.Outcome.the-variants.{Accepted}
 use Rattle.es_loop.specs.declared.reader.LoopRead.{LoopRead}
-use Rattle.es_loop.specs.Entries.{streamOf}
+use Rattle.es_loop.specs.Entries.{streamOf, markedStreams}
 use Rattle.es_loop.specs.Reading.{accepted, loopRead}
 use Rattle.es_loop.specs.Meaning.{too-long, refuses}
 use Rattle.es_loop.specs.Meaning as Loop
@@ -69,7 +69,7 @@ accepts reading bytes = go (answer-meant reading bytes) refl
     go (too-long h) p e = let z : _≡_ {A = ℕ} 0 1 = cc in absurd (omega arith)
     go (refuses short c at-k lower earlier) p e = let z : _≡_ {A = ℕ} 0 1 = cc in absurd (omega arith)
     go (Loop.accepts {entries} short c none) p e =
-        let streams : List Stream = map (streamOf reading) entries in
+        let streams : List Stream = markedStreams (map (streamOf reading) entries) in
         record {
           streams = streams;
           answer = Loop.accepts short c none;

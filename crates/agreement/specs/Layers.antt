@@ -19,7 +19,7 @@ use Rattle.vocabulary.specs.declared.LayerIndex.{LayerIndex}
 use Rattle.vocabulary.specs.declared.stream_types.Reading.the-variants.{Edition2009, Edition2015}
 use Rattle.vocabulary.specs.StreamTypes.{known}
 use Rattle.descriptors.specs.declared.«record».Record.{Record}
-use Rattle.descriptors.specs.declared.«record».Record.the-variants.{NoRecord, Hierarchy, Extension}
+use Rattle.descriptors.specs.declared.«record».Record.the-variants.{NoRecord, Hierarchy, Extension, Implied}
 use Rattle.descriptors.specs.Extension.{noLayer}
 use Rattle.descriptors.specs.Records.{indexOf}
 use Rattle.descriptors.specs.Records as Records
@@ -69,7 +69,7 @@ types-2009 t = (to, from)
 record Alike (e early : Entry) : Type 0 where
   layer : Records.isLayer (e .«record») ≡ true
   still : Records.isLayer (early .«record») ≡ true
-  index : indexOf (early .«record») ≡ indexOf (e .«record»)
+  index : indexOf (early .«stream_type») (early .«record») ≡ indexOf (e .«stream_type») (e .«record»)
   names : embeddedIn early ≡ embeddedIn e
 
 module _ (e : Entry) where
@@ -79,11 +79,13 @@ module _ (e : Entry) where
   by-record NoRecord layers l x = absurd (false≢true l)
   by-record (Hierarchy h) layers l x = record { layer = refl; still = refl; index = refl; names = refl }
   by-record (Extension y) layers l x = absurd (true≢false x)
+  by-record Implied layers l x = record { layer = refl; still = refl; index = refl; names = refl }
 
   was-layer : (r : Record) → Records.isLayer (recordIn2009 r) ≡ true → (Records.isLayer r ≡ true) × (isExtension r ≡ false)
   was-layer NoRecord l = absurd (false≢true l)
   was-layer (Hierarchy h) l = (refl, refl)
   was-layer (Extension x) l = absurd (false≢true l)
+  was-layer Implied l = (refl, refl)
 
   in-2009 : known Edition2009 (e .«stream_type») ≡ true → entryIn2009 e ≡ withRecord e (recordIn2009 (e .«record»)) (e .embedded)
   in-2009 p =
@@ -144,7 +146,7 @@ module _ (bytes : List ℕ) (is-accepted : IsAccepted Edition2015 bytes) where
         layer = record {
           entry = w .1;
           layer = s .alike .layer;
-          index = sym (s .alike .index) ∙ ap (λ (x : Entry). indexOf (x .«record»)) (w .2) ∙ l .index;
+          index = sym (s .alike .index) ∙ ap (λ (x : Entry). indexOf (x .«stream_type») (x .«record»)) (w .2) ∙ l .index;
         };
         type = s .type;
         names = sym (ap embeddedIn (w .2)) ∙ s .alike .names;

@@ -13,7 +13,7 @@ use Rattle.combinators.specs.Lists.{any, gather}
 use Rattle.framing.specs.Pieces.{Item, whole, broken, cut}
 use Rattle.vocabulary.specs.declared.stream_types.Reading.the-variants.{Edition2009, Edition2015}
 use Rattle.descriptors.specs.declared.«record».Record.{Record}
-use Rattle.descriptors.specs.declared.«record».Record.the-variants.{NoRecord, Hierarchy, Extension}
+use Rattle.descriptors.specs.declared.«record».Record.the-variants.{NoRecord, Hierarchy, Extension, Implied}
 use Rattle.descriptors.specs.Hierarchy.{hierarchyOf}
 use Rattle.descriptors.specs.Extension.{extensionOf, embeddedOf}
 use Rattle.descriptors.specs.Looking.{Kind, does-not-fit, skipped, wrong-length, hierarchy, extension, tag4Kind, extensionKind, kindOf, kindsOf, Held, heldIn, isWrongLength, firstRecord}
@@ -76,6 +76,7 @@ abbrev pub isExtension : Record → Bool
 isExtension NoRecord = false
 isExtension (Hierarchy h) = false
 isExtension (Extension x) = true
+isExtension Implied = false
 
 none-held : (kinds : List Kind) → length (gather heldIn kinds) < 1 → gather heldIn (map kindIn2009 kinds) ≡ map heldIn2009 (gather heldIn kinds)
 none-held [] h = refl

@@ -16,7 +16,7 @@ use Rattle.vocabulary.specs.declared.stream_types.Reading.the-variants.{Edition
 use Rattle.vocabulary.specs.StreamTypes.{knownTypes, known}
 use Rattle.descriptors.specs.declared.hierarchy.HierarchyRecord.{HierarchyRecord}
 use Rattle.descriptors.specs.declared.«record».Record.{Record}
-use Rattle.descriptors.specs.declared.«record».Record.the-variants.{NoRecord, Hierarchy, Extension}
+use Rattle.descriptors.specs.declared.«record».Record.the-variants.{NoRecord, Hierarchy, Extension, Implied}
 use Rattle.descriptors.specs.Extension.{noLayer}
 use Rattle.descriptors.specs.Hierarchy.{hierarchyOf}
 use Rattle.es_loop.specs.declared.entries.Entry.{Entry}
@@ -36,11 +36,13 @@ viewUnread h =
       channel = h .channel;
     }
 
--- '2015 reading only (the 2009 reading skips it)', of the extension; an accepted loop has none on a 2009 stream type, by refusal 6
+-- '2015 reading only (the 2009 reading skips it)', of the extension; an accepted loop has none on a 2009 stream type, by refusal 6. 'Both readings do
+-- this', of the implied mark.
 abbrev pub recordIn2009 : Record → Record
 recordIn2009 NoRecord = NoRecord
 recordIn2009 (Hierarchy h) = Hierarchy (viewUnread h)
 recordIn2009 (Extension x) = NoRecord
+recordIn2009 Implied = Implied
 
 -- 'Entries of other types are framed, .. and their descriptors are not looked into.'
 abbrev pub withRecord : Entry → Record → List LayerIndex → Entry

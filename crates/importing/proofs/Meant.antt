@@ -9,7 +9,7 @@ use Rattle.vocabulary.specs.declared.stream_types.Reading.{Reading}
 use Rattle.es_loop.specs.declared.entries.Stream.{Stream}
 use Rattle.es_loop.specs.declared.entries.Entry.{Entry}
 use Rattle.es_loop.specs.declared.reader.LoopRead.{LoopRead}
-use Rattle.es_loop.specs.Entries.{streamOf, entryOf}
+use Rattle.es_loop.specs.Entries.{streamOf, markedStreams, entryOf}
 use Rattle.es_loop.specs.Reading.{accepted, loopRead}
 use Rattle.es_loop.specs.Meaning.{too-long, refuses, accepts}
 use Rattle.es_loop.specs.Meaning as Loop
@@ -54,7 +54,7 @@ module _ (reading : Reading) (bytes : List ℕ) (target : ℕ) (t : Table) (numb
   read-right : {read : LoopRead} → Loop.Answers reading bytes read → Right read
   read-right (too-long h) = loop-refused (too-long h)
   read-right (refuses short c at-k lower earlier) = loop-refused (refuses short c at-k lower earlier)
-  read-right (accepts {entries} short c none) = accepted-right (map (streamOf reading) entries) (accepts short c none)
+  read-right (accepts {entries} short c none) = accepted-right (markedStreams (map (streamOf reading) entries)) (accepts short c none)
 
   computed-right : Right (loopRead reading bytes)
   computed-right = read-right (answer-meant reading bytes)
