@@ -19,7 +19,7 @@ use Rattle.vocabulary.specs.declared.stream_types.Reading.{Reading}
 use Rattle.vocabulary.specs.declared.stream_types.Reading.the-variants.{Edition2009, Edition2015}
 use Rattle.descriptors.specs.declared.extension.ExtensionRecord.{ExtensionRecord}
 use Rattle.descriptors.specs.declared.«record».Record.{Record}
-use Rattle.descriptors.specs.declared.«record».Record.the-variants.{NoRecord, Hierarchy, Extension}
+use Rattle.descriptors.specs.declared.«record».Record.the-variants.{NoRecord, Hierarchy, Extension, Implied}
 use Rattle.descriptors.specs.Looking.{Kind, Held, heldIn}
 use Rattle.descriptors.specs.Meaning.{ShowEach, none, one-then, unfit, a-hierarchy, not-4-long, an-extension, without-its-count, not-as-counted, other-extension, no-extension-tag, extension-in-2009, other-tag}
 use Rattle.descriptors.specs.Records.{isLayer}
@@ -27,12 +27,12 @@ use Rattle.es_loop.specs.declared.entries.Entry.{Entry}
 use Rattle.es_loop.specs.declared.entries.Stream.{Stream}
 use Rattle.es_loop.specs.declared.reader.Outcome.the-variants.{Accepted}
 use Rattle.es_loop.specs.declared.reader.LoopRead.{LoopRead}
-use Rattle.es_loop.specs.Entries.{esInfoLength, streamOf, noStream, entryOf, blankEntry}
+use Rattle.es_loop.specs.Entries.{esInfoLength, streamOf, noStream, pairOf, markedStream, markedStreams, entryOf, blankEntry}
 use Rattle.es_loop.specs.Conditions.{recordAt}
 use Rattle.es_loop.specs.Reading.{accepted as acceptedNow, loopRead}
-use Rattle.es_loop.specs.Meaning.{LayerAt}
+use Rattle.es_loop.specs.Meaning.{RecordAt, LayerAt, written, implied}
 use Rattle.es_loop.specs.Meaning as Loop
-use Rattle.es_loop.proofs.Meant.{broken-last, record-at, entry-case, layer-where, answer-meant, answer-only}
+use Rattle.es_loop.proofs.Meant.{broken-last, record-there, entry-case, layer-where, answer-meant, answer-only}
 use Rattle.loop_layers.specs.Closures.{entriesRead}
 use Rattle.loop_layers.proofs.Meant.{entries-read}
 use Rattle.agreement.specs.Entries.{accepted-in-2009}
@@ -47,6 +47,7 @@ abbrev moreThan8 : Record → Bool
 moreThan8 NoRecord = false
 moreThan8 (Hierarchy h) = false
 moreThan8 (Extension x) = ltb 8 (x .«num_embedded_layers»)
+moreThan8 Implied = false
 
 is-more : {r : Record} → MoreThan8 r → moreThan8 r ≡ true
 is-more (more-than-8 {x} h) = lt-ltb 8 (x .«num_embedded_layers») h
@@ -55,6 +56,7 @@ more-is : (r : Record) → moreThan8 r ≡ true → MoreThan8 r
 more-is NoRecord e = apart e
 more-is (Hierarchy h) e = apart e
 more-is (Extension x) e = more-than-8 (ltb-true 8 (x .«num_embedded_layers») e)
+more-is Implied e = apart e
 
 a-layer : {r : Record} → MoreThan8 r → isLayer r ≡ true
 a-layer (more-than-8 h) = refl
@@ -66,7 +68,7 @@ record Sound (reading : Reading) (bytes : List ℕ) (read : LoopRead) : Type 0 w
   short : length bytes ≤ 1008
   cuts : Cuts 5 esInfoLength bytes items
   nothing-applies : (n k : ℕ) → Loop.Condition reading items n k → ⊥
-  is-read : read ≡ acceptedNow (map (streamOf reading) items)
+  is-read : read ≡ acceptedNow (markedStreams (map (streamOf reading) items))
 
 sound : {reading : Reading} {bytes : List ℕ} {read : LoopRead} → Loop.Answers reading bytes read → read .outcome ≡ Accepted → Sound reading bytes read
 sound (Loop.too-long h) e = let z : _≡_ {A = ℕ} 0 1 = cc in absurd (omega arith)
@@ -78,15 +80,20 @@ sound (Loop.accepts {entries} short cuts no-condition) e =
 
 module _ (reading : Reading) (bytes : List ℕ) (items : List Item) (cuts : Cuts 5 esInfoLength bytes items) where
   abbrev all : List Stream
-  all = map (streamOf reading) items
+  all = markedStreams (map (streamOf reading) items)
+
+  -- what lists more than 8 is written
+  by-layer : {k t : ℕ} {r : Record} {layers : List LayerIndex} → LayerAt reading items k t r layers → MoreThan8 r → Condition reading items 10 k
+  by-layer (written l) w = embedded-many l w
+  by-layer (implied views s v none-held) w = apart (is-more w)
 
   long-at : (k : ℕ) → k < length items → MoreThan8 (recordAt all k) → Condition reading items 10 k
   long-at k h long =
-      layer-where reading items (broken-last cuts) (entry-case reading items (broken-last cuts) k h) (a-layer long) (λ t layers l. embedded-many l long)
+      layer-where reading items (broken-last cuts) (entry-case reading items (broken-last cuts) k h) (a-layer long) (λ t layers l. by-layer l long)
 
   now-or-10 : {n k : ℕ} → Condition reading items n k → Loop.Condition reading items n k ⊎ ((n ≡ 10) × MoreThan8 (recordAt all k))
   now-or-10 (as-now c) = inl c
-  now-or-10 (embedded-many l w) = inr (refl, subst MoreThan8 (sym (record-at reading items l)) w)
+  now-or-10 (embedded-many l w) = inr (refl, subst MoreThan8 (sym (record-there reading items l)) w)
 
 -- the entries of an accepted loop
 same-entries : (streams others : List Stream) → acceptedNow streams ≡ acceptedNow others → map entryOf streams ≡ map entryOf others
@@ -95,13 +102,16 @@ same-entries streams others e = sym (entries-read streams) ∙ ap entriesRead e 
 module _ (bytes : List ℕ) (items : List Item) (short : length bytes ≤ 1008) (cuts : Cuts 5 esInfoLength bytes items)
     (nothing : (n k : ℕ) → Loop.Condition Edition2015 items n k → ⊥) where
   abbrev streams : List Stream
-  streams = map (streamOf Edition2015) items
+  streams = markedStreams (map (streamOf Edition2015) items)
 
   abbrev entries : List Entry
   entries = map entryOf streams
 
+  each-stream : length streams ≡ length items
+  each-stream = length-map (map (streamOf Edition2015) items) (markedStream (pairOf (map (streamOf Edition2015) items))) ∙ length-map items (streamOf Edition2015)
+
   as-many : length entries ≡ length items
-  as-many = length-map streams entryOf ∙ length-map items (streamOf Edition2015)
+  as-many = length-map streams entryOf ∙ each-stream
 
   -- whether an entry lists more than 8
   abbrev test : ℕ → Bool
@@ -109,7 +119,7 @@ module _ (bytes : List ℕ) (items : List Item) (short : length bytes ≤ 1008) 
 
   same-record : (k : ℕ) → k < length items → (getD entries k blankEntry) .«record» ≡ recordAt streams k
   same-record k h =
-      ap (λ (e : Entry). e .«record») (getD-map entryOf blankEntry (getD-nth streams k noStream (rw (length-map items (streamOf Edition2015)) h)))
+      ap (λ (e : Entry). e .«record») (getD-map entryOf blankEntry (getD-nth streams k noStream (rw each-stream h)))
 
   first-long : {k : ℕ} {e : Entry} → Nth entries k e → MoreThan8 (e .«record») → TenAlone bytes entries
   first-long {k} {e} n long = go (seek test (length entries)) (seek-first test (length entries)) inside
@@ -155,7 +165,7 @@ ten-alone : {bytes : List ℕ} (streams : List Stream) → Loop.Answers Edition2
     → Nth (map entryOf streams) k e → MoreThan8 (e .«record») → TenAlone bytes (map entryOf streams)
 ten-alone {bytes} streams answer {k} {e} n long =
     let s = sound answer refl in
-    let same : map entryOf streams ≡ map entryOf (map (streamOf Edition2015) (s .items)) = same-entries streams (map (streamOf Edition2015) (s .items)) (s .is-read) in
+    let same : map entryOf streams ≡ map entryOf (markedStreams (map (streamOf Edition2015) (s .items))) = same-entries streams (markedStreams (map (streamOf Edition2015) (s .items))) (s .is-read) in
     subst (TenAlone bytes) (sym same)
     (first-long bytes (s .items) (s .short) (s .cuts) (s .nothing-applies) (subst (λ (es : List Entry). Nth es k e) same n) long)
 
@@ -165,6 +175,7 @@ abbrev isExtension : Record → Bool
 isExtension NoRecord = false
 isExtension (Hierarchy h) = false
 isExtension (Extension x) = true
+isExtension Implied = false
 
 no-extension : {items : List Item} {kinds : List Kind} {x : ExtensionRecord} {layers : List LayerIndex} {others : List Held}
     → ShowEach Edition2009 items kinds → gather heldIn kinds ≡ record { held = Extension x; layers = layers } ∷ others → ⊥
@@ -180,7 +191,7 @@ no-extension (one-then (no-extension-tag t) rest) e = no-extension rest e
 no-extension (one-then (extension-in-2009 y t) rest) e = no-extension rest e
 no-extension (one-then (other-tag t f) rest) e = no-extension rest e
 
-never-10 : {items : List Item} {k t : ℕ} {r : Record} {layers : List LayerIndex} → LayerAt Edition2009 items k t r layers → MoreThan8 r → ⊥
+never-10 : {items : List Item} {k t : ℕ} {r : Record} {layers : List LayerIndex} → RecordAt Edition2009 items k t r layers → MoreThan8 r → ⊥
 never-10 l (more-than-8 h) = no-extension (l .descriptors .shown) (l .first)
 
 as-2009 : {bytes : List ℕ} (streams : List Stream) → Loop.Answers Edition2015 bytes (acceptedNow streams) → As2009 bytes
@@ -188,9 +199,9 @@ as-2009 {bytes} streams answer = go (sound (answer-meant Edition2009 bytes) (acc
   where
     go : Sound Edition2009 bytes (loopRead Edition2009 bytes) → As2009 bytes
     go s =
-        let before : Answers Edition2009 bytes (accepted (map (streamOf Edition2009) (s .items))) = accepts (s .short) (s .cuts) (λ n k c. neither c) in
+        let before : Answers Edition2009 bytes (accepted (markedStreams (map (streamOf Edition2009) (s .items)))) = accepts (s .short) (s .cuts) (λ n k c. neither c) in
         record {
-          streams = map (streamOf Edition2009) (s .items);
+          streams = markedStreams (map (streamOf Edition2009) (s .items));
           now-accepted = Loop.accepts (s .short) (s .cuts) (s .nothing-applies);
           before-accepted = before;
           nothing-else = λ other a. one-answer Edition2009 bytes a before;

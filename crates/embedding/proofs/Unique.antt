@@ -9,7 +9,7 @@ use lib.ListN.{length}
 use Rattle.framing.specs.Pieces.{Item, cut, cuts-unique}
 use Rattle.vocabulary.specs.declared.stream_types.Reading.{Reading}
 use Rattle.es_loop.specs.declared.entries.Stream.{Stream}
-use Rattle.es_loop.specs.Entries.{esInfoLength, streamOf}
+use Rattle.es_loop.specs.Entries.{esInfoLength, streamOf, markedStreams}
 use Rattle.es_loop.proofs.Meant.{by-head}
 use Rattle.embedding.specs.Before.{Told, refused, accepted}
 use Rattle.embedding.specs.ReadingBefore.{Condition, Answers, too-long, refuses, accepts}
@@ -19,7 +19,7 @@ module _ (reading : Reading) where
   data Over (entries : List Item) : Told (List Stream) → Type 0 where
     lowest : {number place : ℕ} → Condition reading entries number place → ((m j : ℕ) → m < number → Condition reading entries m j → ⊥)
         → ((j : ℕ) → j < place → Condition reading entries number j → ⊥) → Over entries (refused number place)
-    none : ((n k : ℕ) → Condition reading entries n k → ⊥) → Over entries (accepted (map (streamOf reading) entries))
+    none : ((n k : ℕ) → Condition reading entries n k → ⊥) → Over entries (accepted (markedStreams (map (streamOf reading) entries)))
 
   one-over : {entries : List Item} {a b : Told (List Stream)} → Over entries a → Over entries b → a ≡ b
   one-over (none n) (none m) = refl

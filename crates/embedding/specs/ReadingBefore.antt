@@ -1,5 +1,5 @@
--- WHAT READING A LOOP ANSWERED BEFORE W-206, as a relation. The table of refusals had one row more than it has now; every other row, and how a loop is
--- cut into entries, is what it is now.
+-- WHAT READING A LOOP ANSWERED BEFORE W-206, as a relation. The table of refusals had one row more than it has now; every other row, how a loop is cut into
+-- entries, and the marks of two views that W-201 gives, are what they are now: this tells what W-206 changed, and nothing else.
 -- Assumes nothing.
 use Prim.Native.Nat.{ℕ, _≤_, _<_}
 use mathlib.Core.List.{List, map}
@@ -9,8 +9,8 @@ use Rattle.vocabulary.specs.declared.LayerIndex.{LayerIndex}
 use Rattle.vocabulary.specs.declared.stream_types.Reading.{Reading}
 use Rattle.descriptors.specs.declared.«record».Record.{Record}
 use Rattle.es_loop.specs.declared.entries.Stream.{Stream}
-use Rattle.es_loop.specs.Entries.{esInfoLength, streamOf}
-use Rattle.es_loop.specs.Meaning.{LayerAt}
+use Rattle.es_loop.specs.Entries.{esInfoLength, streamOf, markedStreams}
+use Rattle.es_loop.specs.Meaning.{RecordAt}
 use Rattle.es_loop.specs.Meaning as Loop
 use Rattle.embedding.specs.Before.{MoreThan8, Told, refused, accepted}
 
@@ -20,7 +20,7 @@ module _ (reading : Reading) (entries : List Item) where
     -- 2 to 9
     as-now : {n k : ℕ} → Loop.Condition reading entries n k → Condition n k
     -- 10
-    embedded-many : {k t : ℕ} {r : Record} {layers : List LayerIndex} → LayerAt reading entries k t r layers → MoreThan8 r → Condition 10 k
+    embedded-many : {k t : ℕ} {r : Record} {layers : List LayerIndex} → RecordAt reading entries k t r layers → MoreThan8 r → Condition 10 k
 
 pub data Answers (reading : Reading) (bytes : List ℕ) : Told (List Stream) → Type 0 where
   -- 1: the loop is longer than 1,008 bytes
@@ -33,4 +33,4 @@ pub data Answers (reading : Reading) (bytes : List ℕ) : Told (List Stream) →
       → Answers reading bytes (refused number place)
   -- every entry, in loop order, where no number applies
   accepts : {entries : List Item} → length bytes ≤ 1008 → Cuts 5 esInfoLength bytes entries
-      → ((n k : ℕ) → Condition reading entries n k → ⊥) → Answers reading bytes (accepted (map (streamOf reading) entries))
+      → ((n k : ℕ) → Condition reading entries n k → ⊥) → Answers reading bytes (accepted (markedStreams (map (streamOf reading) entries)))
