@@ -48,6 +48,7 @@ pub const THQ_NOT_A_CALL: u64 = 255;
 pub const THQ_NO_RECORD: u16 = 0;
 pub const THQ_HIERARCHY: u16 = 1;
 pub const THQ_EXTENSION: u16 = 2;
+pub const THQ_IMPLIED: u16 = 3;
 
 /// The numbers that one entry takes.
 pub const THQ_ENTRY_NUMBERS: usize = 80;
