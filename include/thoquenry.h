@@ -57,11 +57,11 @@ enum thq_refusal {
     THQ_REFUSED_WRONG_LENGTH = 4,
     /* entry {}, a known stream, has two hierarchy records */
     THQ_REFUSED_SECOND_RECORD = 5,
-    /* entry {} has a type not allowed on this stream, or an extension on 0x1B, 0x1F or 0x20 */
+    /* entry {} has a type not allowed on this stream, or an extension on 0x1B, 0x1F or 0x20; or, to be written, its implied mark isn't what two views without a hierarchy descriptor give */
     THQ_REFUSED_TYPE_NOT_ALLOWED = 6,
     /* entry {} has type 9 with a flag at 0, or more than one flag at 0 and type not 8 */
     THQ_REFUSED_WRONG_FLAGS = 7,
-    /* entry {} has a layer index held by an earlier layer */
+    /* entry {} has a layer index, written or implied, held by an earlier layer */
     THQ_REFUSED_REPEATED_LAYER_INDEX = 8,
     /* entry {} has an embedded index not below the layer's own, or listed twice */
     THQ_REFUSED_WRONG_EMBEDDED_INDEX = 9,
@@ -154,6 +154,9 @@ typedef struct thq_entry {
 } thq_entry;
 
 #define THQ_ENTRY_NUMBERS 80
+
+/* The layer index of an entry that is a layer: of an implied one by its stream type, else its hierarchy_layer_index. */
+#define THQ_LAYER_INDEX(entry) ((entry).record == THQ_IMPLIED ? (entry).stream_type == 0x20 : (entry).hierarchy_layer_index)
 
 /*
  * Reads a loop. `entries` receives 80 numbers for each entry, in loop order, as laid out above. Counts the entries.
