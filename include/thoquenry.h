@@ -27,10 +27,10 @@ extern "C" {
 /*
  * The version of this header, and the same as one number: 10,000 times the first part, 100 times the second, and the third. While the first
  * part is 0, a change by which a program that was built before would misread an answer raises the second, and after that the first; the
- * shared object's name goes with it (libthoquenry.so.0.3).
+ * shared object's name goes with it (libthoquenry.so.0.4).
  */
-#define THQ_VERSION "0.3.0"
-#define THQ_VERSION_NUMBER 300
+#define THQ_VERSION "0.4.0"
+#define THQ_VERSION_NUMBER 400
 
 /* The version of the library that is linked, as such a number. */
 uint64_t thq_version(void);
@@ -57,11 +57,11 @@ enum thq_refusal {
     THQ_REFUSED_WRONG_LENGTH = 4,
     /* entry {}, a known stream, has two hierarchy records */
     THQ_REFUSED_SECOND_RECORD = 5,
-    /* entry {} has a type not allowed on this stream, or an extension on 0x1B, 0x1F or 0x20 */
+    /* entry {} has a type not allowed on this stream, or an extension on 0x1B, 0x1F or 0x20; or, to be written, its implied mark isn't what two views without a hierarchy descriptor give */
     THQ_REFUSED_TYPE_NOT_ALLOWED = 6,
     /* entry {} has type 9 with a flag at 0, or more than one flag at 0 and type not 8 */
     THQ_REFUSED_WRONG_FLAGS = 7,
-    /* entry {} has a layer index held by an earlier layer */
+    /* entry {} has a layer index, written or implied, held by an earlier layer */
     THQ_REFUSED_REPEATED_LAYER_INDEX = 8,
     /* entry {} has an embedded index not below the layer's own, or listed twice */
     THQ_REFUSED_WRONG_EMBEDDED_INDEX = 9,
@@ -96,14 +96,21 @@ enum thq_refusal {
     THQ_NOT_A_CALL = 255
 };
 
-/* What an entry's `record` says: the stream is no layer, or which of the two descriptors makes it one. */
+/*
+ * What an entry's `record` says: the stream is no layer, or which of the two descriptors makes it one, or that it is one without any.
+ *
+ * THQ_IMPLIED is the mark of two views: where a loop holds exactly one stream of type 0x1B and exactly one of type 0x20, in whichever order
+ * and with whatever beside them, and neither has a hierarchy descriptor, the 0x1B is a base layer of index 0, and the 0x20 a layer of index 1
+ * that rests on 0, each with channel 0. All of it follows from the stream type: an entry with this mark has no other field of a record.
+ */
 #define THQ_NO_RECORD 0
 #define THQ_HIERARCHY 1
 #define THQ_EXTENSION 2
+#define THQ_IMPLIED 3
 
 /*
  * One entry of an elementary-stream loop: 80 numbers of 16 bits each, 160 bytes, in the machine's byte order. A field that the entry's
- * record does not have is 0, and so is what stands in `embedded` beyond `num_embedded_layers`.
+ * record does not have is 0, and so is what stands in `embedded` beyond `num_embedded_layers`. "Both" are the two descriptors.
  *
  *     number  bytes      field                           in records
  *     0       0..1       stream_type                     all
@@ -148,6 +155,9 @@ typedef struct thq_entry {
 
 #define THQ_ENTRY_NUMBERS 80
 
+/* The layer index of an entry that is a layer: of an implied one by its stream type, else its hierarchy_layer_index. */
+#define THQ_LAYER_INDEX(entry) ((entry).record == THQ_IMPLIED ? (entry).stream_type == 0x20 : (entry).hierarchy_layer_index)
+
 /*
  * Reads a loop. `entries` receives 80 numbers for each entry, in loop order, as laid out above. Counts the entries.
  * Refusals: 1 to 9, at an entry; 17 where `entries_length` is below 80 numbers for each entry.
@@ -157,9 +167,10 @@ uint64_t thq_read_loop(uint64_t reading, const uint8_t *bytes, size_t bytes_leng
 /*
  * Writes a loop, by the 2015 reading's rules: one entry for each 80 numbers of `entries`, as laid out above. Counts the bytes written to
  * `out`. Numbers of `entries` after the last whole entry, fields that the entry's record does not have, and embedded indices
- * beyond the count are not looked at.
- * Refusals: 25 first, where a value is too wide for its field, a `record` above 2 and a flag above 1 among them; then 1, which more than
- * 201 entries give too; then 3 and 6 to 9, at an entry; then 17.
+ * beyond the count are not looked at. No descriptor is written for THQ_IMPLIED.
+ * Refusals: 25 first, where a value is too wide for its field, a `record` above 3 and a flag above 1 among them; then 1, which more than
+ * 201 entries give too; then 3 and 6 to 9, at an entry; then 17. 6 is also given where THQ_IMPLIED stands on an entry that is not one of two
+ * such views, and where it does not stand on one that is.
  */
 uint64_t thq_write_loop(const uint16_t *entries, size_t entries_length, uint8_t *out, size_t out_length);
 

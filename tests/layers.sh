@@ -66,6 +66,7 @@ sed -e 's/^accepted 3$/accepted 2/' -e '/^layer 2/d' tests/layers/loop-a.txt >"$
 expect "the 2009 reading" 0 "$work/2009.txt" "" ./layers --reading 2009 "$a"
 expect "the 2009 reading, in one word" 0 "$work/2009.txt" "" ./layers "$a" --reading=2009
 expect "the 2015 reading" 0 tests/layers/loop-a.txt "" ./layers --reading 2015 "$a"
+expect "two views in the 2009 reading" 0 tests/layers/sports.txt "" ./layers --reading 2009 samples/sports.bin
 expect "a refusal in words" 1 tests/layers/refused.txt "layers: 9: entry 1 has an embedded index not below the layer's own, or listed twice" \
     ./layers --explain samples/refused.bin
 expect "an acceptance needs no words" 0 tests/layers/loop-a.txt "" ./layers --explain "$a"

@@ -115,6 +115,23 @@ impl Call {
         }
     }
 
+    /// Whether its loop is accepted and has layers that no descriptor makes.
+    pub fn has_implied_layers(&self) -> bool {
+        let entries = match self {
+            Call::ReadLoop { reading, bytes, .. }
+            | Call::Closure { reading, bytes, .. }
+            | Call::Import { reading, bytes, .. } => {
+                reading_of(*reading).and_then(|reading| plain::read_loop(reading, bytes))
+            }
+            Call::WriteLoop { entries, .. } => entries_of(entries).and_then(|entries| {
+                plain::write_loop(&entries, &mut [0; plain::LONGEST_LOOP]).map(|_| entries)
+            }),
+            _ => return false,
+        };
+        let implied = |entry: &Entry| entry.record == Some(Record::Implied);
+        entries.map_or(false, |entries| entries.iter().any(implied))
+    }
+
     /// Makes the call to the library. An error where it has written beside a buffer.
     pub fn library(&mut self, memory: &mut Memory, placing: Placing) -> Result<u64, &'static str> {
         memory.begin(placing);
@@ -381,8 +398,12 @@ fn read_loop(reading: u64, bytes: &[u8], room: &mut [u16]) -> Result<usize, Refu
 }
 
 fn write_loop(entries: &[u16], out: &mut [u8]) -> Result<usize, Refusal> {
-    let entries: Result<Vec<Entry>, Refusal> = entries.chunks_exact(ENTRY).map(entry_of).collect();
-    plain::write_loop(&entries?, out)
+    plain::write_loop(&entries_of(entries)?, out)
+}
+
+/// The entries that the numbers of a list say.
+fn entries_of(numbers: &[u16]) -> Result<Vec<Entry>, Refusal> {
+    numbers.chunks_exact(ENTRY).map(entry_of).collect()
 }
 
 fn closure(reading: u64, bytes: &[u8], target: u64, set: &mut [u64]) -> Result<usize, Refusal> {
@@ -473,6 +494,7 @@ pub fn numbers_of(entry: &Entry) -> [u16; ENTRY] {
                 *number = u16::from(index);
             }
         }
+        Some(Record::Implied) => numbers[2] = raw::THQ_IMPLIED,
     }
     numbers
 }
@@ -513,6 +535,7 @@ fn entry_of(numbers: &[u16]) -> Result<Entry, Refusal> {
                 embedded: Embedded::new(&indices?)?,
             }))
         }
+        raw::THQ_IMPLIED => Some(Record::Implied),
         _ => return Err(Refusal::of(25)),
     };
     Ok(Entry {

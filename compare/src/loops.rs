@@ -24,6 +24,8 @@ impl Quality {
     }
 }
 
+/// Of which two without a hierarchy descriptor, one of each, are layers all the same.
+const VIEWS: [u8; 2] = [0x1B, 0x20];
 const OLD_TYPES: [u8; 3] = [0x1B, 0x1F, 0x20];
 const HEVC_TYPES: [u8; 6] = [0x24, 0x25, 0x28, 0x29, 0x2A, 0x2B];
 /// Known to no reading, the neighbours of known ones among them.
@@ -38,6 +40,21 @@ struct Descriptor {
     payload: Vec<u8>,
 }
 
+impl Descriptor {
+    /// Whether it makes its stream a layer, by tag alone.
+    fn is_record(&self) -> bool {
+        self.tag == 4 || self.tag == 63 && self.payload.first() == Some(&6)
+    }
+
+    /// The layer index that it says, if it is long enough.
+    fn index(&self) -> Option<u8> {
+        match self.tag {
+            4 => Some(self.payload.get(1)? & 63),
+            _ => Some(self.payload.get(3)? >> 2),
+        }
+    }
+}
+
 /// An entry before it is laid out.
 #[derive(Clone)]
 struct Stream {
@@ -47,16 +64,28 @@ struct Stream {
 }
 
 impl Stream {
+    /// A stream without descriptors, whose PID is yet to come.
+    fn plain(stream_type: u8) -> Stream {
+        Stream {
+            stream_type,
+            pid: 0,
+            descriptors: Vec::new(),
+        }
+    }
+
     fn length(&self) -> usize {
         let descriptors = self.descriptors.iter();
         5 + descriptors.map(|one| 2 + one.payload.len()).sum::<usize>()
     }
 
-    /// The place of the descriptor that makes it a layer, by tag alone.
+    /// The place of the descriptor that makes it a layer.
     fn record(&self) -> Option<usize> {
-        self.descriptors
-            .iter()
-            .position(|one| one.tag == 4 || one.tag == 63 && one.payload.first() == Some(&6))
+        self.descriptors.iter().position(Descriptor::is_record)
+    }
+
+    /// The index that this descriptor says.
+    fn index(&self) -> Option<u8> {
+        self.descriptors[self.record()?].index()
     }
 }
 
@@ -129,8 +158,10 @@ fn noise(random: &mut Random) -> Vec<u8> {
     }
 }
 
-/// The streams of a sound loop.
+/// The streams of a sound loop, often with two views among them that have no hierarchy descriptor.
 fn sound(random: &mut Random, reading: u64) -> Vec<Stream> {
+    let views = random.once_in(3);
+    let alone = views && !random.once_in(6);
     let layers = match random.below(12) {
         0 => 0,
         1 => random.within(8, 64),
@@ -146,16 +177,30 @@ fn sound(random: &mut Random, reading: u64) -> Vec<Stream> {
     if !dense {
         random.shuffle(&mut indices);
     }
+    if views {
+        indices.retain(|index| *index > 1);
+    }
     indices.truncate(layers);
     indices.sort_unstable();
-    let mut streams: Vec<Stream> = (0..layers)
-        .map(|place| layer(random, reading, &indices, place))
+    let mut written = 0..indices.len();
+    if views {
+        // Indices 0 and 1 are theirs, and may be named.
+        indices.splice(0..0, [0, 1]);
+        written = 2..indices.len();
+    }
+    let mut streams: Vec<Stream> = written
+        .map(|place| layer(random, reading, &indices, place, alone))
         .collect();
     for _ in 0..others {
         streams.push(other(random, reading));
     }
     if random.once_in(2) {
         random.shuffle(&mut streams);
+    }
+    if views {
+        for stream_type in VIEWS {
+            streams.insert(random.below(streams.len() + 1), Stream::plain(stream_type));
+        }
     }
     let first = random.below(8192);
     // An odd step meets every PID once.
@@ -173,11 +218,32 @@ fn sound(random: &mut Random, reading: u64) -> Vec<Stream> {
         length += stream.length();
         length <= LONGEST_LOOP
     });
+    keep_indices_apart(&mut streams);
     streams
 }
 
-/// A stream that is a layer of the reading, with the index at this place of the rising list.
-fn layer(random: &mut Random, reading: u64, indices: &[u8], place: usize) -> Stream {
+/// Makes another type of the base view where two views would have an index that a layer has too.
+fn keep_indices_apart(streams: &mut [Stream]) {
+    let only = |stream_type: u8| {
+        let mut places =
+            (0..streams.len()).filter(|&place| streams[place].stream_type == stream_type);
+        places.next().filter(|_| places.next().is_none())
+    };
+    if let [Some(base), Some(second)] = VIEWS.map(only) {
+        let described = |place: usize| streams[place].descriptors.iter().any(|one| one.tag == 4);
+        let mut records = streams
+            .iter()
+            .flat_map(|stream| &stream.descriptors)
+            .filter(|one| one.is_record());
+        let held = records.any(|one| one.index().map_or(false, |index| index < 2));
+        if held && !described(base) && !described(second) {
+            streams[base].stream_type = 0x02;
+        }
+    }
+}
+
+/// A stream that is a layer of the reading, with the index at this place of the rising list; not of a view's type where two views stand alone.
+fn layer(random: &mut Random, reading: u64, indices: &[u8], place: usize, alone: bool) -> Stream {
     let index = indices[place];
     // What it may name: layers of the loop, now and then one that isn't there.
     let mut lower: Vec<u8> = indices[..place].to_vec();
@@ -218,11 +284,11 @@ fn layer(random: &mut Random, reading: u64, indices: &[u8], place: usize) -> Str
             },
             15,
         )
-    } else if random.once_in(4) {
+    } else if random.once_in(4) && !alone {
         (0x20, 9)
     } else {
         let hevc = random.pick(&HEVC_TYPES);
-        let types = [0x1B, 0x1F, hevc];
+        let types = [if alone { 0x1F } else { 0x1B }, 0x1F, hevc];
         let known = if old_alone { &types[..2] } else { &types };
         (random.pick(known), random.within(1, 8) as u8)
     };
@@ -354,20 +420,12 @@ fn miss(random: &mut Random, streams: &mut Vec<Stream>) {
     }
     let from = random.below(streams.len());
     let place = random.below(streams.len());
-    let index_of = |stream: &Stream| {
-        let descriptor = &stream.descriptors[stream.record()?];
-        let index = match descriptor.tag {
-            4 => descriptor.payload.get(1)? & 63,
-            _ => descriptor.payload.get(3)? >> 2,
-        };
-        Some(index)
-    };
-    let other_index = index_of(&streams[from]);
+    let other_index = streams[from].index();
     let other_pid = streams[from].pid;
     let stream = &mut streams[place];
-    let own_index = index_of(stream);
+    let own_index = stream.index();
     let record = stream.record();
-    match random.below(13) {
+    match random.below(16) {
         0 => stream.pid = other_pid,
         1 => {
             stream.stream_type = match random.below(4) {
@@ -470,6 +528,44 @@ fn miss(random: &mut Random, streams: &mut Vec<Stream>) {
             let again = stream.clone();
             streams.push(again);
         }
+        12 => {
+            // One more stream of a view's type.
+            let view = random.pick(&VIEWS);
+            insert(random, streams, Stream::plain(view));
+        }
+        13 => {
+            // A layer that has an index of two views, where there are two.
+            let index = random.below(2) as u8;
+            let (stream_type, hierarchy_type) = random.pick(&[(0x24, 15), (0x1F, 1), (0x25, 3)]);
+            let descriptor = Descriptor {
+                tag: 4,
+                payload: vec![0xF0 | hierarchy_type, 0xC0 | index, 0x40, 0xC0],
+            };
+            let mut layer = Stream::plain(stream_type);
+            layer.descriptors.push(descriptor);
+            insert(random, streams, layer);
+        }
+        14 => {
+            // A record on a view.
+            let views = streams
+                .iter_mut()
+                .filter(|one| VIEWS.contains(&one.stream_type));
+            for view in views {
+                if random.once_in(2) {
+                    let index = random.below(4) as u8;
+                    let hierarchy_type = if view.stream_type == 0x1B { 15 } else { 9 };
+                    let descriptor = if random.once_in(2) {
+                        extension_of(random, index, &[])
+                    } else {
+                        Descriptor {
+                            tag: 4,
+                            payload: vec![0xF0 | hierarchy_type, 0xC0 | index, 0x40, 0xC0],
+                        }
+                    };
+                    view.descriptors.push(descriptor);
+                }
+            }
+        }
         _ => {
             // One bit of a descriptor.
             if let Some(record) = record {
@@ -481,6 +577,12 @@ fn miss(random: &mut Random, streams: &mut Vec<Stream>) {
             }
         }
     }
+}
+
+/// Inserts a stream somewhere, with a PID that most often no other has.
+fn insert(random: &mut Random, streams: &mut Vec<Stream>, mut stream: Stream) {
+    stream.pid = random.below(8192) as u16;
+    streams.insert(random.below(streams.len() + 1), stream);
 }
 
 /// Makes one thing wrong in the bytes.
@@ -555,7 +657,7 @@ pub fn entries(random: &mut Random) -> (Vec<u16>, Quality) {
 /// Fills the numbers that a writer doesn't look at.
 fn fill_unread(random: &mut Random, entry: &mut [u16; ENTRY]) {
     let unread: Vec<usize> = match entry[2] {
-        0 => (3..ENTRY).collect(),
+        0 | 3 => (3..ENTRY).collect(),
         1 => (12..ENTRY).collect(),
         _ => (3..8)
             .chain(10..11)
@@ -591,7 +693,7 @@ fn miss_by_number(random: &mut Random, entries: &mut Vec<[u16; ENTRY]>) {
         1 => 16 + random.below(usize::from(entries[place][15]).clamp(1, 63)),
         _ => random.below(16),
     };
-    match random.below(9) {
+    match random.below(13) {
         0 => entries[place][field] = entries[from][field],
         1 => entries[place][field] = entries[place][field].wrapping_add(1),
         2 => entries[place][field] = random.next() as u16,
@@ -601,7 +703,13 @@ fn miss_by_number(random: &mut Random, entries: &mut Vec<[u16; ENTRY]>) {
             ]);
         }
         4 => entries[place][1] = entries[from][1],
-        5 => entries[place][8] = entries[from][8],
+        5 => {
+            // The index of another layer, or of a view.
+            entries[place][8] = match random.once_in(2) {
+                true => entries[from][8],
+                false => random.below(2) as u16,
+            }
+        }
         6 => {
             // A long list.
             let entry = &mut entries[place];
@@ -630,6 +738,41 @@ fn miss_by_number(random: &mut Random, entries: &mut Vec<[u16; ENTRY]>) {
                 }
             }
         }
+        8 => {
+            // The implied mark of one entry, mostly of a view: there where it was not, or not where it was.
+            let views: Vec<usize> = (0..entries.len())
+                .filter(|&place| VIEWS.map(u16::from).contains(&entries[place][0]))
+                .collect();
+            let place = match views.is_empty() || random.once_in(6) {
+                true => place,
+                false => random.pick(&views),
+            };
+            entries[place][2] = if entries[place][2] == 3 { 0 } else { 3 };
+        }
+        9 => {
+            // One more view, marked or not.
+            let mut entry = [0; ENTRY];
+            entry[0] = u16::from(random.pick(&VIEWS));
+            entry[1] = random.below(8192) as u16;
+            entry[2] = random.pick(&[0, 3]);
+            entries.insert(random.below(entries.len() + 1), entry);
+        }
+        10 => {
+            // A record on a view, mostly one that could stand there.
+            for entry in entries
+                .iter_mut()
+                .filter(|entry| VIEWS.map(u16::from).contains(&entry[0]))
+            {
+                if random.once_in(2) {
+                    let hierarchy_type = if entry[0] == 0x1B { 15 } else { 9 };
+                    entry[2..].fill(0);
+                    entry[2] = random.pick(&[1, 1, 2]);
+                    entry[3..8].copy_from_slice(&[1, 1, 1, 1, hierarchy_type]);
+                    entry[8] = random.below(4) as u16;
+                }
+            }
+        }
+        11 => drop(entries.remove(place)),
         _ => {
             entries[place][0] = match random.below(3) {
                 0 => u16::from(random.pick(&OLD_TYPES)),

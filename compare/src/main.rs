@@ -24,10 +24,15 @@ use std::process::ExitCode;
 const SEED: u64 = 1;
 const COUNT: u64 = 140_000;
 
-/// What has been seen: for each call how often each number was answered, and how its inputs were made.
+/// The calls that read or write a loop.
+const CALLS_OF_LOOPS: [&str; 4] = ["read_loop", "write_loop", "closure", "import"];
+
+/// What has been seen: for each call how often each number was answered, how its inputs were made, and in how many accepted loops there were
+/// two views without a hierarchy descriptor.
 struct Seen {
     numbers: [[u64; 256]; CALLS.len()],
     qualities: [[u64; Quality::NAMES.len()]; CALLS.len()],
+    implied: [u64; CALLS.len()],
 }
 
 fn main() -> ExitCode {
@@ -72,6 +77,7 @@ fn run(seed: u64, count: u64, guarded: bool) -> Result<Seen, String> {
     let mut seen = Seen {
         numbers: [[0; 256]; CALLS.len()],
         qualities: [[0; Quality::NAMES.len()]; CALLS.len()],
+        implied: [0; CALLS.len()],
     };
     for number in 0..count {
         faults::note(seed, number);
@@ -104,6 +110,7 @@ fn run(seed: u64, count: u64, guarded: bool) -> Result<Seen, String> {
         }
         seen.numbers[call.kind()][calls::number(expected) as usize] += 1;
         seen.qualities[call.kind()][quality as usize] += 1;
+        seen.implied[call.kind()] += u64::from(call.has_implied_layers());
     }
     Ok(seen)
 }
@@ -147,6 +154,15 @@ fn summary(seed: u64, count: u64, seen: &Seen) -> ExitCode {
     for (quality, name) in Quality::NAMES.iter().enumerate() {
         let cells = seen.qualities.iter().map(|one| one[quality].to_string());
         line(name, cells.collect());
+    }
+    let of_loops = |call: usize| CALLS_OF_LOOPS.contains(&CALLS[call].0);
+    let cell = |call: usize| match of_loops(call) {
+        true => seen.implied[call].to_string(),
+        false => String::new(),
+    };
+    line("two views", (0..CALLS.len()).map(cell).collect());
+    for call in (0..CALLS.len()).filter(|&call| of_loops(call) && seen.implied[call] == 0) {
+        never.push(format!("{} never met two views", CALLS[call].0));
     }
     for one in &never {
         println!("compare: {one}");

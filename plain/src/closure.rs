@@ -23,10 +23,10 @@ impl Default for Layers {
 impl Layers {
     /// Adds the layer that an entry describes, if it describes one.
     fn add(&mut self, entry: &Entry) {
-        if let Some(record) = &entry.record {
-            let index = record.layer_index() & 63;
+        if let Some(index) = entry.layer_index() {
+            let index = index & 63;
             self.present |= 1 << index;
-            self.embedded[usize::from(index)] = record
+            self.embedded[usize::from(index)] = entry
                 .embedded()
                 .iter()
                 .fold(0, |named, lower| named | 1 << (lower & 63));

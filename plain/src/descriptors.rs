@@ -1,7 +1,7 @@
 //! The two descriptors as bytes, the stream types that they may stand on, and what is refused of one record on one stream.
 
 use crate::entries::BASE;
-use crate::{Embedded, Extension, Hierarchy, Reading, Record};
+use crate::{Embedded, Entry, Extension, Hierarchy, Reading, Record};
 
 pub(crate) const HIERARCHY_TAG: u8 = 4;
 pub(crate) const EXTENSION_DESCRIPTOR_TAG: u8 = 63;
@@ -9,7 +9,7 @@ const HIERARCHY_EXTENSION_TAG: u8 = 6;
 
 const AVC: u8 = 0x1B;
 const SVC: u8 = 0x1F;
-const MVC: u8 = 0x20;
+pub(crate) const MVC: u8 = 0x20;
 const HEVC: u8 = 0x24;
 
 /// Whether a reading looks into the descriptors of a stream of this type.
@@ -18,6 +18,36 @@ pub(crate) fn known(reading: Reading, stream_type: u8) -> bool {
     match stream_type {
         AVC | SVC | MVC => true,
         0x24 | 0x25 | 0x28..=0x2B => reading == Reading::Of2015,
+        _ => false,
+    }
+}
+
+/// Whether a stream is one of two views: of type 0x1B or 0x20.
+#[inline]
+pub(crate) fn is_view(stream_type: u8) -> bool {
+    matches!(stream_type, AVC | MVC)
+}
+
+/// Whether these streams are two views and no hierarchy descriptor: exactly one is of type 0x1B and exactly one of type 0x20, in whichever
+/// order and whatever stands beside, and neither is described.
+#[inline]
+pub(crate) fn two_views<T>(
+    streams: impl Iterator<Item = (u8, T)>,
+    described: impl Fn(T) -> bool,
+) -> bool {
+    let (mut avc, mut mvc) = (None, None);
+    for (stream_type, stream) in streams {
+        let view = match stream_type {
+            AVC => &mut avc,
+            MVC => &mut mvc,
+            _ => continue,
+        };
+        if view.replace(stream).is_some() {
+            return false;
+        }
+    }
+    match (avc, mvc) {
+        (Some(avc), Some(mvc)) => !described(avc) && !described(mvc),
         _ => false,
     }
 }
@@ -105,6 +135,7 @@ pub(crate) fn written_length(record: &Record) -> usize {
     match record {
         Record::Hierarchy(_) => 6,
         Record::Extension(extension) => 9 + extension.embedded.as_slice().len(),
+        Record::Implied => 0,
     }
 }
 
@@ -150,6 +181,7 @@ pub(crate) fn write(record: &Record, out: &mut [u8]) {
                 *byte = 0xC0 | index;
             }
         }
+        Record::Implied => {}
     }
 }
 
@@ -164,6 +196,7 @@ pub(crate) fn too_wide(record: &Record) -> bool {
                 || (e.layer_index | e.nuh_layer_id | e.channel) > 63
                 || e.embedded.as_slice().iter().any(|&index| index > 63)
         }
+        Record::Implied => false,
     }
 }
 
@@ -187,15 +220,16 @@ pub(crate) fn fault_on_stream(stream_type: u8, record: &Record) -> Option<u8> {
             }
         }
         Record::Extension(_) => matches!(stream_type, AVC | SVC | MVC).then_some(6),
+        Record::Implied => None,
     }
 }
 
-/// Whether a record names a layer not below its own, or one twice: 9.
+/// Whether a layer names one not below its own index, or one twice: 9.
 #[inline]
-pub(crate) fn names_wrong_layers(record: &Record) -> bool {
+pub(crate) fn names_wrong_layers(layer_index: u8, entry: &Entry) -> bool {
     let mut named = 0_u64;
-    record.embedded().iter().any(|&index| {
-        let wrong = index >= record.layer_index() || named >> index & 1 != 0;
+    entry.embedded().iter().any(|&index| {
+        let wrong = index >= layer_index || named >> index & 1 != 0;
         named |= 1 << (index & 63);
         wrong
     })

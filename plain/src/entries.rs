@@ -1,5 +1,6 @@
 //! What an entry of a loop says.
 
+use crate::descriptors::MVC;
 use crate::Refusal;
 
 /// One entry of an elementary-stream loop.
@@ -13,13 +14,16 @@ pub struct Entry {
     pub record: Option<Record>,
 }
 
-/// The descriptor that makes a stream a layer.
+/// What makes a stream a layer: one of two descriptors, or that it is one of two views without any.
 #[derive(Clone, Copy, Debug, PartialEq, Eq)]
 pub enum Record {
     /// Tag 4.
     Hierarchy(Hierarchy),
     /// Tag 63, extension tag 6.
     Extension(Extension),
+    /// No descriptor: the only 0x1B or the only 0x20 of a loop that has one of each, neither with a hierarchy descriptor. The first is a
+    /// base layer of index 0, the second has index 1 and rests on 0, and each has channel 0.
+    Implied,
 }
 
 /// The hierarchy descriptor. A flag at false means "enhances".
@@ -119,29 +123,34 @@ impl std::fmt::Debug for Embedded {
 /// The type of a base layer.
 pub(crate) const BASE: u8 = 15;
 
-impl Record {
-    /// The index of the layer.
-    pub fn layer_index(&self) -> u8 {
-        match self {
-            Record::Hierarchy(hierarchy) => hierarchy.layer_index,
-            Record::Extension(extension) => extension.layer_index,
+impl Entry {
+    /// The index of the layer, if the stream is one.
+    pub fn layer_index(&self) -> Option<u8> {
+        match self.record.as_ref()? {
+            Record::Hierarchy(hierarchy) => Some(hierarchy.layer_index),
+            Record::Extension(extension) => Some(extension.layer_index),
+            Record::Implied => Some(u8::from(self.stream_type == MVC)),
         }
     }
 
-    /// hierarchy_channel
-    pub fn channel(&self) -> u8 {
-        match self {
-            Record::Hierarchy(hierarchy) => hierarchy.channel,
-            Record::Extension(extension) => extension.channel,
+    /// hierarchy_channel, if the stream is a layer.
+    pub fn channel(&self) -> Option<u8> {
+        match self.record.as_ref()? {
+            Record::Hierarchy(hierarchy) => Some(hierarchy.channel),
+            Record::Extension(extension) => Some(extension.channel),
+            Record::Implied => Some(0),
         }
     }
 
     /// The indices of the layers that this one names: none for a base layer.
     pub fn embedded(&self) -> &[u8] {
-        match self {
-            Record::Hierarchy(hierarchy) if hierarchy.hierarchy_type == BASE => &[],
-            Record::Hierarchy(hierarchy) => std::slice::from_ref(&hierarchy.embedded_index),
-            Record::Extension(extension) => extension.embedded.as_slice(),
+        match &self.record {
+            None => &[],
+            Some(Record::Hierarchy(hierarchy)) if hierarchy.hierarchy_type == BASE => &[],
+            Some(Record::Hierarchy(hierarchy)) => std::slice::from_ref(&hierarchy.embedded_index),
+            Some(Record::Extension(extension)) => extension.embedded.as_slice(),
+            Some(Record::Implied) if self.stream_type == MVC => &[0],
+            Some(Record::Implied) => &[],
         }
     }
 }

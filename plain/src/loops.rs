@@ -26,35 +26,93 @@ pub fn read_loop_with(
     if bytes.len() > LONGEST_LOOP {
         return Err(Refusal::of(1));
     }
+    // The marks are known before an entry is judged. Where a piece doesn't fit it is all the same, since 2 is then the answer.
+    let streams = Frames(bytes).flatten();
+    let streams = streams.map(|frame| (frame.stream_type, frame.info));
+    let implied = descriptors::two_views(streams, has_hierarchy_descriptor);
     let mut faults = Faults::default();
     let mut seen = Seen::default();
-    let mut rest = bytes;
-    let mut place = 0;
-    while !rest.is_empty() {
+    for (place, frame) in Frames(bytes).enumerate() {
         // Number 2 ends the reading: every entry before this one fits, and no lower number is left.
-        let too_short = Refusal::at(2, place);
-        if rest.len() < ENTRY_HEAD {
-            return Err(too_short);
-        }
-        let stream_type = rest[0];
-        let pid = u16::from_be_bytes([rest[1], rest[2]]) & 0x1FFF;
-        let end = ENTRY_HEAD + usize::from(u16::from_be_bytes([rest[3], rest[4]]) & 0x0FFF);
-        let info = rest.get(ENTRY_HEAD..end).ok_or(too_short)?;
-        rest = &rest[end..];
-
+        let frame = frame.ok_or(Refusal::at(2, place))?;
         let mut entry = Entry {
-            stream_type,
-            pid,
+            stream_type: frame.stream_type,
+            pid: frame.pid,
             record: None,
         };
-        if descriptors::known(reading, stream_type) {
-            read_info(reading, info, place, &mut entry.record, &mut faults)?;
+        if descriptors::known(reading, entry.stream_type) {
+            read_info(reading, frame.info, place, &mut entry.record, &mut faults)?;
+        }
+        if entry.record.is_none() && implied && descriptors::is_view(entry.stream_type) {
+            entry.record = Some(Record::Implied);
         }
         judge(&entry, place, &mut seen, &mut faults);
         take(&entry);
-        place += 1;
     }
     faults.none()
+}
+
+/// An entry as it is framed.
+#[derive(Clone, Copy)]
+struct Frame<'a> {
+    stream_type: u8,
+    pid: u16,
+    info: &'a [u8],
+}
+
+/// The entries of a loop one after another, and nothing in place of one that doesn't fit, which is the last.
+struct Frames<'a>(&'a [u8]);
+
+impl<'a> Iterator for Frames<'a> {
+    type Item = Option<Frame<'a>>;
+
+    #[inline]
+    fn next(&mut self) -> Option<Option<Frame<'a>>> {
+        let rest = std::mem::take(&mut self.0);
+        if rest.is_empty() {
+            return None;
+        }
+        if rest.len() < ENTRY_HEAD {
+            return Some(None);
+        }
+        let end = ENTRY_HEAD + usize::from(u16::from_be_bytes([rest[3], rest[4]]) & 0x0FFF);
+        let frame = rest.get(ENTRY_HEAD..end).map(|info| Frame {
+            stream_type: rest[0],
+            pid: u16::from_be_bytes([rest[1], rest[2]]) & 0x1FFF,
+            info,
+        });
+        self.0 = rest.get(end..).unwrap_or_default();
+        Some(frame)
+    }
+}
+
+/// The descriptors of a stream one after another, each its tag and its payload, and nothing in place of one that doesn't fit, which is the last.
+struct Descriptors<'a>(&'a [u8]);
+
+impl<'a> Iterator for Descriptors<'a> {
+    type Item = Option<(u8, &'a [u8])>;
+
+    #[inline]
+    fn next(&mut self) -> Option<Option<(u8, &'a [u8])>> {
+        let rest = std::mem::take(&mut self.0);
+        if rest.is_empty() {
+            return None;
+        }
+        if rest.len() < 2 {
+            return Some(None);
+        }
+        let end = 2 + usize::from(rest[1]);
+        let payload = rest.get(2..end);
+        self.0 = rest.get(end..).unwrap_or_default();
+        Some(payload.map(|payload| (rest[0], payload)))
+    }
+}
+
+/// Whether a stream has a hierarchy descriptor. The extension is none.
+fn has_hierarchy_descriptor(info: &[u8]) -> bool {
+    Descriptors(info)
+        .flatten()
+        .any(|(tag, _)| tag == descriptors::HIERARCHY_TAG)
 }
 
 /// Reads the descriptors of a known stream. Faults of the whole list are 2, which ends the reading, 4 and 5.
@@ -66,18 +124,11 @@ fn read_info(
     record: &mut Option<Record>,
     faults: &mut Faults,
 ) -> Result<(), Refusal> {
-    let mut rest = info;
-    while !rest.is_empty() {
-        let too_short = Refusal::at(2, place);
-        if rest.len() < 2 {
-            return Err(too_short);
-        }
-        let end = 2 + usize::from(rest[1]);
-        let payload = rest.get(2..end).ok_or(too_short)?;
-        if let Some(number) = descriptors::read(reading, rest[0], payload, record) {
+    for descriptor in Descriptors(info) {
+        let (tag, payload) = descriptor.ok_or(Refusal::at(2, place))?;
+        if let Some(number) = descriptors::read(reading, tag, payload, record) {
             faults.add(number, place);
         }
-        rest = &rest[end..];
     }
     Ok(())
 }
@@ -126,10 +177,12 @@ fn judge(entry: &Entry, place: usize, seen: &mut Seen, faults: &mut Faults) {
         if let Some(number) = descriptors::fault_on_stream(entry.stream_type, record) {
             faults.add(number, place);
         }
-        if seen.layer(record.layer_index()) {
+    }
+    if let Some(index) = entry.layer_index() {
+        if seen.layer(index) {
             faults.add(8, place);
         }
-        if descriptors::names_wrong_layers(record) {
+        if descriptors::names_wrong_layers(index, entry) {
             faults.add(9, place);
         }
     }
@@ -147,10 +200,18 @@ pub fn write_loop(entries: &[Entry], out: &mut [u8]) -> Result<usize, Refusal> {
     if length > LONGEST_LOOP {
         return Err(Refusal::of(1));
     }
+    let streams = entries.iter().map(|entry| (entry.stream_type, entry));
+    let implied = descriptors::two_views(streams, |entry| {
+        matches!(entry.record, Some(Record::Hierarchy(_)))
+    });
     let mut faults = Faults::default();
     let mut seen = Seen::default();
     for (place, entry) in entries.iter().enumerate() {
         if entry.record.is_some() && !descriptors::known(Reading::Of2015, entry.stream_type) {
+            faults.add(6, place);
+        }
+        let given = implied && descriptors::is_view(entry.stream_type);
+        if (entry.record == Some(Record::Implied)) != given {
             faults.add(6, place);
         }
         judge(entry, place, &mut seen, &mut faults);

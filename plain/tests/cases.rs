@@ -33,6 +33,7 @@ fn entry_line(entry: &Entry) -> String {
     let mut line = format!("  type {} pid {}", entry.stream_type, entry.pid);
     match &entry.record {
         None => line += " no record",
+        Some(Record::Implied) => line += " implied",
         Some(Record::Hierarchy(h)) => {
             write!(
                 line,
@@ -161,15 +162,14 @@ fn listing(bytes: &[u8]) -> String {
     let layers = plain::layers_of(&entries);
     let mut text = format!("accepted {}\n", layers.present.count_ones());
     for index in 0..64_u8 {
-        let record_of = |entry: &Entry| {
-            let record = entry.record?;
-            (record.layer_index() == index).then_some((entry.stream_type, entry.pid, record))
-        };
-        if let Some((stream_type, pid, record)) = entries.iter().find_map(record_of) {
-            let channel = record.channel();
+        let of_index = |entry: &&Entry| entry.layer_index() == Some(index);
+        if let Some(layer) = entries.iter().find(of_index) {
             write!(
                 text,
-                "layer {index} pid {pid} type {stream_type} channel {channel} closure"
+                "layer {index} pid {} type {} channel {} closure",
+                layer.pid,
+                layer.stream_type,
+                layer.channel().expect("a layer")
             )
             .unwrap();
             match plain::closure(&layers, u64::from(index)) {
@@ -188,7 +188,9 @@ fn listing(bytes: &[u8]) -> String {
 
 #[test]
 fn samples() {
-    for name in ["absent", "loop-a", "mv-hevc", "mvc", "refused", "svc"] {
+    for name in [
+        "absent", "loop-a", "mv-hevc", "mvc", "refused", "sports", "svc", "twelve",
+    ] {
         let bytes = std::fs::read(format!("{ROOT}samples/{name}.bin")).expect(name);
         same(&listing(&bytes), &file(&format!("tests/layers/{name}.txt")));
     }

@@ -9,7 +9,7 @@ from dataclasses import replace
 from unittest.mock import patch
 
 import thoquenry
-from thoquenry import (Component, Entry, Extension, Header, Hierarchy, Number, Reading, Refused, Row, Times, Units, closure, import_, join,
+from thoquenry import (Component, Entry, Extension, Header, Hierarchy, Implied, Number, Reading, Refused, Row, Times, Units, closure, import_, join,
                        read_loop, read_times, write_loop, write_times)
 from thoquenry._library import load
 
@@ -27,6 +27,12 @@ ENTRIES_OF_LOOP_A = [
 UNITS = Units((0, 1), [[Component(0, 0), Component(1, 0)], [Component(2, 600), Component(3, 0)]], 0)
 
 
+# Two views without a hierarchy descriptor, and an audio stream between them.
+SPORTS = bytes.fromhex("1BE120F000" "0FE122F000" "20E121F000")
+
+ENTRIES_OF_SPORTS = [Entry(0x1B, 288, Implied()), Entry(0x0F, 290), Entry(0x20, 289, Implied())]
+
+
 def table(last_matching):
     """Document 01's table, with its last match time."""
     return [Row(0, 9000, 9000), Row(1, 9000, 9000), Row(0, 12600, 12600), Row(1, 12000, last_matching)]
@@ -37,12 +43,14 @@ def two_rows(first, second):
     return join({0: ()}, 0, [Row(0, first, first), Row(0, second, second)]).units
 
 
-class WorkedExamples(unittest.TestCase):
+class Answers(unittest.TestCase):
     def refused(self, number, place, call, *words):
         with self.assertRaises(Refused) as caught:
             call(*words)
         self.assertEqual((caught.exception.number, caught.exception.place), (number, place))
 
+
+class WorkedExamples(Answers):
     def test_loop_a_is_read_with_all_fields(self):
         self.assertEqual(read_loop(Reading.EDITION_2015, LOOP_A), ENTRIES_OF_LOOP_A)
 
@@ -199,6 +207,107 @@ class WorkedExamples(unittest.TestCase):
     def test_what_is_offered(self):
         self.assertEqual([name for name in thoquenry.__all__ if not hasattr(thoquenry, name)], [])
         self.assertRegex(thoquenry.__version__, r"^\d+\.\d+\.\d+$")
+
+
+class TwoViews(Answers):
+    """Two views and no hierarchy descriptor: a base layer of index 0, and a layer of index 1 that rests on it."""
+
+    BASE, SECOND = Entry(0x1B, 256, Implied()), Entry(0x20, 257, Implied())
+    PLAIN_BASE, PLAIN_SECOND, AUDIO = Entry(0x1B, 256), Entry(0x20, 257), Entry(0x0F, 258)
+
+    def layer(self, stream_type, pid, hierarchy_type, layer_index, embedded, no_spatial=True, no_quality=True):
+        return Entry(stream_type, pid, Hierarchy(True, True, no_spatial, no_quality, hierarchy_type, layer_index, False, embedded, 0))
+
+    def test_they_are_read(self):
+        for reading in Reading:
+            self.assertEqual(read_loop(reading, SPORTS), ENTRIES_OF_SPORTS)
+            self.assertEqual([entry.layer_index for entry in read_loop(reading, SPORTS)], [0, None, 1])
+            self.assertEqual(read_loop(reading, SPORTS[10:] + SPORTS[:5]), [ENTRIES_OF_SPORTS[2], ENTRIES_OF_SPORTS[0]])
+            self.assertEqual([closure(reading, SPORTS, target) for target in (0, 1)], [(0,), (0, 1)])
+            self.refused(Number.NO_SUCH_LAYER, 0, closure, reading, SPORTS, 2)
+        self.assertEqual([entry.layer_index for entry in ENTRIES_OF_LOOP_A], [0, 1, 2])
+
+    def test_an_extension_on_one_of_them(self):
+        loop = bytes.fromhex("1BE100F000" "20E101F00A3F080600020402C1C1C0")
+        self.assertEqual(read_loop(Reading.EDITION_2009, loop), [self.BASE, self.SECOND])
+        self.refused(Number.TYPE_NOT_ALLOWED, 1, read_loop, Reading.EDITION_2015, loop)
+
+    def test_an_implied_index_meets_a_written_one(self):
+        base, second, hevc = (bytes.fromhex(entry) for entry in ("1BE100F000", "20E101F000", "24E102F0060404FFC0FFC0"))
+        for loop, place in ((hevc + base + second, 1), (base + hevc + second, 1), (base + second + hevc, 2), (second + hevc + base, 2)):
+            self.refused(Number.REPEATED_LAYER_INDEX, place, read_loop, Reading.EDITION_2015, loop)
+            self.assertEqual(closure(Reading.EDITION_2009, loop, 1), (0, 1))
+
+    def test_rows_are_joined_over_them(self):
+        for reading in Reading:
+            self.assertEqual(import_(reading, SPORTS, 1, table(12600)), UNITS)
+            self.assertEqual(import_(reading, SPORTS, 0, table(12600)), Units((0,), [[Component(0, 0)], [Component(2, 0)]], 0))
+            self.refused(Number.UNPAIRED, 3, import_, reading, SPORTS, 1, table(12601))
+            self.refused(Number.USED_TWICE, 3, import_, reading, SPORTS, 1, table(9000))
+
+    def test_they_are_written_without_a_descriptor(self):
+        self.assertEqual(write_loop(ENTRIES_OF_SPORTS), SPORTS)
+        self.assertEqual(write_loop([self.SECOND, self.BASE]), bytes.fromhex("20E101F000" "1BE100F000"))
+        third = self.layer(0x1F, 258, 1, 2, 1, no_spatial=False)
+        written = write_loop([self.BASE, self.SECOND, third])
+        self.assertEqual(written, bytes.fromhex("1BE100F000" "20E101F000" "1FE102F0060404D1C241C0"))
+        self.assertEqual(closure(Reading.EDITION_2015, written, 2), (0, 1, 2))
+
+    def test_a_mark_that_is_missing(self):
+        for entries, place in (
+            ([self.PLAIN_BASE, self.PLAIN_SECOND], 0),
+            ([self.BASE, self.PLAIN_SECOND], 1),
+            ([self.PLAIN_BASE, self.SECOND], 0),
+            ([self.AUDIO, self.SECOND, self.PLAIN_BASE], 2),
+        ):
+            self.refused(Number.TYPE_NOT_ALLOWED, place, write_loop, entries)
+
+    def test_a_mark_where_none_is_given(self):
+        another = Entry(0x1B, 259)
+        for entries, place in (
+            ([self.BASE], 0),
+            ([self.AUDIO, self.SECOND], 1),
+            ([self.BASE, self.SECOND, replace(self.AUDIO, record=Implied())], 2),
+            ([self.BASE, self.SECOND, Entry(0x1F, 258, Implied())], 2),
+            ([self.BASE, self.SECOND, Entry(0x24, 258, Implied())], 2),
+            # two of one type
+            ([another, self.BASE, self.SECOND], 1),
+            ([self.PLAIN_BASE, self.PLAIN_SECOND, replace(another, record=Implied())], 2),
+            ([self.PLAIN_BASE, self.SECOND, Entry(0x20, 258)], 1),
+            # a hierarchy descriptor on the other
+            ([self.layer(0x1B, 256, 15, 0, 63), self.SECOND], 1),
+            ([self.BASE, self.layer(0x20, 257, 9, 1, 0)], 0),
+        ):
+            self.refused(Number.TYPE_NOT_ALLOWED, place, write_loop, entries)
+        for entries in (
+            [self.PLAIN_BASE, another, self.PLAIN_SECOND],
+            [self.layer(0x1B, 256, 15, 0, 63), self.PLAIN_SECOND],
+            [self.PLAIN_BASE, self.layer(0x20, 257, 9, 1, 0)],
+        ):
+            self.assertEqual(read_loop(Reading.EDITION_2015, write_loop(entries)), entries)
+
+    def test_an_extension_to_be_written_on_one_of_them_does_not_undo_the_rule(self):
+        second = Entry(0x20, 257, Extension(2, 1, 0, 1, False, 1, (0,)))
+        self.refused(Number.TYPE_NOT_ALLOWED, 0, write_loop, [self.PLAIN_BASE, second])
+        self.refused(Number.TYPE_NOT_ALLOWED, 1, write_loop, [self.BASE, second])
+
+    def test_a_wrong_mark_beside_other_faults(self):
+        not_allowed = self.layer(0x1F, 258, 9, 5, 0)
+        wrong_flags = self.layer(0x1F, 258, 1, 5, 0, no_spatial=False, no_quality=False)
+        hevc = self.layer(0x24, 258, 15, 0, 63)
+        for number, place, entries in (
+            (Number.TOO_WIDE, 0, [replace(self.PLAIN_BASE, elementary_pid=8192), self.SECOND]),
+            (Number.REPEATED_PID, 1, [self.PLAIN_BASE, replace(self.SECOND, elementary_pid=256)]),
+            (Number.TYPE_NOT_ALLOWED, 0, [not_allowed, self.PLAIN_BASE, self.SECOND]),
+            (Number.TYPE_NOT_ALLOWED, 0, [self.PLAIN_BASE, not_allowed, self.SECOND]),
+            (Number.TYPE_NOT_ALLOWED, 1, [wrong_flags, self.PLAIN_BASE, self.SECOND]),
+            (Number.TYPE_NOT_ALLOWED, 2, [hevc, self.BASE, self.PLAIN_SECOND]),
+            (Number.WRONG_FLAGS, 2, [self.BASE, self.SECOND, wrong_flags]),
+            (Number.REPEATED_LAYER_INDEX, 1, [hevc, self.BASE, self.SECOND]),
+            (Number.REPEATED_LAYER_INDEX, 1, [self.BASE, hevc, self.SECOND]),
+            (Number.REPEATED_LAYER_INDEX, 2, [self.SECOND, self.BASE, hevc]),
+        ):
+            self.refused(number, place, write_loop, entries)
 
 
 class MissingLibrary(unittest.TestCase):

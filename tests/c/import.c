@@ -1,7 +1,7 @@
 /*
- * The library called from C: document 01's worked example of a whole import, the same in steps, and what only C can hand over: unknown
- * readings, columns of unequal length, rooms that are too small, and null pointers of buffers of no elements. Ends with status 0 when all is as
- * it should be.
+ * The library called from C: document 01's worked example of a whole import, the same in steps, two views without a hierarchy descriptor, and
+ * what only C can hand over: unknown readings, columns of unequal length, rooms that are too small, and null pointers of buffers of no elements.
+ * Ends with status 0 when all is as it should be.
  */
 #include "thoquenry.h"
 
@@ -139,6 +139,45 @@ static void fields(void)
     EXPECT(memcmp(written, loop, sizeof loop) == 0);
 }
 
+/* Two views without a hierarchy descriptor, and an audio stream between them. */
+static void two_views(void)
+{
+    const uint8_t sports[] = {0x1B, 0xE1, 0x20, 0xF0, 0x00, 0x0F, 0xE1, 0x22, 0xF0, 0x00, 0x20, 0xE1, 0x21, 0xF0, 0x00};
+    const thq_entry expected[] = {
+        {.stream_type = 0x1B, .elementary_pid = 288, .record = THQ_IMPLIED},
+        {.stream_type = 0x0F, .elementary_pid = 290, .record = THQ_NO_RECORD},
+        {.stream_type = 0x20, .elementary_pid = 289, .record = THQ_IMPLIED},
+    };
+    const uint64_t readings[] = {THQ_2009, THQ_2015};
+    thq_entry entries[3];
+    uint8_t written[sizeof sports];
+    uint64_t set, numbers[4], summary[3];
+    int64_t lags[4];
+
+    for (size_t k = 0; k < LENGTH(readings); k++) {
+        EXPECT(thq_read_loop(readings[k], sports, sizeof sports, (uint16_t *)entries, 3 * THQ_ENTRY_NUMBERS) == 3 * 256);
+        EXPECT(memcmp(entries, expected, sizeof expected) == 0);
+        EXPECT(thq_closure(readings[k], sports, sizeof sports, 1, &set, 1) == 2 * 256 && set == 3);
+        EXPECT(thq_import(readings[k], sports, sizeof sports, 1, indices, 4, decodings, 4, matches, 4, numbers, 4, lags, 4, summary, 3) == 4 * 256);
+        EXPECT(numbers[2] == 2 && lags[2] == 600 && summary[0] == 3 && summary[1] == 2 && summary[2] == 0);
+    }
+    EXPECT(THQ_LAYER_INDEX(expected[0]) == 0 && THQ_LAYER_INDEX(expected[2]) == 1);
+
+    /* No other field of a record is looked at, and no descriptor is written. */
+    memset(&entries[2].no_view_scalability_flag, 0xFF, sizeof entries[2] - offsetof(thq_entry, no_view_scalability_flag));
+    EXPECT(thq_write_loop((const uint16_t *)entries, 3 * THQ_ENTRY_NUMBERS, written, sizeof written) == 256 * sizeof sports);
+    EXPECT(memcmp(written, sports, sizeof sports) == 0);
+
+    /* The mark where none is given, and none where one is. */
+    entries[1].record = THQ_IMPLIED;
+    EXPECT(thq_write_loop((const uint16_t *)entries, 3 * THQ_ENTRY_NUMBERS, written, sizeof written) == THQ_REFUSED_TYPE_NOT_ALLOWED + 256 * 1);
+    entries[1].record = THQ_NO_RECORD;
+    entries[2].record = THQ_NO_RECORD;
+    EXPECT(thq_write_loop((const uint16_t *)entries, 3 * THQ_ENTRY_NUMBERS, written, sizeof written) == THQ_REFUSED_TYPE_NOT_ALLOWED + 256 * 2);
+    entries[2].record = THQ_IMPLIED + 1;
+    EXPECT(thq_write_loop((const uint16_t *)entries, 3 * THQ_ENTRY_NUMBERS, written, sizeof written) == THQ_REFUSED_TOO_WIDE);
+}
+
 static void times(void)
 {
     const uint8_t with_tref[] = {
@@ -200,6 +239,7 @@ int main(void)
     whole_import();
     in_steps();
     fields();
+    two_views();
     times();
     null_buffers();
     version();

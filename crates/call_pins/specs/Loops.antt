@@ -13,7 +13,8 @@ use Rattle.combinators.specs.Padding.{padTo}
 use Rattle.combinators.specs.Those.{those}
 use Rattle.sets.specs.Sets.{size}
 use Rattle.text.specs.Text.{ascii, decimal, decimalWidth, texts}
-use Rattle.descriptors.specs.declared.«record».Record.the-variants.{NoRecord, Hierarchy, Extension}
+use Rattle.descriptors.specs.declared.«record».Record.{Record}
+use Rattle.descriptors.specs.declared.«record».Record.the-variants.{NoRecord, Hierarchy, Extension, Implied}
 use Rattle.es_loop.specs.declared.entries.Entry.{Entry}
 use Rattle.es_loop.specs.declared.reader.Outcome.{Outcome}
 use Rattle.es_loop.specs.declared.reader.Outcome.the-variants.{Accepted, Refused}
@@ -46,6 +47,32 @@ indexBytes indices = map (λ (i : ℕ). 0xC0 + i) indices
 abbrev pub layer63 : ℕ → List ℕ → List ℕ
 layer63 count list =
     (0x28 ∷ 0xE1 ∷ 0x00 ∷ 0xF0 ∷ (9 + length list) ∷ 0x3F ∷ (7 + length list) ∷ 0x06 ∷ 0x00 ∷ 0x01 ∷ 0xFC ∷ 0x02 ∷ (0xC0 + count) ∷ 0xC0 ∷ []) ++ indexBytes list
+
+-- Two views and no hierarchy descriptor, AVC on PID 288 and MVC on PID 289; what may stand beside them: an audio stream, an HEVC base of index 0, and an SVC layer of an
+-- index that rests on another
+abbrev pub avcView : List ℕ
+avcView = 0x1B ∷ 0xE1 ∷ 0x20 ∷ 0xF0 ∷ 0x00 ∷ []
+
+abbrev pub mvcView : List ℕ
+mvcView = 0x20 ∷ 0xE1 ∷ 0x21 ∷ 0xF0 ∷ 0x00 ∷ []
+
+abbrev pub audio : List ℕ
+audio = 0x0F ∷ 0xE1 ∷ 0x22 ∷ 0xF0 ∷ 0x00 ∷ []
+
+abbrev pub hevcBase : List ℕ
+hevcBase = 0x24 ∷ 0xE1 ∷ 0x23 ∷ 0xF0 ∷ 0x06 ∷ 0x04 ∷ 0x04 ∷ 0xFF ∷ 0xC0 ∷ 0xFF ∷ 0xC0 ∷ []
+
+abbrev pub svcLayer : ℕ → ℕ → List ℕ
+svcLayer index embedded = 0x1F ∷ 0xE1 ∷ 0x24 ∷ 0xF0 ∷ 0x06 ∷ 0x04 ∷ 0x04 ∷ 0xF1 ∷ (0xC0 + index) ∷ (0x40 + embedded) ∷ 0xC0 ∷ []
+
+-- the MVC view with a hierarchy extension of index 1, on layer 0
+abbrev pub extendedView : List ℕ
+extendedView =
+    0x20 ∷ 0xE1 ∷ 0x21 ∷ 0xF0 ∷ 0x0A ∷ 0x3F ∷ 0x08 ∷ 0x06 ∷ 0x00 ∷ 0x02 ∷ 0x04 ∷ 0x02 ∷ 0xC1 ∷ 0xC1 ∷ 0xC0 ∷ []
+
+-- the sample sports
+abbrev pub sports : List ℕ
+sports = avcView ++ audio ++ mvcView
 
 abbrev pub loops : List Case
 loops =
@@ -117,6 +144,20 @@ loops =
     ∷ case Edition2015 (layer63 63 (first 62 ++ 61 ∷ [])) (Refused (WrongEmbeddedIndex 0))
     ∷ case Edition2015 (layer63 63 (first 62)) (Refused (WrongLength 0))
     ∷ case Edition2015 (layer63 62 (first 63)) (Refused (WrongLength 0))
+    -- two views and no hierarchy descriptor, beside an HEVC base of index 0: 8 at the later entry, whichever is implied; none in 2009, or with a second MVC
+    ∷ case Edition2015 (hevcBase ++ avcView ++ mvcView) (Refused (RepeatedLayerIndex 1))
+    ∷ case Edition2015 (avcView ++ hevcBase ++ mvcView) (Refused (RepeatedLayerIndex 1))
+    ∷ case Edition2015 (avcView ++ mvcView ++ hevcBase) (Refused (RepeatedLayerIndex 2))
+    ∷ case Edition2015 (mvcView ++ hevcBase ++ avcView) (Refused (RepeatedLayerIndex 2))
+    ∷ case Edition2009 (hevcBase ++ avcView ++ mvcView) Accepted
+    ∷ case Edition2015 (hevcBase ++ avcView ++ mvcView ++ (0x20 ∷ 0xE1 ∷ 0x25 ∷ 0xF0 ∷ 0x00 ∷ [])) Accepted
+    -- beside a layer of index 1, in both readings; of index 2, which rests on 1
+    ∷ case Edition2009 (svcLayer 1 0 ++ avcView ++ mvcView) (Refused (RepeatedLayerIndex 2))
+    ∷ case Edition2015 (mvcView ++ svcLayer 1 0 ++ avcView) (Refused (RepeatedLayerIndex 1))
+    ∷ case Edition2009 (avcView ++ mvcView ++ svcLayer 2 1) Accepted
+    -- an extension on one of them
+    ∷ case Edition2009 (avcView ++ extendedView) Accepted
+    ∷ case Edition2015 (avcView ++ extendedView) (Refused (TypeNotAllowed 1))
     ∷ []
 
 -- A loop in which every field differs from every other:
@@ -160,6 +201,13 @@ distinctEntries =
       embedded = padTo 63 (record { 0 = 0 }) (record { 0 = 9 } ∷ record { 0 = 7 } ∷ []);
     }
     ∷ []
+
+-- an entry without a descriptor, and those of the sample sports with these records
+abbrev pub undescribed : ℕ → ℕ → Record → Entry
+undescribed streamType pid r = record { «stream_type» = streamType; pid = pid; «record» = r; embedded = replicate 63 (record { 0 = 0 }) }
+
+abbrev pub sportsEntries : Record → Record → Record → List Entry
+sportsEntries avc other mvc = undescribed 27 288 avc ∷ undescribed 15 290 other ∷ undescribed 32 289 mvc ∷ []
 
 -- entries to be written: one without a record; one with a hierarchy record that enhances spatially, and temporally too where the flag is false; one with
 -- an extension that lists the layers from 0 on
@@ -235,11 +283,25 @@ writes =
     ∷ write (layer 27 300 9 true 9 7 ∷ []) 1 11 (Written.Refused (TypeNotAllowed 0))
     ∷ write (layer 44 300 1 true 9 7 ∷ []) 1 11 (Written.Refused (TypeNotAllowed 0))
     ∷ write (layer 31 300 1 true 9 7 ∷ []) 1 11 (Written.Bytes 11)
+    -- 6: the marks of two views, right; each of them missing; on another stream; of a view alone, and of one beside a view with a descriptor
+    ∷ write (sportsEntries Implied NoRecord Implied) 3 15 (Written.Bytes 15)
+    ∷ write (sportsEntries NoRecord NoRecord NoRecord) 3 15 (Written.Refused (TypeNotAllowed 0))
+    ∷ write (sportsEntries NoRecord NoRecord Implied) 3 15 (Written.Refused (TypeNotAllowed 0))
+    ∷ write (sportsEntries Implied NoRecord NoRecord) 3 15 (Written.Refused (TypeNotAllowed 2))
+    ∷ write (sportsEntries Implied Implied Implied) 3 15 (Written.Refused (TypeNotAllowed 1))
+    ∷ write (sportsEntries Implied NoRecord Implied) 1 15 (Written.Refused (TypeNotAllowed 0))
+    ∷ write (sportsEntries NoRecord NoRecord Implied) 2 15 (Written.Bytes 10)
+    ∷ write (layer 27 300 15 true 0 63 ∷ undescribed 32 289 Implied ∷ []) 2 16 (Written.Refused (TypeNotAllowed 1))
+    ∷ write (layer 27 300 15 true 0 63 ∷ undescribed 32 289 NoRecord ∷ []) 2 16 (Written.Bytes 16)
     -- 7: a second flag at 0
     ∷ write (layer 31 300 1 false 9 7 ∷ []) 1 11 (Written.Refused (WrongFlags 0))
     -- 8: the same index
     ∷ write (layer 31 300 1 true 9 7 ∷ layer 31 301 1 true 9 7 ∷ []) 2 22 (Written.Refused (RepeatedLayerIndex 1))
     ∷ write (layer 31 300 1 true 9 7 ∷ layer 31 301 1 true 10 7 ∷ []) 2 22 (Written.Bytes 22)
+    -- 8: an index of two views, at the later entry
+    ∷ write (layer 31 300 1 true 1 0 ∷ sportsEntries Implied NoRecord Implied) 4 26 (Written.Refused (RepeatedLayerIndex 3))
+    ∷ write (sportsEntries Implied NoRecord Implied ++ layer 31 300 1 true 1 0 ∷ []) 4 26 (Written.Refused (RepeatedLayerIndex 3))
+    ∷ write (sportsEntries Implied NoRecord Implied ++ layer 31 300 1 true 2 1 ∷ []) 4 26 (Written.Bytes 26)
     -- 9: on itself
     ∷ write (layer 31 300 1 true 9 9 ∷ []) 1 11 (Written.Refused (WrongEmbeddedIndex 0))
     -- on 8 layers, on 9 and on 63; 25: on 64
@@ -266,6 +328,14 @@ pub record LoopsPinned : Type 0 where
   pub long-list-read : take 1 (loopRead Edition2015 onAll .entries) ≡ onMany 63 ∷ []
   pub long-list-written : content 1 (onMany 63 ∷ []) (replicate 78 5) ≡ onAll ++ 5 ∷ []
   pub long-list-absent : loopClosure Edition2015 onAll 63 ≡ NoClosure (EmbeddedLayerAbsent (record { 0 = 0 }))
+  -- two views and no hierarchy descriptor
+  pub views-read : (take 3 (loopRead Edition2015 sports .entries) ≡ sportsEntries Implied NoRecord Implied)
+      × (take 3 (loopRead Edition2009 sports .entries) ≡ sportsEntries Implied NoRecord Implied)
+  pub views-written : content 3 (sportsEntries Implied NoRecord Implied) (replicate 16 5) ≡ sports ++ 5 ∷ []
+  pub views-closures : (loopClosure Edition2009 sports 0 ≡ Complete 0b1) × (loopClosure Edition2015 sports 1 ≡ Complete 0b11)
+      × (loopClosure Edition2015 (mvcView ++ avcView ++ svcLayer 2 1) 2 ≡ Complete 0b111)
+  pub views-listed : loopText Edition2015 (mvcView ++ avcView)
+      ≡ ascii "accepted 2\nlayer 0 pid 288 type 27 channel 0 closure 0\nlayer 1 pid 289 type 32 channel 0 closure 0 1\n"
   pub listed : loopText Edition2015 distinct
       ≡ ascii "accepted 3\nlayer 7 pid 298 type 27 channel 21 closure 7\nlayer 9 pid 300 type 31 channel 42 closure 7 9\nlayer 12 pid 301 type 41 channel 47 closure 7 9 12\n"
   pub listed-in-2009 : loopText Edition2009 distinct
@@ -279,4 +349,4 @@ pub record LoopsPinned : Type 0 where
 
 pub loops-pinned : LoopsPinned
 unfolding loopText size acceptedText refusedText layersText lineAt layerLine members texts decimal decimalWidth
-loops-pinned = record { outcomes = refl; read = refl; answers = refl; written = (refl, refl); closures = (refl, refl); long-list-read = refl; long-list-written = refl; long-list-absent = refl; listed = refl; listed-in-2009 = refl; listed-absent = refl; listed-refusal = refl }
+loops-pinned = record { outcomes = refl; read = refl; answers = refl; written = (refl, refl); closures = (refl, refl); long-list-read = refl; long-list-written = refl; long-list-absent = refl; views-read = (refl, refl); views-written = refl; views-closures = (refl, refl, refl); views-listed = refl; listed = refl; listed-in-2009 = refl; listed-absent = refl; listed-refusal = refl }

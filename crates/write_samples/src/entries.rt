@@ -30,6 +30,16 @@ pub fn base(stream_type: u8, pid: u16) -> Entry {
     }
 }
 
+// A stream that no descriptor describes, with or without the implied mark.
+pub fn undescribed(stream_type: u8, pid: u16, record: Record) -> Entry {
+    Entry {
+        stream_type,
+        pid,
+        record,
+        embedded: no_layers(),
+    }
+}
+
 // A layer that enhances one other: type 1 in space, 2 in quality, 3 in time, and an MVC view, type 9, in none of these.
 pub fn enhancement(
     stream_type: u8,

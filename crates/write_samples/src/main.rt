@@ -3,12 +3,14 @@
 mod entries;
 mod shown;
 
+use descriptors::Record;
 use entries::above;
 use entries::base;
 use entries::enhancement;
 use entries::extension;
 use entries::twelve_below;
 use entries::two_below;
+use entries::undescribed;
 use entries::view;
 use es_loop::Entry;
 use es_loop::blank_entries;
@@ -73,6 +75,15 @@ fn twelve() {
     write(b"twelve", 13, list);
 }
 
+// Two views without a hierarchy descriptor, and an audio stream between them.
+fn sports() {
+    let mut list = blank_entries();
+    list[0] = undescribed(0x1B, 0x120, Record::Implied);
+    list[1] = undescribed(0x0F, 0x122, Record::NoRecord);
+    list[2] = undescribed(0x20, 0x121, Record::Implied);
+    write(b"sports", 3, list);
+}
+
 // An enhancement that rests on a layer which is not in the loop: that is no fault of the loop.
 fn absent() {
     let mut list = blank_entries();
@@ -94,6 +105,7 @@ fn main() {
     mvc();
     mv_hevc();
     twelve();
+    sports();
     absent();
     refused();
 }

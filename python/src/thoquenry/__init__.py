@@ -14,16 +14,16 @@ from enum import IntEnum
 from itertools import chain, islice
 from operator import index
 from struct import Struct
-from typing import Iterable, List, Mapping, Tuple, Union
+from typing import Iterable, List, Mapping, Optional, Tuple, Union
 
 from ._library import load
 from ._refusals import Number, Refused
 
 __all__ = [
-    "Component", "Entry", "Extension", "Header", "Hierarchy", "Number", "Reading", "Refused", "Row", "Times", "Units",
+    "Component", "Entry", "Extension", "Header", "Hierarchy", "Implied", "Number", "Reading", "Refused", "Row", "Times", "Units",
     "closure", "import_", "join", "read_loop", "read_times", "write_loop", "write_times",
 ]
-__version__ = "0.3.0"
+__version__ = "0.4.0"
 
 _LIBRARY = load()
 
@@ -34,6 +34,9 @@ _ENTRY_BYTES = 5
 _ENTRIES = _LOOP_BYTES // _ENTRY_BYTES
 _ENTRY_NUMBERS = 80
 _EMBEDDED_ROOM = 63
+
+# The stream type of the second of two views.
+_MVC = 0x20
 
 # The first 16 numbers of an entry, and the whole list of embedded layers after them.
 _FIELDS = Struct("=16H")
@@ -83,12 +86,25 @@ class Extension:
 
 
 @dataclass(frozen=True)
+class Implied:
+    """No descriptor: one of two views. Where a loop holds exactly one stream of type 0x1B and exactly one of type 0x20, and neither has a hierarchy
+    descriptor, the 0x1B is a base layer of index 0, and the 0x20 a layer of index 1 that rests on 0, each with channel 0."""
+
+
+@dataclass(frozen=True)
 class Entry:
     """One entry of a loop. Its record is None where the stream is not a layer."""
 
     stream_type: int
     elementary_pid: int
-    record: Union[None, Hierarchy, Extension] = None
+    record: Union[None, Hierarchy, Extension, Implied] = None
+
+    @property
+    def layer_index(self) -> Optional[int]:
+        """The index of the layer that the stream is, of an implied one by its stream type, or None where it is no layer."""
+        if isinstance(self.record, Implied):
+            return int(self.stream_type == _MVC)
+        return None if self.record is None else self.record.layer_index
 
 
 @dataclass(frozen=True)
@@ -205,6 +221,8 @@ def _to_numbers(entry: Entry) -> List[int]:
     fields = [entry.stream_type, entry.elementary_pid]
     if record is None:
         fields += [0]
+    elif isinstance(record, Implied):
+        fields += [3]
     elif isinstance(record, Hierarchy):
         fields += [1, record.no_view, record.no_temporal, record.no_spatial, record.no_quality, record.hierarchy_type,
                    record.layer_index, record.tref_present, record.embedded_layer_index, record.channel]
@@ -224,6 +242,8 @@ def _entry(entries, at: int) -> Entry:
     if record == 2:
         listed = _LIST.unpack_from(entries, at + _FIELDS.size)[:count]
         return Entry(stream_type, pid, Extension(dimension_bits, layer, temporal_id, nuh_layer_id, tref == 1, channel, listed))
+    if record == 3:
+        return Entry(stream_type, pid, Implied())
     return Entry(stream_type, pid)
 
 
@@ -236,7 +256,8 @@ def read_loop(reading: Reading, loop: bytes) -> List[Entry]:
 
 
 def write_loop(entries: Iterable[Entry]) -> bytes:
-    """Writes a loop, by the 2015 reading's rules. Refusals: 25; then 1, 3, 6 to 9."""
+    """Writes a loop, by the 2015 reading's rules. Refusals: 25; then 1, 3, 6 to 9; 6 also where Implied stands on an entry that is not one of two such
+    views, or does not stand on one that is."""
     left = iter(entries)
     written = _written(islice(left, _ENTRIES + 1))
     # One entry too many is here, and the answer is 1, unless a later value is too wide (25): those are looked at piece by piece, and not kept.

@@ -11,7 +11,7 @@
 compile_error!("libthoquenry is for x86-64 Linux");
 
 /// The version of the header that these are the declarations of; [`thq_version`] gives the library's.
-pub const THQ_VERSION_NUMBER: u64 = 300;
+pub const THQ_VERSION_NUMBER: u64 = 400;
 
 /// The readings.
 pub const THQ_2009: u64 = 2009;
@@ -48,6 +48,7 @@ pub const THQ_NOT_A_CALL: u64 = 255;
 pub const THQ_NO_RECORD: u16 = 0;
 pub const THQ_HIERARCHY: u16 = 1;
 pub const THQ_EXTENSION: u16 = 2;
+pub const THQ_IMPLIED: u16 = 3;
 
 /// The numbers that one entry takes.
 pub const THQ_ENTRY_NUMBERS: usize = 80;

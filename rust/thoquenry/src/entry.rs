@@ -1,7 +1,7 @@
 //! The entries of an elementary-stream loop, and the 80 numbers by which each crosses to the library.
 
 use crate::layers::LayerIndex;
-use thoquenry_sys::{THQ_ENTRY_NUMBERS, THQ_EXTENSION, THQ_HIERARCHY, THQ_NO_RECORD};
+use thoquenry_sys::{THQ_ENTRY_NUMBERS, THQ_EXTENSION, THQ_HIERARCHY, THQ_IMPLIED, THQ_NO_RECORD};
 
 /// Where a layer is sent: hierarchy_channel, six bits.
 #[derive(Clone, Copy, Debug, Default, PartialEq, Eq, PartialOrd, Ord, Hash)]
@@ -22,7 +22,7 @@ pub struct Entry {
     pub stream_type: u8,
     /// elementary_PID, thirteen bits.
     pub elementary_pid: u16,
-    /// The stream's hierarchy record, if it has one.
+    /// What makes the stream a layer, if anything does.
     pub record: Record,
 }
 
@@ -69,6 +69,9 @@ pub enum Record {
         /// The layers that this one rests on, in the descriptor's order.
         embedded: Vec<LayerIndex>,
     },
+    /// No descriptor: one of two views. Where a loop holds exactly one stream of type 0x1B and exactly one of type 0x20, and neither has a
+    /// hierarchy descriptor, the 0x1B is a base layer of index 0, and the 0x20 a layer of index 1 that rests on 0, each with channel 0.
+    Implied,
 }
 
 /// The 80 numbers of one entry, laid out as include/thoquenry.h says.
@@ -78,7 +81,21 @@ pub(crate) type Numbers = [u16; THQ_ENTRY_NUMBERS];
 const EMBEDDED: usize = 16;
 const EMBEDDED_ROOM: usize = 63;
 
+/// The stream type of the second of two views.
+const MVC: u8 = 0x20;
+
 impl Entry {
+    /// The index of the layer that the stream is, if it is one: of an implied one by its stream type.
+    pub fn layer_index(&self) -> Option<LayerIndex> {
+        match self.record {
+            Record::None => None,
+            Record::Hierarchy { layer_index, .. } | Record::Extension { layer_index, .. } => {
+                Some(layer_index)
+            }
+            Record::Implied => Some(LayerIndex(u8::from(self.stream_type == MVC))),
+        }
+    }
+
     /// The entry as its 80 numbers. A list of more than 63 layers has a count that is too wide for its field, by which it is refused.
     pub(crate) fn to_numbers(&self) -> Numbers {
         let mut numbers = [0; THQ_ENTRY_NUMBERS];
@@ -86,6 +103,7 @@ impl Entry {
         numbers[1] = self.elementary_pid;
         match &self.record {
             Record::None => numbers[2] = THQ_NO_RECORD,
+            Record::Implied => numbers[2] = THQ_IMPLIED,
             Record::Hierarchy {
                 no_view,
                 no_temporal,
@@ -161,6 +179,7 @@ impl Entry {
                     .map(|place| LayerIndex(byte(EMBEDDED + place)))
                     .collect(),
             },
+            THQ_IMPLIED => Record::Implied,
             _ => Record::None,
         };
         Entry {

@@ -146,7 +146,8 @@ pub fn read_loop(reading: Reading, bytes: &[u8]) -> Result<Vec<Entry>, Refusal> 
     Ok(rows.map(Entry::of_numbers).collect())
 }
 
-/// Writes a loop, by the 2015 reading's rules. Refusals: 25; then 1, 3, 6 to 9.
+/// Writes a loop, by the 2015 reading's rules. Refusals: 25; then 1, 3, 6 to 9; 6 also where [`Record::Implied`] stands on an entry that is not
+/// one of two such views, or does not stand on one that is.
 pub fn write_loop(entries: &[Entry]) -> Result<Vec<u8>, Refusal> {
     let numbers: Vec<u16> = entries.iter().flat_map(Entry::to_numbers).collect();
     let mut out = vec![0; LOOP_BYTES];

@@ -103,7 +103,7 @@ refusals! {
         /// The entry, from 0.
         entry: usize
     },
-    /// 6: entry {} has a type not allowed on this stream, or an extension on 0x1B, 0x1F or 0x20.
+    /// 6: entry {} has a type not allowed on this stream, or an extension on 0x1B, 0x1F or 0x20; or, to be written, its implied mark isn't what two views without a hierarchy descriptor give.
     6 TypeNotAllowed {
         /// The entry, from 0.
         entry: usize
@@ -113,7 +113,7 @@ refusals! {
         /// The entry, from 0.
         entry: usize
     },
-    /// 8: entry {} has a layer index held by an earlier layer.
+    /// 8: entry {} has a layer index, written or implied, held by an earlier layer.
     8 RepeatedLayerIndex {
         /// The entry, from 0.
         entry: usize

@@ -218,6 +218,73 @@ fn the_whole_import() {
     assert_eq!(import(9000), Err(Refusal::UsedTwice { row: 3 }));
 }
 
+/// Two views without a hierarchy descriptor, and an audio stream between them.
+const SPORTS: [u8; 15] = [
+    0x1B, 0xE1, 0x20, 0xF0, 0x00, 0x0F, 0xE1, 0x22, 0xF0, 0x00, 0x20, 0xE1, 0x21, 0xF0, 0x00,
+];
+
+/// Their entries, with these records on the views.
+fn sports(base: Record, second: Record) -> [Entry; 3] {
+    [
+        (0x1B, 288, base),
+        (0x0F, 290, Record::None),
+        (0x20, 289, second),
+    ]
+    .map(|(stream_type, elementary_pid, record)| Entry {
+        stream_type,
+        elementary_pid,
+        record,
+    })
+}
+
+#[test]
+fn two_views_are_read_and_written_without_a_descriptor() {
+    let entries = sports(Record::Implied, Record::Implied);
+    for reading in [Reading::Edition2009, Reading::Edition2015] {
+        assert_eq!(read_loop(reading, &SPORTS).unwrap(), entries);
+        let set = closure(reading, &SPORTS, LayerIndex(1));
+        assert_eq!(set, Ok(LayerSet(0b11)));
+    }
+    assert_eq!(write_loop(&entries).unwrap(), SPORTS);
+    let indices = |entries: &[Entry]| entries.iter().map(Entry::layer_index).collect::<Vec<_>>();
+    assert_eq!(
+        indices(&entries),
+        [Some(LayerIndex(0)), None, Some(LayerIndex(1))]
+    );
+    assert_eq!(
+        indices(&entries_of_loop_a()),
+        [0, 1, 2].map(|index| Some(LayerIndex(index)))
+    );
+}
+
+#[test]
+fn rows_are_joined_over_two_views() {
+    for reading in [Reading::Edition2009, Reading::Edition2015] {
+        let import = |last| import(reading, &SPORTS, LayerIndex(1), &table(last));
+        let units = import(12600).unwrap();
+        assert_eq!(units.closure, LayerSet(0b11));
+        assert_eq!(plainly(&units), [[(0, 0), (1, 0)], [(2, 600), (3, 0)]]);
+        assert_eq!(import(12601), Err(Refusal::Unpaired { row: 3 }));
+    }
+}
+
+#[test]
+fn an_implied_mark_that_is_missing_or_out_of_place() {
+    let refused = |entries: &[Entry]| write_loop(entries).unwrap_err();
+    let at = |entry| Refusal::TypeNotAllowed { entry };
+    assert_eq!(refused(&sports(Record::None, Record::None)), at(0));
+    assert_eq!(refused(&sports(Record::None, Record::Implied)), at(0));
+    assert_eq!(refused(&sports(Record::Implied, Record::None)), at(2));
+    let mut marked_audio = sports(Record::Implied, Record::Implied);
+    marked_audio[1].record = Record::Implied;
+    assert_eq!(refused(&marked_audio), at(1));
+    assert_eq!(refused(&marked_audio[..1]), at(0));
+    // a hierarchy descriptor on one of them
+    let described = entries_of_loop_a()[0].record.clone();
+    assert_eq!(refused(&sports(described.clone(), Record::Implied)), at(2));
+    assert!(write_loop(&sports(described, Record::None)).is_ok());
+}
+
 #[test]
 fn joining_over_given_layers() {
     let layers = Layers::new().with(0, &[]).with(1, &[0]).with(5, &[1, 4]);
