@@ -2,20 +2,20 @@
 ghost use mathlib.Core.Path.{_≡_};
 ghost use mathlib.Core.List.{[]};
 ghost use Rattle.combinators.specs.Padding.{padTo};
-ghost use Rattle.descriptors.specs.Extension.{noLayer};
+ghost use Rattle.extension.specs.Extension.{noLayer};
 ghost use Rattle.descriptors.specs.Looking.{heldIn, extensionKind, payloadKind, seenOf, nothingSeen};
 ghost use Rattle.descriptors.specs.Finding.{lookOf, nothingFound, unfitFound, secondFound, wrongLengthFound, recordFound, lookFound, listBefore, seenBy, Within, namedIn, namedBy};
-use super::extension::ExtensionRecord;
-use super::extension::no_layers;
-use super::extension::read_embedded;
-use super::extension::read_extension;
-use super::head::first_descriptor;
-use super::hierarchy::HierarchyRecord;
-use super::hierarchy::read_hierarchy;
 use super::record::Record;
 use super::record::is_layer;
 use super::record::names_in_list;
 use super::record::names_of_hierarchy;
+use descriptor_heads::first_descriptor;
+use extension::ExtensionRecord;
+use extension::no_layers;
+use extension::read_embedded;
+use extension::read_extension;
+use hierarchy::HierarchyRecord;
+use hierarchy::read_hierarchy;
 use vocabulary::LayerIndex;
 use vocabulary::Reading;
 

@@ -6,7 +6,7 @@ use mathlib.Core.List.{[], _∷_}
 use Rattle.combinators.specs.Padding.{padTo}
 use Rattle.vocabulary.specs.declared.refusal.Refusal.the-variants.{RepeatedPid, TypeNotAllowed, NoRoom, TooWide}
 use Rattle.descriptors.specs.declared.«record».Record.the-variants.{Hierarchy, Extension}
-use Rattle.descriptors.specs.Extension.{noLayer}
+use Rattle.extension.specs.Extension.{noLayer}
 use Rattle.es_loop.specs.declared.entries.Entry.{Entry}
 use Rattle.es_loop.specs.Entries.{blankEntry}
 use Rattle.es_loop.specs.Examples.{loopA}
