@@ -20,13 +20,13 @@ use Rattle.vocabulary.specs.declared.LayerIndex.{LayerIndex}
 use Rattle.vocabulary.specs.declared.stream_types.Reading.{Reading}
 use Rattle.vocabulary.specs.declared.stream_types.Reading.the-variants.{Edition2009, Edition2015}
 use Rattle.vocabulary.specs.StreamTypes.{known}
-use Rattle.descriptors.specs.declared.hierarchy.HierarchyRecord.{HierarchyRecord}
+use Rattle.hierarchy.specs.declared.HierarchyRecord.{HierarchyRecord}
 use Rattle.descriptors.specs.declared.«record».Record.{Record}
 use Rattle.descriptors.specs.declared.«record».Record.the-variants.{NoRecord, Hierarchy, Extension, Implied}
 use Rattle.descriptors.specs.declared.looking.Seen.{Seen}
-use Rattle.descriptors.specs.declared.extension.ExtensionRecord.{ExtensionRecord}
+use Rattle.extension.specs.declared.ExtensionRecord.{ExtensionRecord}
 use Rattle.descriptors.proofs.Meant.{descriptors-meant, descriptors-only}
-use Rattle.descriptors.specs.Extension.{noLayer}
+use Rattle.extension.specs.Extension.{noLayer}
 use Rattle.descriptors.specs.Looking.{Kind, does-not-fit, skipped, wrong-length, hierarchy, extension, kindsOf, Held, heldIn, isWrongLength, firstRecord, firstLayers, seenOf, nothingSeen, is-wrong-length}
 use Rattle.judging.specs.Meaning.{TypeNotAllowed, hierarchy-type, extension-on-avc, extension-on-svc, extension-on-mvc, unknown-type, mark-missing, WrongFlags, type-9, more-than-one, Flag, view, temporal, spatial, quality, flag, WrongEmbedded, not-below, listed-twice}
 use Rattle.descriptors.specs.Records.{indexOf}

@@ -20,7 +20,7 @@ use Rattle.vocabulary.specs.declared.stream_types.Reading.the-variants.{Edition
 use Rattle.vocabulary.specs.StreamTypes.{known}
 use Rattle.descriptors.specs.declared.«record».Record.{Record}
 use Rattle.descriptors.specs.declared.«record».Record.the-variants.{NoRecord, Hierarchy, Extension, Implied}
-use Rattle.descriptors.specs.Extension.{noLayer}
+use Rattle.extension.specs.Extension.{noLayer}
 use Rattle.descriptors.specs.Records.{indexOf}
 use Rattle.descriptors.specs.Records as Records
 use Rattle.es_loop.specs.declared.entries.Entry.{Entry}

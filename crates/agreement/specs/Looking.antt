@@ -14,10 +14,10 @@ use Rattle.framing.specs.Pieces.{Item, whole, broken, cut}
 use Rattle.vocabulary.specs.declared.stream_types.Reading.the-variants.{Edition2009, Edition2015}
 use Rattle.descriptors.specs.declared.«record».Record.{Record}
 use Rattle.descriptors.specs.declared.«record».Record.the-variants.{NoRecord, Hierarchy, Extension, Implied}
-use Rattle.descriptors.specs.Hierarchy.{hierarchyOf}
-use Rattle.descriptors.specs.Extension.{extensionOf, embeddedOf}
+use Rattle.hierarchy.specs.Hierarchy.{hierarchyOf}
+use Rattle.extension.specs.Extension.{extensionOf, embeddedOf}
 use Rattle.descriptors.specs.Looking.{Kind, does-not-fit, skipped, wrong-length, hierarchy, extension, tag4Kind, extensionKind, kindOf, kindsOf, Held, heldIn, isWrongLength, firstRecord}
-use Rattle.descriptors.specs.Head.{descriptorTag, descriptorLength}
+use Rattle.descriptor_heads.specs.Head.{descriptorTag, descriptorLength}
 use Rattle.agreement.specs.Records.{viewUnread, recordIn2009, same-hierarchy}
 
 -- ---- one descriptor

@@ -14,11 +14,11 @@ use Rattle.combinators.specs.Padding.{padTo}
 use Rattle.vocabulary.specs.declared.LayerIndex.{LayerIndex}
 use Rattle.vocabulary.specs.declared.stream_types.Reading.the-variants.{Edition2009, Edition2015}
 use Rattle.vocabulary.specs.StreamTypes.{knownTypes, known}
-use Rattle.descriptors.specs.declared.hierarchy.HierarchyRecord.{HierarchyRecord}
+use Rattle.hierarchy.specs.declared.HierarchyRecord.{HierarchyRecord}
 use Rattle.descriptors.specs.declared.«record».Record.{Record}
 use Rattle.descriptors.specs.declared.«record».Record.the-variants.{NoRecord, Hierarchy, Extension, Implied}
-use Rattle.descriptors.specs.Extension.{noLayer}
-use Rattle.descriptors.specs.Hierarchy.{hierarchyOf}
+use Rattle.extension.specs.Extension.{noLayer}
+use Rattle.hierarchy.specs.Hierarchy.{hierarchyOf}
 use Rattle.es_loop.specs.declared.entries.Entry.{Entry}
 
 -- 'the 2009 reading answers no_view as 1'

@@ -3,7 +3,7 @@
 -- decoding time, in rising layer index. Where no refusal listed before it applies, the whole is refused as unpaired exactly when some unit
 -- has no such choice, and otherwise as used twice exactly when two units would share a component.'
 --
--- What is laid out is said by the syntax tables, each once for reading and writing: `entryHead` of es_loop, `descriptors/specs/Hierarchy.antt`, `Extension.antt` and
+-- What is laid out is said by the syntax tables, each once for reading and writing: `entryHead` of es_loop, `hierarchy/specs/Hierarchy.antt`, `extension/specs/Extension.antt` and
 -- those of the PES header. A row's match time is its TREF, or its decoding time without one: `matchOf` of PES reading.
 -- Assumes nothing.
 use Prim.Native.Nat.{ℕ, _≤_}

@@ -8,8 +8,8 @@ use native.Mathlib.Omega.{arith}
 use borrow.Author.Tests.{lt-ltb, le-ltb, eq-eqb, ne-eqb}
 use lib.ListN.{length, getD}
 use Rattle.vocabulary.specs.declared.stream_types.Reading.{Reading}
-use Rattle.descriptors.specs.Hierarchy.{hierarchyOf}
-use Rattle.descriptors.specs.Extension.{extensionOf, embeddedOf}
+use Rattle.hierarchy.specs.Hierarchy.{hierarchyOf}
+use Rattle.extension.specs.Extension.{extensionOf, embeddedOf}
 use Rattle.descriptors.specs.Looking.{skipped, wrong-length, hierarchy, extension, extensionKind, tag63Kind, tag4Kind, payloadKind}
 
 pub count-small : (p : List ℕ) → (extensionOf p) .«num_embedded_layers» < 64

@@ -21,7 +21,7 @@ use Rattle.descriptors.specs.declared.looking.Look.the-variants.{Skipped
 use Rattle.descriptors.specs.declared.looking.Found.{Found}
 use Rattle.descriptors.specs.declared.looking.Named.{Named}
 use Rattle.descriptors.specs.declared.looking.Seen.{Seen}
-use Rattle.descriptors.specs.Extension.{noLayer, extensionOf, layerIndexOf, layersOf, embeddedOf}
+use Rattle.extension.specs.Extension.{noLayer, extensionOf, layerIndexOf, layersOf, embeddedOf}
 use Rattle.descriptors.specs.Records.{isLayer, plain, hierarchyList, withIndices}
 use Rattle.descriptors.specs.Looking.{Kind, does-not-fit, skipped, wrong-length, hierarchy, extension, Held, heldIn, payloadKind, tag63Kind}
 use Rattle.descriptors.specs.Finding.{lookOf, layersIn, lookFound, listBefore, Within, seenBy, namedIn}

@@ -1,5 +1,3 @@
-pub mod Bytes
-pub mod Payloads
 pub mod Sizes
 pub mod Naming
 pub mod Steps

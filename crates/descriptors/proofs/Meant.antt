@@ -1,28 +1,24 @@
 -- The law that joins the meaning of a stream's descriptors to what is computed, both ways.
 -- Assumes nothing.
-use Prim.Native.Nat.{ℕ, _+_, _≤_, _<_}
+use Prim.Native.Nat.{ℕ, _+_, _≤_}
 use mathlib.Core.Path.{_≡_, refl, sym, _∙_, ap, ap₂, subst}
 use mathlib.Core.Logic.{_≢_}
-use mathlib.Core.Bool.{Bool, true, false, cond, _&&_}
-use mathlib.Core.List.{List, [], _∷_, _++_, map}
+use mathlib.Core.Bool.{Bool, true, false, cond}
+use mathlib.Core.List.{List, [], _∷_, map}
 use native.Mathlib.Omega.{arith}
 use native.Mathlib.Decide.{decLe}
 use borrow.Author.Tests.{lt-ltb, eq-eqb, ne-eqb, eqb-true, eqb-false}
 use lib.Dec.{eqb, ltb}
-use lib.ListN.{length, getD}
-use Rattle.framing.specs.Pieces.{Item, whole, broken, Cuts, cut, cut-cuts, cuts-unique}
-use Rattle.syntax.proofs.Laws.{read-before}
+use lib.ListN.{length}
+use Rattle.framing.specs.Pieces.{Item, whole, broken, cut, cut-cuts, cuts-unique}
 use Rattle.vocabulary.specs.declared.stream_types.Reading.{Reading}
 use Rattle.vocabulary.specs.declared.stream_types.Reading.the-variants.{Edition2009, Edition2015}
-use Rattle.descriptors.specs.Head.{descriptorHead, descriptorTag, descriptorLength}
-use Rattle.descriptors.specs.Hierarchy.{hierarchyOf}
-use Rattle.descriptors.specs.Extension.{extensionOf, embeddedOf}
-use Rattle.descriptors.specs.Looking.{Kind, does-not-fit, skipped, wrong-length, hierarchy, extension, extensionKind, tag63Kind, tag4Kind, payloadKind, kindOf, kindsOf}
+use Rattle.descriptor_heads.specs.Head.{descriptorTag, descriptorLength}
+use Rattle.descriptor_heads.proofs.Heads.{by-tag}
+use Rattle.hierarchy.specs.Hierarchy.{hierarchyOf}
+use Rattle.extension.specs.Extension.{extensionOf, embeddedOf}
+use Rattle.descriptors.specs.Looking.{Kind, skipped, wrong-length, hierarchy, extension, tag63Kind, tag4Kind, kindOf, kindsOf}
 use Rattle.descriptors.specs.Meaning.{Shows, unfit, a-hierarchy, not-4-long, an-extension, without-its-count, not-as-counted, other-extension, no-extension-tag, extension-in-2009, other-tag, ShowEach, none, one-then, Descriptors}
-
--- the length of a descriptor is read off its head alone
-pub by-tag : (head rest : List ℕ) → length head ≡ 2 → descriptorLength (head ++ rest) ≡ descriptorLength head
-by-tag head rest h = ap (λ (vs : List ℕ). getD vs 1 0) (read-before descriptorHead head rest (omega arith))
 
 some-byte : (first : ℕ) (rest : List ℕ) → ltb 0 (length (first ∷ rest)) ≡ true
 some-byte first rest = lt-ltb 0 (length (first ∷ rest)) (omega arith)

@@ -11,7 +11,7 @@ use lib.Seq.{take-suc, take-all, take-at}
 use Rattle.combinators.specs.Padding.{padTo}
 use Rattle.sets.specs.Sets.{added}
 use Rattle.vocabulary.specs.declared.LayerIndex.{LayerIndex}
-use Rattle.descriptors.specs.Extension.{noLayer}
+use Rattle.extension.specs.Extension.{noLayer}
 use Rattle.descriptors.specs.Records.{plain, withIndices}
 
 -- one index more at the end

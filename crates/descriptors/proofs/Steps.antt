@@ -16,7 +16,7 @@ use Rattle.descriptors.specs.declared.«record».Record.the-variants.{No
 use Rattle.descriptors.specs.declared.looking.Look.{Look}
 use Rattle.descriptors.specs.declared.looking.Look.the-variants.{Skipped, WrongLength, Hierarchy as LookHierarchy, Extension as LookExtension}
 use Rattle.descriptors.specs.declared.looking.Seen.{Seen}
-use Rattle.descriptors.specs.Extension.{noLayer}
+use Rattle.extension.specs.Extension.{noLayer}
 use Rattle.descriptors.specs.Looking.{Kind, does-not-fit, skipped, wrong-length, hierarchy, extension, Held, heldIn, isUnfit, isWrongLength, firstRecord, firstLayers, seenOfKinds, nothingSeen}
 use Rattle.descriptors.specs.Finding.{lookOf, layersIn}
 

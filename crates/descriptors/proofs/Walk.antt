@@ -5,50 +5,21 @@ use mathlib.Core.Path.{_≡_, refl, sym, _∙_, ap}
 use mathlib.Core.Bool.{Bool, true, false, cond, _&&_}
 use mathlib.Core.List.{List, [], _∷_, map}
 use native.Mathlib.Omega.{arith}
-use native.Mathlib.Decide.{decLe}
-use borrow.Author.Tests.{lt-ltb, le-ltb}
 use lib.Dec.{eqb, ltb}
 use lib.ListN.{length, getD, take, drop, length-drop}
 use lib.Seq.{drop-drop}
-use Rattle.combinators.specs.Bools.{apart}
 use Rattle.combinators.specs.Padding.{padTo}
-use Rattle.descriptors.specs.declared.head.Framed.{Framed}
-use Rattle.framing.specs.Pieces.{cut, cut-broken, cut-piece, broken, whole}
-use Rattle.syntax.proofs.Laws.{read-take}
+use Rattle.framing.specs.Pieces.{cut-broken, cut-piece}
 use Rattle.vocabulary.specs.declared.stream_types.Reading.{Reading}
 use Rattle.vocabulary.specs.declared.stream_types.Reading.the-variants.{Edition2009, Edition2015}
 use Rattle.descriptors.specs.declared.looking.Seen.{Seen}
-use Rattle.descriptors.specs.Head.{framedOf, descriptorHead, descriptorTag, descriptorLength}
-use Rattle.descriptors.specs.Hierarchy.{hierarchyOf}
-use Rattle.descriptors.specs.Extension.{noLayer, extensionOf, embeddedOf}
-use Rattle.descriptors.specs.Looking.{Kind, does-not-fit, skipped, wrong-length, hierarchy, extension, isUnfit, kindOf, kindsOf, payloadKind, tag4Kind, tag63Kind, extensionKind, seenOf}
+use Rattle.descriptor_heads.specs.Head.{descriptorTag, descriptorLength}
+use Rattle.descriptor_heads.proofs.Heads.{tag-alone}
+use Rattle.hierarchy.specs.Hierarchy.{hierarchyOf}
+use Rattle.extension.specs.Extension.{noLayer, extensionOf, embeddedOf}
+use Rattle.descriptors.specs.Looking.{Kind, does-not-fit, skipped, wrong-length, hierarchy, extension, isUnfit, kindOf, kindsOf, payloadKind, tag4Kind, tag63Kind, seenOf}
 use Rattle.descriptors.specs.Finding.{lookOf, layersIn}
 use Rattle.descriptors.proofs.Steps.{unfitSeen, withLook, withKind, seenAfter}
-
--- a head's tag is read off the head alone
-tag-alone : (l : List ℕ) → descriptorTag (take 2 l) ≡ descriptorTag l
-tag-alone l = ap (λ (vs : List ℕ). getD vs 0 0) (read-take descriptorHead l)
-
--- THE DESCRIPTOR AT THE FRONT, as it is found: it does not fit, or it is so long and has this tag.
-framed-by : (left : List ℕ) → Dec (2 + descriptorLength left ≤ length left) → (f : Framed) → f ≡ framedOf left
-    → (f .fits ≡ false → length left < 2 + descriptorLength left)
-    × (f .fits ≡ true → (2 + descriptorLength left ≤ length left) × (f .tag ≡ descriptorTag left) × (f .end ≡ 2 + descriptorLength left))
-framed-by left (yes h) f e =
-    let is : f ≡ record { fits = true; tag = descriptorTag left; end = 2 + descriptorLength left } =
-    e ∙ ap (λ (b : Bool). cond b (record { fits = false; tag = 0; end = 0 }) (record { fits = true; tag = descriptorTag left; end = 2 + descriptorLength left })) (le-ltb (length left) (2 + descriptorLength left) h) in
-    (λ n. apart (sym n ∙ ap (λ (x : Framed). x .fits) is), λ t. (h, ap (λ (x : Framed). x .tag) is, ap (λ (x : Framed). x .end) is))
-framed-by left (no h) f e =
-    let short : length left < 2 + descriptorLength left = omega arith in
-    let is : f ≡ record { fits = false; tag = 0; end = 0 } =
-    e ∙ ap (λ (b : Bool). cond b (record { fits = false; tag = 0; end = 0 }) (record { fits = true; tag = descriptorTag left; end = 2 + descriptorLength left })) (lt-ltb (length left) (2 + descriptorLength left) short) in
-    (λ n. short, λ t. apart (sym (ap (λ (x : Framed). x .fits) is) ∙ t))
-
-module _ (left : List ℕ) (f : Framed) (e : f ≡ framedOf left) where
-  pub framed-not : f .fits ≡ false → length left < 2 + descriptorLength left
-  framed-not = (framed-by left (decLe (2 + descriptorLength left) (length left)) f e) .0
-
-  pub framed-fits : f .fits ≡ true → (2 + descriptorLength left ≤ length left) × (f .tag ≡ descriptorTag left) × (f .end ≡ 2 + descriptorLength left)
-  framed-fits = (framed-by left (decLe (2 + descriptorLength left) (length left)) f e) .1
 
 cond-fits : (t : Bool) (x y : Kind) → isUnfit x ≡ false → isUnfit y ≡ false → isUnfit (cond t x y) ≡ false
 cond-fits true x y p q = p

@@ -15,7 +15,7 @@ use Rattle.descriptors.specs.declared.looking.Look.the-variants.{Skipped
 use Rattle.descriptors.specs.declared.looking.Found.{Found}
 use Rattle.descriptors.specs.declared.looking.Named.{Named}
 use Rattle.descriptors.specs.declared.looking.Seen.{Seen}
-use Rattle.descriptors.specs.Extension.{noLayer, layersOf}
+use Rattle.extension.specs.Extension.{noLayer, layersOf}
 use Rattle.descriptors.specs.Records.{namesOf}
 use Rattle.descriptors.specs.Looking.{Kind, does-not-fit, skipped, wrong-length, hierarchy, extension, Held, firstRecord, firstLayers}
 

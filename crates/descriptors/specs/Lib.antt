@@ -1,6 +1,3 @@
-pub mod Head
-pub mod Hierarchy
-pub mod Extension
 pub mod Records
 pub mod Looking
 pub mod Finding

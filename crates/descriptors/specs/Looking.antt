@@ -15,14 +15,14 @@ use Rattle.syntax.specs.Table.{readTable}
 use Rattle.vocabulary.specs.declared.LayerIndex.{LayerIndex}
 use Rattle.vocabulary.specs.declared.stream_types.Reading.{Reading}
 use Rattle.vocabulary.specs.declared.stream_types.Reading.the-variants.{Edition2009, Edition2015}
-use Rattle.descriptors.specs.declared.hierarchy.HierarchyRecord.{HierarchyRecord}
-use Rattle.descriptors.specs.declared.extension.ExtensionRecord.{ExtensionRecord}
+use Rattle.hierarchy.specs.declared.HierarchyRecord.{HierarchyRecord}
+use Rattle.extension.specs.declared.ExtensionRecord.{ExtensionRecord}
 use Rattle.descriptors.specs.declared.«record».Record.{Record}
 use Rattle.descriptors.specs.declared.«record».Record.the-variants.{NoRecord, Hierarchy, Extension}
 use Rattle.descriptors.specs.declared.looking.Seen.{Seen}
-use Rattle.descriptors.specs.Head.{descriptorHead}
-use Rattle.descriptors.specs.Extension.{noLayer, extensionOf, embeddedOf}
-use Rattle.descriptors.specs.Hierarchy.{hierarchyOf}
+use Rattle.descriptor_heads.specs.Head.{descriptorHead}
+use Rattle.extension.specs.Extension.{noLayer, extensionOf, embeddedOf}
+use Rattle.hierarchy.specs.Hierarchy.{hierarchyOf}
 
 -- the kinds of descriptor
 pub data Kind : Type 0 where

@@ -9,9 +9,9 @@ use lib.ListN.{length}
 use Rattle.framing.specs.Pieces.{Item, whole, broken, Cuts}
 use Rattle.vocabulary.specs.declared.stream_types.Reading.{Reading}
 use Rattle.vocabulary.specs.declared.stream_types.Reading.the-variants.{Edition2009, Edition2015}
-use Rattle.descriptors.specs.Head.{descriptorTag, descriptorLength}
-use Rattle.descriptors.specs.Hierarchy.{hierarchyOf}
-use Rattle.descriptors.specs.Extension.{extensionOf, embeddedOf}
+use Rattle.descriptor_heads.specs.Head.{descriptorTag, descriptorLength}
+use Rattle.hierarchy.specs.Hierarchy.{hierarchyOf}
+use Rattle.extension.specs.Extension.{extensionOf, embeddedOf}
 use Rattle.descriptors.specs.Looking.{Kind, does-not-fit, skipped, wrong-length, hierarchy, extension}
 
 module _ (reading : Reading) where

@@ -13,11 +13,11 @@ use Rattle.sets.specs.Sets.{added}
 use Rattle.syntax.specs.Filled.{Filled}
 use Rattle.vocabulary.specs.declared.HierarchyChannel.{HierarchyChannel}
 use Rattle.vocabulary.specs.declared.LayerIndex.{LayerIndex}
-use Rattle.descriptors.specs.declared.hierarchy.HierarchyRecord.{HierarchyRecord}
+use Rattle.hierarchy.specs.declared.HierarchyRecord.{HierarchyRecord}
 use Rattle.descriptors.specs.declared.«record».Record.{Record}
 use Rattle.descriptors.specs.declared.«record».Record.the-variants.{NoRecord, Hierarchy, Extension, Implied}
-use Rattle.descriptors.specs.Hierarchy.{hierarchyTables}
-use Rattle.descriptors.specs.Extension.{extensionTables}
+use Rattle.hierarchy.specs.Hierarchy.{hierarchyTables}
+use Rattle.extension.specs.Extension.{extensionTables}
 
 -- LAYERS. A stream without either descriptor is not a layer.
 abbrev pub isLayer : Record → Bool

@@ -1,18 +1,13 @@
-// The two descriptors that make a stream a layer, a room for each: the hierarchy descriptor (tag 4) and the HEVC hierarchy extension (tag 63,
-// extension tag 0x06). A room holds the record, how it is read from a payload, what of it is too wide for its fields, and how it is written.
-// `record` has what both share; `looking` finds them in the descriptor bytes of one stream.
+// The two descriptors that make a stream a layer: the hierarchy descriptor (tag 4) and the HEVC hierarchy extension (tag 63, extension tag 0x06). Each has
+// a room of its own, the crates `hierarchy` and `extension`: the record, how it is read from a payload, what of it is too wide for its fields, and how it
+// is written. Here `record` has what both share, and `looking` finds them in the descriptor bytes of one stream.
 //
-// Here a stream's type is known to the reading; which types are, and what is refused, the crates above decide.
-mod extension;
-mod head;
-mod hierarchy;
+// A stream's type is known to the reading here; which types are, and what is refused, the crates above decide.
 mod looking;
 mod record;
 
 pub use extension::ExtensionRecord;
 pub use extension::no_layers;
-pub use head::Framed;
-pub use head::first_descriptor;
 pub use hierarchy::HierarchyRecord;
 pub use looking::Found;
 pub use looking::Look;

@@ -1,7 +1,7 @@
 -- What the reading and the writing of a loop before W-206 had that those of now have not: refusal 10.
 -- Assumes nothing.
 use Prim.Native.Nat.{ℕ, _<_}
-use Rattle.descriptors.specs.declared.extension.ExtensionRecord.{ExtensionRecord}
+use Rattle.extension.specs.declared.ExtensionRecord.{ExtensionRecord}
 use Rattle.descriptors.specs.declared.«record».Record.{Record}
 use Rattle.descriptors.specs.declared.«record».Record.the-variants.{Extension}
 

@@ -20,8 +20,8 @@ use Rattle.vocabulary.specs.declared.LayerIndex.{LayerIndex}
 use Rattle.vocabulary.specs.declared.stream_types.Reading.the-variants.{Edition2015}
 use Rattle.descriptors.specs.declared.«record».Record.{Record}
 use Rattle.descriptors.specs.declared.«record».Record.the-variants.{NoRecord, Hierarchy, Extension}
-use Rattle.descriptors.specs.Hierarchy.{hierarchyDescriptor, hierarchyFrom}
-use Rattle.descriptors.specs.Extension.{extensionHead, noLayer, extensionFrom, layerTable}
+use Rattle.hierarchy.specs.Hierarchy.{hierarchyDescriptor, hierarchyFrom}
+use Rattle.extension.specs.Extension.{extensionHead, noLayer, extensionFrom, layerTable}
 use Rattle.es_loop.specs.declared.entries.Entry.{Entry}
 use Rattle.es_loop.specs.Entries.{blankEntry}
 use Rattle.syntax.specs.Filled.{tooWideIn}

@@ -16,8 +16,8 @@ use Rattle.syntax.specs.Table.{Table, fits}
 use Rattle.syntax.proofs.Laws.{fits-fit}
 use Rattle.syntax.proofs.Equations.{bounds}
 use Rattle.vocabulary.specs.declared.stream_types.Reading.the-variants.{Edition2015}
-use Rattle.descriptors.specs.Hierarchy.{hierarchyDescriptor}
-use Rattle.descriptors.specs.Extension.{extensionHead}
+use Rattle.hierarchy.specs.Hierarchy.{hierarchyDescriptor}
+use Rattle.extension.specs.Extension.{extensionHead}
 use Rattle.entry_rows.specs.Rows.{kindIn, fieldsIn, listIn, recordTable, entryTable, tooWideFor, layerTooWide, rowTooWide, entryIn, rowAt, entriesBelow}
 
 module _ (row : List ℕ) where

@@ -11,8 +11,8 @@ use Rattle.vocabulary.specs.declared.LayerIndex.{LayerIndex}
 use Rattle.descriptors.specs.declared.«record».Record.{Record}
 use Rattle.descriptors.specs.declared.«record».Record.the-variants.{NoRecord, Hierarchy, Extension}
 use Rattle.vocabulary.specs.declared.stream_types.Reading.the-variants.{Edition2015}
-use Rattle.descriptors.specs.Hierarchy.{hierarchyDescriptor, hierarchyFrom}
-use Rattle.descriptors.specs.Extension.{extensionHead, noLayer, extensionFrom}
+use Rattle.hierarchy.specs.Hierarchy.{hierarchyDescriptor, hierarchyFrom}
+use Rattle.extension.specs.Extension.{extensionHead, noLayer, extensionFrom}
 use Rattle.es_loop.specs.declared.entries.Entry.{Entry}
 use Rattle.entry_rows.specs.Rows.{layerNumber, headOf, listOf, tailOf, rowOf, fieldsIn, listIn, layerOf, entryIn, rowsOf}
 

@@ -15,15 +15,17 @@ use Rattle.syntax.proofs.Laws.{fits-fit}
 use Rattle.syntax.proofs.Equations.{Bounds, bounds}
 use Rattle.vocabulary.specs.declared.LayerIndex.{LayerIndex}
 use Rattle.vocabulary.specs.declared.stream_types.Reading.the-variants.{Edition2015}
-use Rattle.descriptors.specs.declared.hierarchy.HierarchyRecord.{HierarchyRecord}
-use Rattle.descriptors.specs.declared.extension.ExtensionRecord.{ExtensionRecord}
+use Rattle.hierarchy.specs.declared.HierarchyRecord.{HierarchyRecord}
+use Rattle.extension.specs.declared.ExtensionRecord.{ExtensionRecord}
 use Rattle.descriptors.specs.declared.«record».Record.{Record}
 use Rattle.descriptors.specs.declared.«record».Record.the-variants.{NoRecord, Hierarchy, Extension}
-use Rattle.descriptors.specs.Hierarchy.{hierarchyDescriptor, hierarchyFrom, hierarchyFields}
-use Rattle.descriptors.specs.Extension.{extensionHead, noLayer, extensionFrom, extensionFields}
+use Rattle.hierarchy.specs.Hierarchy.{hierarchyDescriptor, hierarchyFrom, hierarchyFields}
+use Rattle.extension.specs.Extension.{extensionHead, noLayer, extensionFrom, extensionFields}
 use Rattle.es_loop.specs.declared.entries.Entry.{Entry}
 use Rattle.syntax.specs.Filled.{bitOf}
-use Rattle.descriptors.proofs.Payloads.{hierarchy-fields, extension-fields, bit-there}
+use Rattle.descriptor_heads.proofs.Bits.{bit-there}
+use Rattle.hierarchy.proofs.Payloads.{hierarchy-fields}
+use Rattle.extension.proofs.Payloads.{extension-fields}
 use Rattle.entry_rows.specs.Names.{namesOf, picked}
 use Rattle.entry_rows.specs.Rows.{rowNames, entryTable, layerNumber, headOf, listOf, tailOf, rowOf, kindIn, countIn, fieldsIn, listIn, rowTooWide, layerOf, entryIn}
 use Rattle.entry_rows.proofs.Judged.{kind-fine, within-tables}

@@ -9,7 +9,7 @@ use borrow.Author.Tests.{not-false, lt-ltb, le-ltb}
 use Rattle.syntax.specs.Table.{Table, fits, Fit}
 use Rattle.syntax.proofs.Laws.{fits-fit}
 use Rattle.syntax.proofs.Equations.{Bounds, bounds}
-use Rattle.descriptors.specs.Extension.{embeddedLayer}
+use Rattle.extension.specs.Extension.{embeddedLayer}
 use Rattle.entry_rows.specs.Rows.{fieldsIn, tooWideFor, layerTooWide}
 
 -- each value of a row that a table can hold is below two to its width

@@ -17,8 +17,8 @@ use Rattle.vocabulary.specs.declared.LayerIndex.{LayerIndex}
 use Rattle.vocabulary.specs.declared.stream_types.Reading.the-variants.{Edition2015}
 use Rattle.descriptors.specs.declared.«record».Record.{Record}
 use Rattle.descriptors.specs.declared.«record».Record.the-variants.{NoRecord, Hierarchy, Extension}
-use Rattle.descriptors.specs.Hierarchy.{hierarchyDescriptor, hierarchyFrom, hierarchyFields}
-use Rattle.descriptors.specs.Extension.{extensionHead, embeddedLayer, noLayer, extensionFrom, extensionFields}
+use Rattle.hierarchy.specs.Hierarchy.{hierarchyDescriptor, hierarchyFrom, hierarchyFields}
+use Rattle.extension.specs.Extension.{extensionHead, embeddedLayer, noLayer, extensionFrom, extensionFields}
 use Rattle.es_loop.specs.declared.entries.Entry.{Entry}
 use Rattle.es_loop.specs.Entries.{blankEntry}
 use Rattle.entry_rows.specs.Names.{namesOf, valueNamed, picked}

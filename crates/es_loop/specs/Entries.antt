@@ -15,7 +15,7 @@ use Rattle.vocabulary.specs.StreamTypes.{known}
 use Rattle.descriptors.specs.declared.«record».Record.{Record}
 use Rattle.descriptors.specs.declared.«record».Record.the-variants.{NoRecord}
 use Rattle.descriptors.specs.declared.looking.Seen.{Seen}
-use Rattle.descriptors.specs.Extension.{noLayer}
+use Rattle.extension.specs.Extension.{noLayer}
 use Rattle.descriptors.specs.declared.looking.Named.{Named}
 use Rattle.descriptors.specs.Looking.{seenOf, nothingSeen}
 use Rattle.descriptors.specs.Finding.{namedBy}

@@ -15,7 +15,7 @@ use Rattle.combinators.specs.Bools.{either-left, either-right}
 use Rattle.combinators.specs.Below.{some, some-at}
 use Rattle.combinators.specs.Members.{member, member-last}
 use Rattle.vocabulary.specs.declared.LayerIndex.{LayerIndex}
-use Rattle.descriptors.specs.Extension.{noLayer}
+use Rattle.extension.specs.Extension.{noLayer}
 use Rattle.descriptors.specs.Records.{plain, withIndices}
 use Rattle.judging.specs.Judging.{wrongAt, wrongList}
 use Rattle.descriptors.proofs.Naming.{indices-last}

@@ -16,8 +16,8 @@ use Rattle.combinators.specs.Members.{member, member-at, member-which}
 use Rattle.vocabulary.specs.StreamTypes.{known, knownButMvc, streamTypes, mayStandOn}
 use Rattle.vocabulary.specs.declared.stream_types.Reading.the-variants.{Edition2015}
 use Rattle.vocabulary.specs.declared.LayerIndex.{LayerIndex}
-use Rattle.descriptors.specs.declared.hierarchy.HierarchyRecord.{HierarchyRecord}
-use Rattle.descriptors.specs.declared.extension.ExtensionRecord.{ExtensionRecord}
+use Rattle.hierarchy.specs.declared.HierarchyRecord.{HierarchyRecord}
+use Rattle.extension.specs.declared.ExtensionRecord.{ExtensionRecord}
 use Rattle.descriptors.specs.declared.«record».Record.{Record}
 use Rattle.descriptors.specs.declared.«record».Record.the-variants.{NoRecord, Hierarchy, Extension, Implied}
 use Rattle.descriptors.specs.Records.{isSecondView, indexOf, plain, named}

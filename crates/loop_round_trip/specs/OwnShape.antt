@@ -10,9 +10,9 @@ use Rattle.framing.specs.Pieces.{Item, whole, cut}
 use Rattle.syntax.specs.Table.{Table, number, bytes, fixedHold, reservedOnes}
 use Rattle.vocabulary.specs.declared.stream_types.Reading.the-variants.{Edition2015}
 use Rattle.vocabulary.specs.StreamTypes.{known}
-use Rattle.descriptors.specs.Hierarchy.{hierarchyDescriptor}
-use Rattle.descriptors.specs.Extension.{extensionHead, embeddedLayer}
-use Rattle.descriptors.specs.Head.{descriptorTag, descriptorLength}
+use Rattle.hierarchy.specs.Hierarchy.{hierarchyDescriptor}
+use Rattle.extension.specs.Extension.{extensionHead, embeddedLayer}
+use Rattle.descriptor_heads.specs.Head.{descriptorTag, descriptorLength}
 use Rattle.es_loop.specs.Entries.{entryHead, streamType, esInfoLength}
 
 -- the reserved bits of a table at the front of some bytes are 1

@@ -18,15 +18,15 @@ use Rattle.syntax.proofs.Laws.{read-before, read-write, length-written}
 use Rattle.vocabulary.specs.declared.LayerIndex.{LayerIndex}
 use Rattle.vocabulary.specs.declared.stream_types.Reading.the-variants.{Edition2015}
 use Rattle.vocabulary.specs.StreamTypes.{known}
-use Rattle.descriptors.specs.declared.hierarchy.HierarchyRecord.{HierarchyRecord}
-use Rattle.descriptors.specs.declared.extension.ExtensionRecord.{ExtensionRecord}
+use Rattle.hierarchy.specs.declared.HierarchyRecord.{HierarchyRecord}
+use Rattle.extension.specs.declared.ExtensionRecord.{ExtensionRecord}
 use Rattle.descriptors.specs.declared.«record».Record.{Record}
 use Rattle.descriptors.specs.declared.«record».Record.the-variants.{NoRecord, Hierarchy, Extension}
 use Rattle.descriptors.specs.declared.looking.Seen.{Seen}
-use Rattle.descriptors.specs.Head.{descriptorHead, descriptorLength, headTable}
-use Rattle.descriptors.specs.Hierarchy.{hierarchyDescriptor, hierarchyFrom, hierarchyOf, hierarchyFields, hierarchyGiven}
-use Rattle.descriptors.specs.Extension.{extensionHead, embeddedLayer, noLayer, extensionFrom, extensionOf, layersOf, extensionFields, layerTable, extensionGiven}
-use Rattle.descriptors.proofs.Meant.{by-tag}
+use Rattle.descriptor_heads.specs.Head.{descriptorHead, descriptorLength, headTable}
+use Rattle.hierarchy.specs.Hierarchy.{hierarchyDescriptor, hierarchyFrom, hierarchyOf, hierarchyFields, hierarchyGiven}
+use Rattle.extension.specs.Extension.{extensionHead, embeddedLayer, noLayer, extensionFrom, extensionOf, layersOf, extensionFields, layerTable, extensionGiven}
+use Rattle.descriptor_heads.proofs.Heads.{by-tag}
 use Rattle.descriptors.specs.Looking.{Kind, hierarchy, extension, payloadKind, extensionKind, kindOf, kindsOf, seenOfKinds, seenOf}
 use Rattle.es_loop.specs.declared.entries.Entry.{Entry}
 use Rattle.es_loop.specs.declared.entries.Stream.{Stream}
@@ -36,8 +36,11 @@ use Rattle.syntax.specs.Named.{byNames}
 use Rattle.syntax.specs.Filled.{filled, bytesIn, tooWideIn}
 use Rattle.descriptors.specs.Records.{isLayer, recordTables}
 use Rattle.loop_writer.specs.Layout.{infoBytes, loopBytes, tooWide}
-use Rattle.descriptors.proofs.Payloads.{hierarchy-fields, extension-fields, extension-written}
-use Rattle.descriptors.proofs.Sizes.{fit-first, fit-others, hierarchy-fit, extension-fit, layers-fit, count-small, length-layers}
+use Rattle.hierarchy.proofs.Payloads.{hierarchy-fields}
+use Rattle.extension.proofs.Payloads.{extension-fields, extension-written}
+use Rattle.descriptor_heads.proofs.Widths.{fit-first, fit-others}
+use Rattle.hierarchy.proofs.Widths.{hierarchy-fit}
+use Rattle.extension.proofs.Widths.{extension-fit, layers-fit, count-small, length-layers}
 use Rattle.loop_writer.proofs.Entries.{head-fit, record-fit}
 use Rattle.loop_writer.specs.Verdict.{streamFor}
 

@@ -11,7 +11,7 @@ use borrow.Author.Tests.{lt-ltb, le-ltb, eq-eqb, eqb-true, ltb-false}
 use lib.Dec.{eqb, ltb}
 use lib.ListN.{length, getD, take, drop, replicate, length-append, length-map, length-drop, take-append-drop, List·getD-eq-default}
 use lib.Seq.{take-at, take-all}
-use Rattle.descriptors.proofs.Payloads.{bit-there}
+use Rattle.descriptor_heads.proofs.Bits.{bit-there}
 use Rattle.combinators.specs.Bools.{both-left, neither-left, neither-right}
 use Rattle.combinators.specs.Lists.{Nth, here, there, nth-inside, getD-nth, getD-map, any, gather}
 use Rattle.combinators.specs.Lowest.{lowestNumber, earliestPlace, lowest-is}
@@ -26,9 +26,9 @@ use Rattle.vocabulary.specs.declared.stream_types.Reading.the-variants.{Edition
 use Rattle.vocabulary.specs.StreamTypes.{known}
 use Rattle.descriptors.specs.declared.«record».Record.{Record}
 use Rattle.descriptors.specs.declared.«record».Record.the-variants.{Hierarchy, Extension}
-use Rattle.descriptors.specs.Head.{descriptorHead, descriptorTag, descriptorLength}
-use Rattle.descriptors.specs.Hierarchy.{hierarchyDescriptor, hierarchyFrom, hierarchyOf, hierarchyFields}
-use Rattle.descriptors.specs.Extension.{extensionHead, embeddedLayer, noLayer, extensionFrom, extensionOf, layerIndexOf, layersOf, embeddedOf, extensionFields, layerTable}
+use Rattle.descriptor_heads.specs.Head.{descriptorHead, descriptorTag, descriptorLength}
+use Rattle.hierarchy.specs.Hierarchy.{hierarchyDescriptor, hierarchyFrom, hierarchyOf, hierarchyFields}
+use Rattle.extension.specs.Extension.{extensionHead, embeddedLayer, noLayer, extensionFrom, extensionOf, layerIndexOf, layersOf, embeddedOf, extensionFields, layerTable}
 use Rattle.descriptors.specs.Looking.{Kind, skipped, wrong-length, hierarchy, extension, payloadKind, kindOf, Held, heldIn, isWrongLength, firstRecord, firstLayers, seenOf, nothingSeen}
 use Rattle.descriptors.specs.Records.{isLayer, recordTables}
 use Rattle.descriptors.specs.declared.looking.Seen.{Seen}
@@ -42,7 +42,7 @@ use Rattle.es_loop.specs.declared.reader.LoopRead.{LoopRead}
 use Rattle.es_loop.specs.Conditions.{streamAt, applies, refusalOf}
 use Rattle.es_loop.specs.Reading.{refusedWith, accepted, loopRead}
 use Rattle.es_loop.proofs.Judged.{Taken, taken}
-use Rattle.descriptors.proofs.Meant.{by-tag}
+use Rattle.descriptor_heads.proofs.Heads.{by-tag}
 use Rattle.es_loop.specs.Entries.{entryHead, streamType, elementaryPid, esInfoLength, seenIn, streamOf, streamsOf, noStream, entryOf, blankEntry}
 use Rattle.es_loop.proofs.Meant.{by-head}
 use Rattle.syntax.specs.Named.{byNames}

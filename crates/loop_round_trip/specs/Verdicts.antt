@@ -21,7 +21,7 @@ use Rattle.vocabulary.specs.declared.stream_types.Reading.the-variants.{Edition
 use Rattle.vocabulary.specs.StreamTypes.{known}
 use Rattle.descriptors.specs.declared.«record».Record.{Record}
 use Rattle.descriptors.specs.declared.«record».Record.the-variants.{NoRecord, Hierarchy, Extension}
-use Rattle.descriptors.specs.Extension.{noLayer}
+use Rattle.extension.specs.Extension.{noLayer}
 use Rattle.descriptors.specs.Records.{isLayer, indexOf, plain, recordTables}
 use Rattle.judging.specs.Judging.{sameIndex, typeNotAllowed, wrongFlags, wrongList, wrongEmbedded}
 use Rattle.judging.specs.Meaning.{unknown-type}
@@ -33,7 +33,7 @@ use Rattle.es_loop.specs.Conditions.{streamAt, pidAt, recordAt, repeatedPid, re
 use Rattle.syntax.specs.Filled.{tooWideIn}
 use Rattle.loop_writer.specs.Layout.{tooWide}
 use Rattle.loop_writer.proofs.Entries.{record-fit}
-use Rattle.descriptors.proofs.Sizes.{count-small}
+use Rattle.extension.proofs.Widths.{count-small}
 use Rattle.loop_writer.specs.Verdict.{streamFor, appliesTo}
 use Rattle.loop_round_trip.specs.ReadBack.{onUnknownType, layersKept, normal, withoutRecord, readAs, Typed, typed-at}
 

@@ -13,7 +13,8 @@ use Rattle.syntax.specs.Table.{Fit}
 use Rattle.syntax.specs.Filled.{Filled, valuesIn, bytesIn, tooWideIn}
 use Rattle.syntax.proofs.Equations.{each, bounds}
 use Rattle.descriptors.specs.Records.{recordTables}
-use Rattle.descriptors.proofs.Sizes.{fit-first, fit-others, info-short}
+use Rattle.descriptor_heads.proofs.Widths.{fit-first, fit-others}
+use Rattle.descriptors.proofs.Sizes.{info-short}
 use Rattle.es_loop.specs.declared.entries.Entry.{Entry}
 use Rattle.es_loop.specs.Entries.{entryHead}
 use Rattle.loop_writer.specs.Layout.{entryHeadTable, infoBytes, tooWide}

@@ -14,7 +14,7 @@ use Rattle.syntax.proofs.FilledLaws.{Proper, AllProper, none, one-then, NoneToo
 use Rattle.vocabulary.specs.declared.LayerIndex.{LayerIndex}
 use Rattle.descriptors.specs.declared.«record».Record.{Record}
 use Rattle.descriptors.specs.declared.«record».Record.the-variants.{NoRecord, Hierarchy, Extension, Implied}
-use Rattle.descriptors.specs.Extension.{layerTable}
+use Rattle.extension.specs.Extension.{layerTable}
 use Rattle.descriptors.specs.Records.{recordTables}
 use Rattle.es_loop.specs.declared.entries.Entry.{Entry}
 use Rattle.loop_writer.specs.Layout.{entryHeadTable, infoBytes, entryBytes, loopBytes, tooWide}

@@ -8,7 +8,7 @@ use Rattle.combinators.specs.Padding.{padTo}
 use Rattle.vocabulary.specs.declared.refusal.Refusal.the-variants.{RepeatedPid, TypeNotAllowed, NoRoom, TooWide}
 use Rattle.descriptors.specs.declared.«record».Record.{Record}
 use Rattle.descriptors.specs.declared.«record».Record.the-variants.{NoRecord, Hierarchy, Extension, Implied}
-use Rattle.descriptors.specs.Extension.{noLayer}
+use Rattle.extension.specs.Extension.{noLayer}
 use Rattle.es_loop.specs.declared.entries.Entry.{Entry}
 use Rattle.es_loop.specs.Entries.{blankEntry}
 use Rattle.es_loop.specs.Examples.{loopA}

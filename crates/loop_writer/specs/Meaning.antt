@@ -13,7 +13,7 @@ use Rattle.syntax.specs.Filled.{Filled, valuesIn, Writes}
 use Rattle.vocabulary.specs.declared.refusal.Refusal.{Refusal}
 use Rattle.vocabulary.specs.declared.refusal.Refusal.the-variants.{LoopTooLong, NoRoom, TooWide}
 use Rattle.vocabulary.specs.Refusals.{numberOf, placeOf}
-use Rattle.descriptors.specs.declared.hierarchy.HierarchyRecord.{HierarchyRecord}
+use Rattle.hierarchy.specs.declared.HierarchyRecord.{HierarchyRecord}
 use Rattle.descriptors.specs.declared.«record».Record.the-variants.{NoRecord, Hierarchy, Implied}
 use Rattle.descriptors.specs.Records.{isLayer, indexOf, recordTables}
 use Rattle.implied.specs.Rule.{isView}

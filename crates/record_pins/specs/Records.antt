@@ -9,11 +9,11 @@ use mathlib.Core.Path.{_≡_, refl}
 use borrow.Author.Tests.{eqb-true, eq-eqb}
 use Rattle.vocabulary.specs.declared.LayerIndex.{LayerIndex}
 use Rattle.vocabulary.specs.declared.stream_types.Reading.the-variants.{Edition2015}
-use Rattle.descriptors.specs.declared.hierarchy.HierarchyRecord.{HierarchyRecord}
-use Rattle.descriptors.specs.declared.extension.ExtensionRecord.{ExtensionRecord}
+use Rattle.hierarchy.specs.declared.HierarchyRecord.{HierarchyRecord}
+use Rattle.extension.specs.declared.ExtensionRecord.{ExtensionRecord}
 use Rattle.descriptors.specs.declared.«record».Record.the-variants.{Hierarchy, Extension, Implied}
-use Rattle.descriptors.specs.Hierarchy.{hierarchyOf}
-use Rattle.descriptors.specs.Extension.{extensionOf, embeddedOf}
+use Rattle.hierarchy.specs.Hierarchy.{hierarchyOf}
+use Rattle.extension.specs.Extension.{extensionOf, embeddedOf}
 use Rattle.descriptors.specs.Records.{isLayer, isBase, indexOf, channelOf, named, recordTables}
 
 -- a hierarchy record with every field different from every other

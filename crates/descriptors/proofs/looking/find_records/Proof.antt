@@ -10,8 +10,9 @@ use mathlib.Core.List.{List}
 use native.Mathlib.Nat.{add-sub-cancel-left}
 use lib.ListN.{length, take, drop, drop-of-length-le}
 use Rattle.combinators.specs.Lists.{part-to-end}
-use Rattle.descriptors.proofs.Walk.{left-length, stop, next, framed-not, framed-fits}
-use Rattle.descriptors.specs.Head.{descriptorTag, descriptorLength}
+use Rattle.descriptor_heads.proofs.Heads.{framed-not, framed-fits}
+use Rattle.descriptors.proofs.Walk.{left-length, stop, next}
+use Rattle.descriptor_heads.specs.Head.{descriptorTag, descriptorLength}
 use Rattle.descriptors.specs.Looking.{Kind, kindsOf, payloadKind, seenOf}
 use Rattle.descriptors.specs.declared.looking.Found.{Found}
 use Rattle.descriptors.specs.declared.looking.Look.{Look}

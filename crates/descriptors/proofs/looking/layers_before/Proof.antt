@@ -9,7 +9,7 @@ use lib.ListN.{length, take, drop, length-drop}
 use lib.Seq.{length-take-le}
 use Rattle.combinators.specs.Padding.{padTo}
 use Rattle.descriptors.specs.declared.«record».Record.{Record}
-use Rattle.descriptors.specs.Extension.{noLayer, layersOf}
+use Rattle.extension.specs.Extension.{noLayer, layersOf}
 use Rattle.descriptors.specs.Finding.{listBefore, Within}
 use Rattle.descriptors.proofs.looking.layers_before.Statement.{statement}
 use Rattle.descriptors.proofs.looking.layers_before.Tie as tie

@@ -2,7 +2,7 @@
 -- Assumes nothing.
 use mathlib.Core.Path.{_∙_, ap, sym}
 use Rattle.vocabulary.specs.declared.stream_types.Reading.{Reading}
-use Rattle.descriptors.specs.declared.hierarchy.HierarchyRecord.{HierarchyRecord}
+use Rattle.hierarchy.specs.declared.HierarchyRecord.{HierarchyRecord}
 use Rattle.descriptors.specs.declared.looking.Look.the-variants.{Hierarchy as LookHierarchy}
 use Rattle.descriptors.specs.Looking.{tag63Kind}
 use Rattle.descriptors.specs.Finding.{lookOf}

@@ -5,7 +5,7 @@ use native.Mathlib.Omega.{arith}
 use mathlib.Core.Path.{_≡_, _∙_, ap, sym, subst}
 use mathlib.Core.Logic.{_≢_}
 use lib.ListN.{length}
-use Rattle.descriptors.specs.declared.extension.ExtensionRecord.{ExtensionRecord}
+use Rattle.extension.specs.declared.ExtensionRecord.{ExtensionRecord}
 use Rattle.descriptors.specs.declared.looking.Look.the-variants.{Extension as LookExtension}
 use Rattle.descriptors.specs.Finding.{lookOf}
 use Rattle.descriptors.proofs.Cases.{extension-empty, extension-other, extension-wrong, extension-right}

@@ -12,11 +12,12 @@ use lib.ListN.{length, take, drop, drop-of-length-le}
 use Rattle.combinators.specs.Lists.{part-to-end, gather}
 use Rattle.vocabulary.specs.declared.stream_types.Reading.{Reading}
 use Rattle.descriptors.specs.declared.looking.Named.{Named}
-use Rattle.descriptors.specs.Head.{descriptorTag, descriptorLength}
+use Rattle.descriptor_heads.specs.Head.{descriptorTag, descriptorLength}
 use Rattle.descriptors.specs.Records.{isLayer}
 use Rattle.descriptors.specs.Looking.{Kind, Held, heldIn, kindsOf, payloadKind, seenOf}
 use Rattle.descriptors.specs.Finding.{namedIn, namedBy}
-use Rattle.descriptors.proofs.Walk.{left-length, kinds-stop, kinds-next, framed-not, framed-fits}
+use Rattle.descriptor_heads.proofs.Heads.{framed-not, framed-fits}
+use Rattle.descriptors.proofs.Walk.{left-length, kinds-stop, kinds-next}
 use Rattle.descriptors.proofs.Finding.{first-named, none-named}
 use Rattle.descriptors.proofs.looking.name_layers.Statement.{statement}
 use Rattle.descriptors.proofs.looking.name_layers.Tie as tie

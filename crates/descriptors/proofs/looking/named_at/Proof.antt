@@ -9,7 +9,7 @@ use lib.ListN.{length, take, drop}
 use Rattle.combinators.specs.Lists.{part-to-end}
 use Rattle.descriptors.specs.declared.«record».Record.the-variants.{Hierarchy, Extension}
 use Rattle.descriptors.specs.declared.looking.Look.{Look}
-use Rattle.descriptors.specs.Extension.{layersOf}
+use Rattle.extension.specs.Extension.{layersOf}
 use Rattle.descriptors.specs.Records.{plain, withIndices}
 use Rattle.descriptors.specs.Looking.{heldIn, payloadKind}
 use Rattle.descriptors.specs.Finding.{namedIn}

@@ -10,9 +10,9 @@ use lib.ListN.{length, getD, drop, drop-of-length-le}
 use lib.Seq.{drop-cons}
 use Rattle.sets.specs.Sets.{added}
 use Rattle.vocabulary.specs.declared.LayerIndex.{LayerIndex}
-use Rattle.descriptors.specs.Extension.{layersOf}
+use Rattle.extension.specs.Extension.{layersOf}
 use Rattle.descriptors.specs.Records.{plain, withIndices}
-use Rattle.descriptors.proofs.Bytes.{layer-byte}
+use Rattle.extension.proofs.Bytes.{layer-byte}
 use Rattle.descriptors.proofs.«record».names_in_list.Statement.{statement}
 use Rattle.descriptors.proofs.«record».names_in_list.Tie as tie
 

@@ -9,7 +9,8 @@ use Rattle.descriptors.specs.declared.«record».Record.{Record}
 use Rattle.descriptors.specs.declared.«record».Record.the-variants.{Extension}
 use Rattle.syntax.specs.Filled.{bytesIn, tooWideIn}
 use Rattle.descriptors.specs.Records.{recordTables}
-use Rattle.descriptors.proofs.Sizes.{record-size, count-small}
+use Rattle.extension.proofs.Widths.{count-small}
+use Rattle.descriptors.proofs.Sizes.{record-size}
 use borrow.Author.Needs.{needs}
 use Rattle.descriptors.proofs.«record».record_size.Statement.{statement}
 use Rattle.descriptors.proofs.«record».record_size.Tie as tie

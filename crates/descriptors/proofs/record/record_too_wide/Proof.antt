@@ -8,10 +8,11 @@ use Rattle.syntax.specs.Table.{fits}
 use Rattle.syntax.proofs.Laws.{fits-fit}
 use Rattle.syntax.proofs.Equations.{bounds}
 use Rattle.descriptors.specs.declared.«record».Record.{Record}
-use Rattle.descriptors.specs.Extension.{extensionHead, extensionFields}
+use Rattle.extension.specs.Extension.{extensionHead, extensionFields}
 use Rattle.syntax.specs.Filled.{tooWideIn}
 use Rattle.descriptors.specs.Records.{recordTables}
-use Rattle.descriptors.proofs.Sizes.{hierarchy-wide, extension-fine, extension-wide}
+use Rattle.hierarchy.proofs.Widths.{hierarchy-wide}
+use Rattle.extension.proofs.Widths.{extension-fine, extension-wide}
 use borrow.Author.Needs.{needs}
 use Rattle.descriptors.proofs.«record».record_too_wide.Statement.{statement}
 use Rattle.descriptors.proofs.«record».record_too_wide.Tie as tie

@@ -10,7 +10,7 @@ use Prim.Native.Nat.{ℕ}
 use mathlib.Core.List.{List, map}
 use Rattle.combinators.specs.Lists.{any, part-to-end}
 use Rattle.combinators.specs.Padding.{padTo}
-use Rattle.descriptors.specs.Extension.{extensionHead, noLayer}
+use Rattle.extension.specs.Extension.{extensionHead, noLayer}
 use Rattle.entry_rows.proofs.Widths.{row-bounds}
 use borrow.Author.Needs.{needs}
 use Rattle.entry_rows.proofs.taking.entry_in.Statement.{statement}

@@ -2,7 +2,7 @@
 -- Assumes nothing.
 use Prim.Native.Nat.{_<_}
 use lib.ListN.{getD}
-use Rattle.descriptors.specs.Extension.{extensionHead}
+use Rattle.extension.specs.Extension.{extensionHead}
 use Rattle.entry_rows.proofs.Widths.{row-bounds}
 use native.Mathlib.Omega.{arith}
 use borrow.Author.Needs.{needs}

@@ -2,7 +2,7 @@
 -- Assumes nothing.
 use Prim.Native.Nat.{_<_}
 use lib.ListN.{getD}
-use Rattle.descriptors.specs.Hierarchy.{hierarchyDescriptor}
+use Rattle.hierarchy.specs.Hierarchy.{hierarchyDescriptor}
 use Rattle.entry_rows.proofs.Widths.{row-bounds}
 use Rattle.vocabulary.specs.declared.stream_types.Reading.the-variants.{Edition2015}
 use native.Mathlib.Omega.{arith}

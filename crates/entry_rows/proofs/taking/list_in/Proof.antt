@@ -6,7 +6,7 @@ use mathlib.Core.List.{List, map}
 use lib.ListN.{length, take, getD}
 use Rattle.combinators.specs.Lists.{any-none}
 use Rattle.combinators.specs.Padding.{padTo, store-map}
-use Rattle.descriptors.specs.Extension.{noLayer}
+use Rattle.extension.specs.Extension.{noLayer}
 use Rattle.entry_rows.specs.Rows.{layerOf, layerTooWide}
 use Rattle.entry_rows.proofs.Widths.{layer-bound}
 use borrow.Author.Needs.{needs}

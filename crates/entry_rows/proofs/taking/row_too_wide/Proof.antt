@@ -9,7 +9,7 @@ use mathlib.Core.List.{List}
 use lib.ListN.{getD, take, length-take, length-drop}
 use Rattle.combinators.specs.Bools.{either-left}
 use Rattle.combinators.specs.Lists.{any, part-to-end}
-use Rattle.descriptors.specs.Extension.{extensionHead}
+use Rattle.extension.specs.Extension.{extensionHead}
 use Rattle.entry_rows.specs.Rows.{listIn, layerTooWide}
 use Rattle.entry_rows.proofs.Widths.{row-bounds}
 use borrow.Author.Needs.{needs}

@@ -1,0 +1,3 @@
+pub mod Heads
+pub mod Bits
+pub mod Widths
