@@ -75,6 +75,7 @@ fn print_entry(entry: Entry) {
             print_extension(extension);
             print_embedded(extension.num_embedded_layers, embedded);
         }
+        Record::Implied => say(b" implied"),
     }
     say(b"\n");
 }
