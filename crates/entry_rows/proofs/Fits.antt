@@ -19,7 +19,7 @@ use Rattle.syntax.proofs.Equations.{bounds}
 use Rattle.vocabulary.specs.declared.LayerIndex.{LayerIndex}
 use Rattle.vocabulary.specs.declared.stream_types.Reading.the-variants.{Edition2015}
 use Rattle.descriptors.specs.declared.«record».Record.{Record}
-use Rattle.descriptors.specs.declared.«record».Record.the-variants.{NoRecord, Hierarchy, Extension}
+use Rattle.descriptors.specs.declared.«record».Record.the-variants.{NoRecord, Hierarchy, Extension, Implied}
 use Rattle.hierarchy.specs.Hierarchy.{hierarchyDescriptor, hierarchyFrom}
 use Rattle.extension.specs.Extension.{extensionHead, noLayer, extensionFrom, layerTable}
 use Rattle.es_loop.specs.declared.entries.Entry.{Entry}
@@ -29,7 +29,7 @@ use Rattle.descriptors.specs.Records.{recordTables}
 use Rattle.loop_writer.specs.Layout.{infoBytes, tooWide}
 use Rattle.descriptors.proofs.Sizes.{info-short}
 use Rattle.entry_rows.specs.Rows.{kindIn, countIn, fieldsIn, listIn, layerTooWide, rowTooWide, layerOf, entryIn, rowCount, rowAt, someTooWide, entriesBelow, entriesIn}
-use Rattle.entry_rows.proofs.Laws.{hierarchy-entry, extension-entry, no-record-entry}
+use Rattle.entry_rows.proofs.Laws.{hierarchy-entry, extension-entry, no-record-entry, implied-entry}
 use Rattle.entry_rows.proofs.Judged.{kind-fine, type-bound, pid-bound, hierarchy-fine, extension-fine, list-fine}
 use Rattle.entry_rows.proofs.RoundTrips.{hierarchy-there, extension-there}
 
@@ -66,6 +66,9 @@ module _ (row : List ℕ) (fine : rowTooWide row ≡ false) where
   no-record-fits : kindIn row ≡ 0 → tooWide (entryIn row) ≡ false
   no-record-fits e = ap tooWide (sym (no-record-entry row e)) ∙ whole-fine (with NoRecord (padTo 63 noLayer [])) (type-bound row fine) (pid-bound row fine) refl
 
+  implied-fits : kindIn row ≡ 3 → tooWide (entryIn row) ≡ false
+  implied-fits e = ap tooWide (sym (implied-entry row e)) ∙ whole-fine (with Implied (padTo 63 noLayer [])) (type-bound row fine) (pid-bound row fine) refl
+
   hierarchy-fits : kindIn row ≡ 1 → tooWide (entryIn row) ≡ false
   hierarchy-fits e =
       let in-bounds = bounds (fits-fit (hierarchyDescriptor Edition2015) (fieldsIn (hierarchyDescriptor Edition2015) row) (not-false _ (hierarchy-fine row fine e))) in
@@ -88,11 +91,12 @@ module _ (row : List ℕ) (fine : rowTooWide row ≡ false) where
   pub entry-fits : tooWide (entryIn row) ≡ false
   entry-fits = go (kindIn row) refl (kind-fine row fine)
     where
-      go : (kind : ℕ) → kindIn row ≡ kind → kind ≤ 2 → tooWide (entryIn row) ≡ false
+      go : (kind : ℕ) → kindIn row ≡ kind → kind ≤ 3 → tooWide (entryIn row) ≡ false
       go zero e h = no-record-fits e
       go (suc zero) e h = hierarchy-fits e
       go (suc (suc zero)) e h = extension-fits e
-      go (suc (suc (suc kind))) e h = absurd (omega arith)
+      go (suc (suc (suc zero))) e h = implied-fits e
+      go (suc (suc (suc (suc kind)))) e h = absurd (omega arith)
 
 -- The same of all entries in their array, so that 25 is the answer exactly where some row has a value that is too wide.
 below-fine : (numbers : List ℕ) (n : ℕ) → ((k : ℕ) → k < n → rowTooWide (rowAt numbers k) ≡ false) → any tooWide (entriesBelow numbers n) ≡ false

@@ -7,7 +7,7 @@ use mathlib.Core.Bool.{Bool, true, false, not, _&&_, _||_, and-false, or-false}
 use mathlib.Core.List.{List, [], _∷_, _++_}
 use native.Mathlib.Numerals.{add-one}
 use native.Mathlib.Omega.{arith}
-use borrow.Author.Tests.{not-false, lt-ltb, le-ltb, ltb-false}
+use borrow.Author.Tests.{not-false, lt-ltb, le-ltb, ltb-false, ne-eqb}
 use lib.Dec.{eqb, ltb}
 use lib.ListN.{length, getD, take, drop, length-append}
 use Rattle.combinators.specs.Bools.{both-right, neither-left, neither-right, either-left, either-right}
@@ -24,19 +24,19 @@ module _ (row : List ℕ) where
   abbrev listed : Bool
   listed = eqb (kindIn row) 2 && any layerTooWide (listIn row)
 
-  pub kind-wide : 2 < getD row 2 0 → true ≡ rowTooWide row
+  pub kind-wide : 3 < getD row 2 0 → true ≡ rowTooWide row
   unfolding rowTooWide
-  kind-wide h = rw (lt-ltb 2 (getD row 2 0) h)
+  kind-wide h = rw (lt-ltb 3 (getD row 2 0) h)
 
   pub type-wide : 255 < getD row 0 0 → true ≡ rowTooWide row
   unfolding rowTooWide
   type-wide h =
-      sym (either-right (ltb 2 (kindIn row)) _ (either-left (tooWideFor (entryTable (kindIn row)) row) listed (rw (le-ltb (getD row 0 0) 256 h))))
+      sym (either-right (ltb 3 (kindIn row)) _ (either-left (tooWideFor (entryTable (kindIn row)) row) listed (rw (le-ltb (getD row 0 0) 256 h))))
 
   pub pid-wide : 8191 < getD row 1 0 → true ≡ rowTooWide row
   unfolding rowTooWide
   pid-wide h =
-      sym (either-right (ltb 2 (kindIn row)) _
+      sym (either-right (ltb 3 (kindIn row)) _
       (either-left (tooWideFor (entryTable (kindIn row)) row) listed (rw (le-ltb (getD row 1 0) 8192 h, and-false (ltb (getD row 0 0) 256)))))
 
   module _ (type-fine : getD row 0 0 < 256) (pid-fine : getD row 1 0 < 8192) where
@@ -50,19 +50,30 @@ module _ (row : List ℕ) where
     unfolding rowTooWide
     extension-decides e = rw (e, lt-ltb (getD row 0 0) 256 type-fine, lt-ltb (getD row 1 0) 8192 pid-fine)
 
-    pub no-record-fine : getD row 2 0 ≡ 0 → false ≡ rowTooWide row
+    -- no record, or an implied layer
+    pub fieldless-fine : getD row 2 0 ≤ 3 → getD row 2 0 ≢ 1 → getD row 2 0 ≢ 2 → false ≡ rowTooWide row
     unfolding rowTooWide
-    no-record-fine e = rw (e, lt-ltb (getD row 0 0) 256 type-fine, lt-ltb (getD row 1 0) 8192 pid-fine)
+    fieldless-fine h one two =
+        let kind : ℕ = getD row 2 0 in
+        let two-bits : kind < 4 = omega arith in
+        rw (
+          ne-eqb kind 1 one,
+          ne-eqb kind 2 two,
+          le-ltb 3 kind h,
+          lt-ltb kind 4 two-bits,
+          lt-ltb (getD row 0 0) 256 type-fine,
+          lt-ltb (getD row 1 0) 8192 pid-fine,
+        )
 
   module _ (fine : rowTooWide row ≡ false) where
     pub within-tables : fits (entryTable (kindIn row)) (fieldsIn (entryTable (kindIn row)) row) ≡ true
     unfolding rowTooWide
     within-tables =
-        not-false _ (neither-left (tooWideFor (entryTable (kindIn row)) row) listed (neither-right (ltb 2 (kindIn row)) _ fine))
+        not-false _ (neither-left (tooWideFor (entryTable (kindIn row)) row) listed (neither-right (ltb 3 (kindIn row)) _ fine))
 
-    pub kind-fine : getD row 2 0 ≤ 2
+    pub kind-fine : getD row 2 0 ≤ 3
     unfolding rowTooWide
-    kind-fine = ltb-false 2 (getD row 2 0) (neither-left (ltb 2 (kindIn row)) (tooWideFor (entryTable (kindIn row)) row || listed) fine)
+    kind-fine = ltb-false 3 (getD row 2 0) (neither-left (ltb 3 (kindIn row)) (tooWideFor (entryTable (kindIn row)) row || listed) fine)
 
     pub type-bound : getD row 0 0 < 256
     type-bound = (bounds (fits-fit (entryTable (kindIn row)) (fieldsIn (entryTable (kindIn row)) row) within-tables)) .0

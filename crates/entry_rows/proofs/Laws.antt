@@ -9,7 +9,7 @@ use Rattle.syntax.specs.Named.{byNames}
 use Rattle.combinators.specs.Padding.{padTo, length-padTo}
 use Rattle.vocabulary.specs.declared.LayerIndex.{LayerIndex}
 use Rattle.descriptors.specs.declared.«record».Record.{Record}
-use Rattle.descriptors.specs.declared.«record».Record.the-variants.{NoRecord, Hierarchy, Extension}
+use Rattle.descriptors.specs.declared.«record».Record.the-variants.{NoRecord, Hierarchy, Extension, Implied}
 use Rattle.vocabulary.specs.declared.stream_types.Reading.the-variants.{Edition2015}
 use Rattle.hierarchy.specs.Hierarchy.{hierarchyDescriptor, hierarchyFrom}
 use Rattle.extension.specs.Extension.{extensionHead, noLayer, extensionFrom}
@@ -23,6 +23,7 @@ head-length streamType pid «record» = refl
 list-short : («record» : Record) (layers : List LayerIndex) → length (listOf «record» layers) ≤ 64
 list-short NoRecord layers = omega arith
 list-short (Hierarchy h) layers = omega arith
+list-short Implied layers = omega arith
 list-short (Extension x) layers = simp (length-map, length-take) (omega arith)
 
 tail-length : («record» : Record) (layers : List LayerIndex) → length (tailOf «record» layers) ≡ 64
@@ -57,3 +58,8 @@ module _ (row : List ℕ) where
       → record { «stream_type» = getD row 0 0; pid = getD row 1 0; «record» = NoRecord; embedded = padTo 63 noLayer [] } ≡ entryIn row
   unfolding entryIn
   no-record-entry e = rw e
+
+  pub implied-entry : getD row 2 0 ≡ 3
+      → record { «stream_type» = getD row 0 0; pid = getD row 1 0; «record» = Implied; embedded = padTo 63 noLayer [] } ≡ entryIn row
+  unfolding entryIn
+  implied-entry e = rw e

@@ -5,3 +5,4 @@ pub mod Judged
 pub mod Laws
 pub mod Walked
 pub mod RoundTrips
+pub mod Views

@@ -18,7 +18,7 @@ use Rattle.vocabulary.specs.declared.stream_types.Reading.the-variants.{Edition
 use Rattle.hierarchy.specs.declared.HierarchyRecord.{HierarchyRecord}
 use Rattle.extension.specs.declared.ExtensionRecord.{ExtensionRecord}
 use Rattle.descriptors.specs.declared.«record».Record.{Record}
-use Rattle.descriptors.specs.declared.«record».Record.the-variants.{NoRecord, Hierarchy, Extension}
+use Rattle.descriptors.specs.declared.«record».Record.the-variants.{NoRecord, Hierarchy, Extension, Implied}
 use Rattle.hierarchy.specs.Hierarchy.{hierarchyDescriptor, hierarchyFrom, hierarchyFields}
 use Rattle.extension.specs.Extension.{extensionHead, noLayer, extensionFrom, extensionFields}
 use Rattle.es_loop.specs.declared.entries.Entry.{Entry}
@@ -29,7 +29,7 @@ use Rattle.extension.proofs.Payloads.{extension-fields}
 use Rattle.entry_rows.specs.Names.{namesOf, picked}
 use Rattle.entry_rows.specs.Rows.{rowNames, entryTable, layerNumber, headOf, listOf, tailOf, rowOf, kindIn, countIn, fieldsIn, listIn, rowTooWide, layerOf, entryIn}
 use Rattle.entry_rows.proofs.Judged.{kind-fine, within-tables}
-use Rattle.entry_rows.proofs.Laws.{hierarchy-entry, extension-entry, no-record-entry}
+use Rattle.entry_rows.proofs.Laws.{hierarchy-entry, extension-entry, no-record-entry, implied-entry}
 
 -- ---- from an entry to its row and back
 
@@ -37,6 +37,7 @@ use Rattle.entry_rows.proofs.Laws.{hierarchy-entry, extension-entry, no
 abbrev pub OwnList : Record → List LayerIndex → Type 0
 OwnList NoRecord array = array ≡ padTo 63 noLayer []
 OwnList (Hierarchy h) array = array ≡ padTo 63 noLayer []
+OwnList Implied array = array ≡ padTo 63 noLayer []
 OwnList (Extension x) array =
     (layers : List LayerIndex) × (length layers ≡ x .«num_embedded_layers») × (x .«num_embedded_layers» ≤ 63) × (array ≡ padTo 63 noLayer layers)
 
@@ -60,6 +61,7 @@ again : (streamType pid : ℕ) («record» : Record) (array : List LayerIndex) �
     → entryIn (rowOf (entryWith streamType pid «record» array)) ≡ entryWith streamType pid «record» array
 unfolding headOf tailOf entryIn
 again streamType pid NoRecord array own = ap (entryWith streamType pid NoRecord) (sym own)
+again streamType pid Implied array own = ap (entryWith streamType pid Implied) (sym own)
 again streamType pid (Hierarchy h) array own = ap₂ (λ (g : HierarchyRecord) (l : List LayerIndex). entryWith streamType pid (Hierarchy g) l) (hierarchy-fields h) (sym own)
 again streamType pid (Extension x) array own =
     ap₂ (λ (y : ExtensionRecord) (l : List LayerIndex). entryWith streamType pid (Extension y) l) (extension-fields x)
@@ -116,6 +118,13 @@ module _ (row : List ℕ) (own : OwnRow row) where
       ∙ ap (λ (n : ℕ). picked rowNames (namesOf (entryTable 0)) (getD row 0 0 ∷ getD row 1 0 ∷ n ∷ []) ++ padTo 64 0 []) (sym e)
       ∙ parts-of 0 e
 
+  implied-again : kindIn row ≡ 3 → rowOf (entryIn row) ≡ row
+  unfolding headOf tailOf
+  implied-again e =
+      ap rowOf (sym (implied-entry row e))
+      ∙ ap (λ (n : ℕ). picked rowNames (namesOf (entryTable 3)) (getD row 0 0 ∷ getD row 1 0 ∷ n ∷ []) ++ padTo 64 0 []) (sym e)
+      ∙ parts-of 3 e
+
   hierarchy-again : kindIn row ≡ 1 → rowOf (entryIn row) ≡ row
   unfolding headOf tailOf
   hierarchy-again e =
@@ -151,8 +160,9 @@ module _ (row : List ℕ) (own : OwnRow row) where
   pub row-again : rowOf (entryIn row) ≡ row
   row-again = go (kindIn row) refl (kind-fine row (own .fitting))
     where
-      go : (kind : ℕ) → kindIn row ≡ kind → kind ≤ 2 → rowOf (entryIn row) ≡ row
+      go : (kind : ℕ) → kindIn row ≡ kind → kind ≤ 3 → rowOf (entryIn row) ≡ row
       go zero e h = no-record-again e
       go (suc zero) e h = hierarchy-again e
       go (suc (suc zero)) e h = extension-again e
-      go (suc (suc (suc kind))) e h = absurd (omega arith)
+      go (suc (suc (suc zero))) e h = implied-again e
+      go (suc (suc (suc (suc kind)))) e h = absurd (omega arith)

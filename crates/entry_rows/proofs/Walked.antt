@@ -2,6 +2,7 @@
 -- Assumes nothing.
 use Prim.Native.Nat.{ℕ, _+_, _-_, _*_, _≤_, _<_}
 use mathlib.Core.Path.{_≡_, refl, sym, _∙_, ap}
+use mathlib.Core.Bool.{Bool}
 use mathlib.Core.List.{List, _++_, map}
 use native.Mathlib.Omega.{arith}
 use lib.ListN.{length, take, drop, length-map}
@@ -12,7 +13,7 @@ use Rattle.buffers.proofs.Laws.{over-part, over-length}
 use Rattle.vocabulary.specs.declared.stream_types.Reading.{Reading}
 use Rattle.es_loop.specs.declared.entries.Stream.{Stream}
 use Rattle.es_loop.specs.declared.verdict.Verdict.the-variants.{Entries}
-use Rattle.es_loop.specs.Entries.{noStream, sizeOf, streamsOf, entryOf}
+use Rattle.es_loop.specs.Entries.{noStream, sizeOf, pairOf, streamsAlone, streamsOf, entryOf}
 use Rattle.es_loop.specs.Conditions.{streamAt}
 use Rattle.es_loop.specs.Reading.{verdictOf}
 use Rattle.es_loop.proofs.Judged.{Sound, sound}
@@ -34,17 +35,18 @@ rows-for-length : (streams : List Stream) → length (rowsFor streams) ≡ lengt
 rows-for-length streams =
     ap length (rows-for streams) ∙ rows-length (map entryOf streams) ∙ ap (λ (n : ℕ). n * 80) (length-map streams entryOf)
 
-module _ (reading : Reading) (bytes old : List ℕ) (judged : verdictOf reading bytes ≡ Entries (length (streamsOf reading bytes)))
+module _ (reading : Reading) (pair : Bool) (bytes old : List ℕ) (judged : verdictOf reading bytes ≡ Entries (length (streamsOf reading bytes)) pair)
     (room : length (streamsOf reading bytes) * 80 ≤ length old) where
   abbrev all : List Stream
   all = streamsOf reading bytes
 
-  accepted : Sound reading bytes (length all)
-  accepted = sound reading bytes (length all) judged
+  accepted : Sound reading bytes (length all) pair
+  accepted = sound reading bytes (length all) pair judged
 
   -- the turn at the byte `at`, where an entry of `size` bytes begins
   pub record Turn (count at size : ℕ) : Type 0 where
     pub short : length bytes ≤ 1008
+    pub paired : pair ≡ pairOf (streamsAlone reading bytes)
     pub spaced : 5 * count ≤ at
     pub left : length (leftAt reading bytes at) ≡ length bytes - at
     pub large : 5 ≤ size
@@ -55,15 +57,16 @@ module _ (reading : Reading) (bytes old : List ℕ) (judged : verdictOf reading 
   module _ (count at : ℕ) (cursor : Cursor reading bytes count at) (more : at < length bytes) (size : ℕ)
       (is-size : size ≡ sizeOf (leftAt reading bytes at)) where
     here-fits : size ≤ length (leftAt reading bytes at)
-    here-fits = size-fits reading bytes (length all) accepted count at cursor more size is-size
+    here-fits = size-fits reading bytes (length all) pair accepted count at cursor more size is-size
 
     here-inside : count < length all
-    here-inside = inside-here reading bytes count at cursor more size is-size here-fits _ refl
+    here-inside = inside-here reading bytes count at cursor more size is-size here-fits pair (accepted .paired) _ refl
 
     pub turn : Turn count at size
     turn =
         record {
           short = accepted .short;
+          paired = accepted .paired;
           spaced = cursor .spaced;
           left = left-long reading bytes at;
           large = size-5 reading bytes count at cursor more size is-size;

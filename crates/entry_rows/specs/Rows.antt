@@ -16,7 +16,7 @@ use Rattle.syntax.specs.Table.{Table, value, fits}
 use Rattle.vocabulary.specs.declared.LayerIndex.{LayerIndex}
 use Rattle.vocabulary.specs.declared.stream_types.Reading.the-variants.{Edition2015}
 use Rattle.descriptors.specs.declared.«record».Record.{Record}
-use Rattle.descriptors.specs.declared.«record».Record.the-variants.{NoRecord, Hierarchy, Extension}
+use Rattle.descriptors.specs.declared.«record».Record.the-variants.{NoRecord, Hierarchy, Extension, Implied}
 use Rattle.hierarchy.specs.Hierarchy.{hierarchyDescriptor, hierarchyFrom, hierarchyFields}
 use Rattle.extension.specs.Extension.{extensionHead, embeddedLayer, noLayer, extensionFrom, extensionFields}
 use Rattle.es_loop.specs.declared.entries.Entry.{Entry}
@@ -44,14 +44,15 @@ rowNames =
     ∷ "num_embedded_layers"
     ∷ []
 
--- What `record` says: 0 without a record, 1 for the hierarchy descriptor, 2 for the extension.
+-- What `record` says: 0 without a record, 1 for the hierarchy descriptor, 2 for the extension, 3 for an implied layer.
 abbrev pub kindOf : Record → ℕ
 kindOf NoRecord = 0
 kindOf (Hierarchy h) = 1
 kindOf (Extension x) = 2
+kindOf Implied = 3
 
 -- the fields that an entry has, with their widths: its stream type and its PID, what kind of record it has, and the fields of that record's
--- syntax table
+-- syntax table, of which an implied layer has none
 abbrev pub recordTable : ℕ → Table
 recordTable kind = cond (eqb kind 1) (hierarchyDescriptor Edition2015) (cond (eqb kind 2) extensionHead [])
 
@@ -64,11 +65,16 @@ abbrev pub recordFields : Record → List ℕ
 recordFields NoRecord = []
 recordFields (Hierarchy h) = hierarchyFields h
 recordFields (Extension x) = extensionFields x
+recordFields Implied = []
 
 -- 'A field that the entry's record does not have is 0': no name of its table is that field's.
 unfoldable pub headOf : ℕ → ℕ → Record → List ℕ
 headOf streamType pid «record» =
     picked rowNames (namesOf (entryTable (kindOf «record»))) (streamType ∷ pid ∷ kindOf «record» ∷ recordFields «record»)
+
+-- the same of an entry whose record, if any, has no fields
+unfoldable pub fieldlessHead : ℕ → ℕ → ℕ → List ℕ
+fieldlessHead streamType pid kind = picked rowNames (namesOf (entryTable 0)) (streamType ∷ pid ∷ kind ∷ [])
 
 -- the embedded layers that the record counts, 'in the descriptor's order', of which a row has room for 63
 abbrev pub layerNumber : LayerIndex → ℕ
@@ -77,6 +83,7 @@ layerNumber index = index .0
 abbrev pub listOf : Record → List LayerIndex → List ℕ
 listOf NoRecord layers = []
 listOf (Hierarchy h) layers = []
+listOf Implied layers = []
 listOf (Extension x) layers = map layerNumber (take (min (x .«num_embedded_layers») 63) layers)
 
 -- '0 .. and so is what stands in `embedded` beyond `num_embedded_layers`', up to the end of the row
@@ -108,11 +115,11 @@ tooWideFor table row = not (fits table (fieldsIn table row))
 abbrev pub layerTooWide : ℕ → Bool
 layerTooWide index = not (fits embeddedLayer (index ∷ []))
 
--- the same of a row: 'a `record` above 2', a value of a field that the entry has, or an embedded layer among those it counts. 'Fields that the entry's
+-- the same of a row: 'a `record` above 3', a value of a field that the entry has, or an embedded layer among those it counts. 'Fields that the entry's
 -- record does not have, and embedded indices beyond the count are not looked at.'
 unfoldable pub rowTooWide : List ℕ → Bool
 rowTooWide row =
-    ltb 2 (kindIn row)
+    ltb 3 (kindIn row)
     || (tooWideFor (entryTable (kindIn row)) row
     || (eqb (kindIn row) 2 && any layerTooWide (listIn row)))
 
@@ -121,7 +128,8 @@ rowTooWide row =
 abbrev pub recordIn : List ℕ → Record
 recordIn row =
     cond (eqb (kindIn row) 1) (Hierarchy (hierarchyFrom (byNames (hierarchyDescriptor Edition2015) (fieldsIn (hierarchyDescriptor Edition2015) row))))
-    (cond (eqb (kindIn row) 2) (Extension (extensionFrom (byNames extensionHead (fieldsIn extensionHead row)))) NoRecord)
+    (cond (eqb (kindIn row) 2) (Extension (extensionFrom (byNames extensionHead (fieldsIn extensionHead row))))
+    (cond (eqb (kindIn row) 3) Implied NoRecord))
 
 abbrev pub layerOf : ℕ → LayerIndex
 layerOf index = record { 0 = index }

@@ -8,7 +8,7 @@ ghost use Rattle.buffers.specs.Buffers.{over};
 ghost use Rattle.syntax.specs.Filled.{bitOf};
 ghost use Rattle.es_loop.specs.Entries.{streamsOf, entryOf};
 ghost use Rattle.es_loop.specs.Reading.{verdictOf};
-ghost use Rattle.entry_rows.specs.Rows.{layerNumber, headOf, tailOf, rowOf, rowsOf};
+ghost use Rattle.entry_rows.specs.Rows.{layerNumber, fieldlessHead, headOf, tailOf, rowOf, rowsOf};
 use combinators::lesser;
 use descriptors::ExtensionRecord;
 use descriptors::HierarchyRecord;
@@ -36,14 +36,14 @@ fn bit(flag: bool) -> u16
     if flag { 1 } else { 0 }
 }
 
-// The 16 numbers of a stream that is no layer.
-fn head_without_record(stream_type: u8, pid: u16) -> [u16; 16]
-    ensures { λ r. ⌜ r ≡ headOf «stream_type» pid Record.NoRecord ⌝ }
+// The 16 numbers of a stream without a descriptor: it is no layer, or an implied one.
+fn fieldless_head(stream_type: u8, pid: u16, kind: u16) -> [u16; 16]
+    ensures { λ r. ⌜ r ≡ fieldlessHead «stream_type» pid kind ⌝ }
 {
     [
         wide(stream_type),
         pid,
-        0,
+        kind,
         0,
         0,
         0,
@@ -113,13 +113,14 @@ fn head_of(entry: Entry) -> [u16; 16]
 {
     let record = entry.record;
     match record {
-        Record::NoRecord => head_without_record(entry.stream_type, entry.pid),
+        Record::NoRecord => fieldless_head(entry.stream_type, entry.pid, 0),
         Record::Hierarchy(hierarchy) => {
             head_with_hierarchy(entry.stream_type, entry.pid, hierarchy)
         }
         Record::Extension(extension) => {
             head_with_extension(entry.stream_type, entry.pid, extension)
         }
+        Record::Implied => fieldless_head(entry.stream_type, entry.pid, 3),
     }
 }
 
@@ -172,6 +173,7 @@ fn lay_tail(row: &mut [u16], record: Record, embedded: [LayerIndex; 63])
         Record::Extension(extension) => {
             lay_layers(row, extension.num_embedded_layers as usize, embedded);
         }
+        Record::Implied => clear_tail(row),
     }
 }
 
@@ -187,8 +189,8 @@ fn lay_row(row: &mut [u16], entry: Entry)
 }
 
 // The rows of a loop that was judged and accepted, from the front of a buffer on that has room for them.
-pub fn put_rows(reading: Reading, bytes: &[u8], out: &mut [u16])
-    requires { ⌜ verdictOf reading (now bytes) ≡ Verdict.Entries (length (streamsOf reading (now bytes))) ⌝ }
+pub fn put_rows(reading: Reading, pair: bool, bytes: &[u8], out: &mut [u16])
+    requires { ⌜ verdictOf reading (now bytes) ≡ Verdict.Entries (length (streamsOf reading (now bytes))) pair ⌝ }
     requires { ⌜ length (streamsOf reading (now bytes)) * 80 ≤ length (now out) ⌝ }
     ensures { λ r. ⌜ now (out .exit) ≡ over (rowsOf (map entryOf (streamsOf reading (now (bytes .entry))))) (now (out .entry)) ⌝ }
 {
@@ -197,7 +199,7 @@ pub fn put_rows(reading: Reading, bytes: &[u8], out: &mut [u16])
     while at < bytes.len() {
         let left = &bytes[at..];
         let size = es_loop::entry_size(left);
-        let entry = es_loop::entry_of(es_loop::read_stream(reading, &left[..size]));
+        let entry = es_loop::entry_of(es_loop::read_stream(reading, pair, &left[..size]));
         let start = count * ROW;
         let end = start + ROW;
         lay_row(&mut out[start..end], entry);

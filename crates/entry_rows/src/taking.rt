@@ -10,11 +10,15 @@ ghost use Rattle.combinators.specs.Padding.{padTo};
 ghost use Rattle.vocabulary.specs.declared.stream_types.Reading.the-variants.{Edition2015};
 ghost use Rattle.hierarchy.specs.Hierarchy.{hierarchyDescriptor, hierarchyFrom};
 ghost use Rattle.extension.specs.Extension.{extensionHead, noLayer, extensionFrom};
+ghost use Rattle.implied.specs.Walking.{viewNext};
+ghost use Rattle.es_loop.specs.Entries.{shownOf};
+ghost use Rattle.loop_writer.specs.Verdict.{streamFor};
 ghost use Rattle.entry_rows.specs.Rows.{fieldsIn, tooWideFor, layerTooWide, rowTooWide, layerOf, entryIn, someTooWide};
 use descriptors::ExtensionRecord;
 use descriptors::HierarchyRecord;
 use descriptors::Record;
 use es_loop::Entry;
+use implied::Views;
 use vocabulary::HierarchyChannel;
 use vocabulary::LayerIndex;
 use vocabulary::NuhLayerId;
@@ -70,7 +74,7 @@ fn row_too_wide(row: &[u16]) -> bool
     ensures { λ r. ⌜ r ≡ rowTooWide (now (row .entry)) ⌝ }
 {
     let kind = row[2];
-    if 2 < kind {
+    if 3 < kind {
         return true;
     }
     if 255 < row[0] {
@@ -164,12 +168,28 @@ pub fn entry_in(row: &[u16]) -> Entry
             embedded,
         };
     }
+    if kind == 3 {
+        return Entry {
+            stream_type,
+            pid,
+            record: Record::Implied,
+            embedded: descriptors::no_layers(),
+        };
+    }
     Entry {
         stream_type,
         pid,
         record: Record::NoRecord,
         embedded: descriptors::no_layers(),
     }
+}
+
+// One row more of those among which there may be two views without a hierarchy descriptor (document 02, W-201).
+pub fn view_in(views: Views, row: &[u16]) -> Views
+    requires { ⌜ (80 ≤ length (now row)) × (rowTooWide (now row) ≡ false) ⌝ }
+    ensures { λ r. ⌜ r ≡ viewNext views (shownOf (streamFor (entryIn (now (row .entry))))) ⌝ }
+{
+    implied::view_next(views, row[0] as u8, row[2] == 1)
 }
 
 // Whether some row has a value that is too wide. Every row is judged, also those past the 201 entries that a loop can have.

@@ -5,10 +5,12 @@ ghost use Prim.Native.Nat.{_≤_};
 ghost use lib.ListN.{length};
 ghost use Rattle.buffers.specs.Buffers.{Laid};
 ghost use Rattle.loop_writer.specs.Layout.{loopBytes};
+ghost use Rattle.loop_writer.specs.Verdict.{pairFor};
 ghost use Rattle.loop_writer.specs.Weighing.{Weighs};
 ghost use Rattle.loop_writer.specs.Writing.{answer, content};
 ghost use Rattle.entry_rows.specs.Rows.{rowCount, someTooWide, entriesBelow, entriesIn};
 use super::taking::entry_in;
+use super::taking::view_in;
 use es_loop::MOST_ENTRIES;
 use es_loop::no_indices;
 use es_loop::no_pids;
@@ -18,9 +20,26 @@ use loop_writer::nothing_weighed;
 use loop_writer::weigh_next;
 use vocabulary::Refusal;
 
-// What the entries of the rows come to.
-fn weigh_rows(numbers: &[u16]) -> Weighed
-    requires { ⌜ (rowCount (now numbers) ≤ 201) × (someTooWide (now numbers) ≡ false) ⌝ }
+// Whether the rows have the two views without a hierarchy descriptor, which are to be implied layers.
+fn pair_in(numbers: &[u16]) -> bool
+    requires { ⌜ someTooWide (now numbers) ≡ false ⌝ }
+    ensures { λ r. ⌜ r ≡ pairFor (entriesBelow (now (numbers .entry)) (rowCount (now (numbers .entry)))) ⌝ }
+{
+    let mut views = implied::no_views();
+    let count = numbers.len() / 80;
+    let mut i = 0;
+    while i < count {
+        let start = i * 80;
+        let end = start + 80;
+        views = view_in(views, &numbers[start..end]);
+        i += 1;
+    }
+    implied::is_pair(views)
+}
+
+// What the entries of the rows come to, by whether they have the two views.
+fn weigh_rows(pair: bool, numbers: &[u16]) -> Weighed
+    requires { ⌜ (rowCount (now numbers) ≤ 201) × (someTooWide (now numbers) ≡ false) × (pair ≡ pairFor (entriesBelow (now numbers) (rowCount (now numbers)))) ⌝ }
     ensures { λ r. ⌜ Weighs (entriesBelow (now (numbers .entry)) (rowCount (now (numbers .entry)))) r ⌝ }
 {
     let mut pids = no_pids();
@@ -32,7 +51,8 @@ fn weigh_rows(numbers: &[u16]) -> Weighed
         let start = i * 80;
         let end = start + 80;
         let entry = entry_in(&numbers[start..end]);
-        weighed = weigh_next(&mut pids, &mut indices, weighed, entry, i);
+        let given = implied::gives(pair, entry.stream_type);
+        weighed = weigh_next(&mut pids, &mut indices, weighed, given, entry, i);
         i += 1;
     }
     weighed
@@ -64,7 +84,8 @@ pub fn write_rows(numbers: &[u16], out: &mut [u8]) -> Written
     if MOST_ENTRIES < numbers.len() / 80 {
         return Written::Refused(Refusal::LoopTooLong);
     }
-    let answer = loop_writer::decide(weigh_rows(numbers), out.len());
+    let pair = pair_in(numbers);
+    let answer = loop_writer::decide(weigh_rows(pair, numbers), out.len());
     match answer {
         Written::Refused(refusal) => Written::Refused(refusal),
         Written::Bytes(size) => {

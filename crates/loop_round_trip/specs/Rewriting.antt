@@ -13,7 +13,7 @@ use lib.ListN.{length, getD, take, drop, replicate, length-append, length-map, l
 use lib.Seq.{take-at, take-all}
 use Rattle.descriptor_heads.proofs.Bits.{bit-there}
 use Rattle.combinators.specs.Bools.{both-left, neither-left, neither-right}
-use Rattle.combinators.specs.Lists.{Nth, here, there, nth-inside, getD-nth, getD-map, any, gather}
+use Rattle.combinators.specs.Lists.{Nth, here, there, nth-inside, nth-map, getD-nth, getD-map, any, gather}
 use Rattle.combinators.specs.Lowest.{lowestNumber, earliestPlace, lowest-is}
 use Rattle.combinators.specs.Padding.{padTo, length-padTo}
 use Rattle.framing.specs.Pieces.{Item, whole, broken, cut, Cuts, nothing-left, does-not-fit, piece, cut-cuts}
@@ -25,12 +25,15 @@ use Rattle.vocabulary.specs.declared.LayerIndex.{LayerIndex}
 use Rattle.vocabulary.specs.declared.stream_types.Reading.the-variants.{Edition2015}
 use Rattle.vocabulary.specs.StreamTypes.{known}
 use Rattle.descriptors.specs.declared.«record».Record.{Record}
-use Rattle.descriptors.specs.declared.«record».Record.the-variants.{Hierarchy, Extension}
+use Rattle.descriptors.specs.declared.«record».Record.the-variants.{NoRecord, Hierarchy, Extension, Implied}
 use Rattle.descriptor_heads.specs.Head.{descriptorHead, descriptorTag, descriptorLength}
 use Rattle.hierarchy.specs.Hierarchy.{hierarchyDescriptor, hierarchyFrom, hierarchyOf, hierarchyFields}
 use Rattle.extension.specs.Extension.{extensionHead, embeddedLayer, noLayer, extensionFrom, extensionOf, layerIndexOf, layersOf, embeddedOf, extensionFields, layerTable}
 use Rattle.descriptors.specs.Looking.{Kind, skipped, wrong-length, hierarchy, extension, payloadKind, kindOf, Held, heldIn, isWrongLength, firstRecord, firstLayers, seenOf, nothingSeen}
-use Rattle.descriptors.specs.Records.{isLayer, recordTables}
+use Rattle.descriptors.specs.Records.{recordTables}
+use Rattle.implied.specs.Rule.{Shown, impliedPair, given}
+use Rattle.implied.specs.Marking.{withMark}
+use Rattle.judging.specs.Meaning.{hasDescriptor}
 use Rattle.descriptors.specs.declared.looking.Seen.{Seen}
 use Rattle.vocabulary.specs.declared.refusal.Refusal.{Refusal}
 use Rattle.vocabulary.specs.declared.refusal.Refusal.the-variants.{LoopTooLong}
@@ -43,15 +46,17 @@ use Rattle.es_loop.specs.Conditions.{streamAt, applies, refusalOf}
 use Rattle.es_loop.specs.Reading.{refusedWith, accepted, loopRead}
 use Rattle.es_loop.proofs.Judged.{Taken, taken}
 use Rattle.descriptor_heads.proofs.Heads.{by-tag}
-use Rattle.es_loop.specs.Entries.{entryHead, streamType, elementaryPid, esInfoLength, seenIn, streamOf, streamsOf, noStream, entryOf, blankEntry}
+use Rattle.es_loop.specs.Entries.{entryHead, streamType, elementaryPid, esInfoLength, seenIn, streamOf, shownOf, pairOf, markedStream, streamsAlone, streamsOf, noStream, entryOf, blankEntry}
+use Rattle.es_loop.proofs.Pairs.{pair-marked, marked-length}
 use Rattle.es_loop.proofs.Meant.{by-head}
 use Rattle.syntax.specs.Named.{byNames}
-use Rattle.syntax.specs.Filled.{filled, bytesIn, tooWideIn, bitOf}
-use Rattle.loop_writer.specs.Layout.{infoBytes, entryBytes, loopBytes, tooWide}
+use Rattle.syntax.specs.Filled.{Filled, filled, bytesIn, tooWideIn, bitOf}
+use Rattle.loop_writer.specs.Layout.{entryHeadTable, infoBytes, entryBytes, loopBytes, tooWide}
+use Rattle.loop_writer.specs.Verdict.{streamFor, pairFor}
 use Rattle.loop_writer.specs.declared.writer.Written.{Written}
 use Rattle.loop_writer.specs.declared.writer.Written.the-variants.{Bytes, Refused}
 use Rattle.loop_writer.specs.Writing.{answer}
-use Rattle.loop_round_trip.specs.ReadBack.{Typed, none, one-more as one-typed, onUnknownType, entry-sound, descriptor-sound, hierarchy-sound, extension-sound, layer-sound}
+use Rattle.loop_round_trip.specs.ReadBack.{Typed, none, one-more as one-typed, onUnknownType, wrongMark, writersOwnSix, withoutMark, entry-sound, descriptor-sound, hierarchy-sound, extension-sound, layer-sound}
 use Rattle.loop_round_trip.specs.RoundTrip.{Refuses, wide, too-long, judged-by, no-room, writes, refuses, numbered, none-below, same-refusal}
 use Rattle.loop_round_trip.specs.OwnShape.{Ones, ListOnes, no-more, one-more, OwnDescriptor, hierarchy-own, extension-own, OwnEntry, known-own, bare-own, OwnShape}
 
@@ -145,6 +150,8 @@ record Back (r : Record) (layers : List LayerIndex) (info : List ℕ) : Type 0 w
   info-bytes : gather bytesIn (recordTables r layers) ≡ info
   info-fit : any tooWideIn (recordTables r layers) ≡ false
   info-room : length layers ≡ 63
+  -- what stands in bytes is no mark
+  unmarked : withoutMark r ≡ r
 
 head-again : (head : List ℕ) (tag long : ℕ) → AreBytes head → length head ≡ 2 → descriptorTag head ≡ tag → descriptorLength head ≡ long
     → (writeTable descriptorHead (tag ∷ long ∷ []) ≡ head) × (not (fits descriptorHead (tag ∷ long ∷ [])) ≡ false)
@@ -165,6 +172,7 @@ module _ (head payload : List ℕ) (size : length head ≡ 2) (long : length pay
         info-fit = ap (λ (vs : List ℕ). not (fits (hierarchyDescriptor Edition2015) vs) || false) (hierarchy-again payload)
             ∙ ap (λ (x : Bool). x || false) (fits-filled (hierarchyDescriptor Edition2015) payload);
         info-room = refl;
+        unmarked = refl;
       }
 
   module _ (t : descriptorTag head ≡ 63) (l : length payload ≡ 7 + (extensionOf payload) .«num_embedded_layers»)
@@ -194,6 +202,7 @@ module _ (head payload : List ℕ) (size : length head ≡ 2) (long : length pay
               (ap₂ _||_ (ap (λ (vs : List ℕ). not (fits extensionHead vs)) (extension-again payload) ∙ fits-filled extensionHead payload)
               (ap (λ (ls : List LayerIndex). any tooWideIn (map layerTable ls)) kept ∙ list-fits (drop 7 payload)));
           info-room = length-padTo 63 noLayer (embeddedOf payload) (omega (arith, counted, n-small));
+          unmarked = refl;
         }
 
   own-back : OwnKind head payload
@@ -225,7 +234,7 @@ kinds ds = map (kindOf Edition2015) ds
 record-back : {info : List ℕ} {ds : List Item} → AreBytes info → Cuts 2 descriptorLength info ds → ((k : ℕ) (d : Item) → Nth ds k d → OwnDescriptor d)
     → any isWrongLength (kinds ds) ≡ false → ltb 1 (length (gather heldIn (kinds ds))) ≡ false
     → Back (firstRecord (gather heldIn (kinds ds))) (padTo 63 noLayer (firstLayers (gather heldIn (kinds ds)))) info
-record-back b nothing-left own w s = record { info-bytes = refl; info-fit = refl; info-room = refl }
+record-back b nothing-left own w s = record { info-bytes = refl; info-fit = refl; info-room = refl; unmarked = refl }
 record-back b (does-not-fit h f) own w s = absurd (own-whole (own 0 broken here))
 record-back b (piece {head} {body} p q nothing-left) own w s =
     let bh : AreBytes head = bytes-left head (body ++ []) b in
@@ -257,6 +266,7 @@ record EntryBack (e : Entry) (entry : List ℕ) : Type 0 where
   fit-again : tooWide e ≡ false
   room-again : length (e .embedded) ≡ 63
   known-again : onUnknownType e ≡ false
+  unmarked-again : withoutMark (e .«record») ≡ e .«record»
 
 module _ (head info : List ℕ) (size : length head ≡ 5) (long : length info ≡ esInfoLength head) (bh : AreBytes head) (ones : Ones entryHead head) where
   abbrev entryWith : Seen → Entry
@@ -273,6 +283,7 @@ module _ (head info : List ℕ) (size : length head ≡ 5) (long : length info �
         fit-again = ap₂ _||_ (ap (λ (vs : List ℕ). not (fits entryHead vs)) (sym values) ∙ fits-filled entryHead head) (back .info-fit);
         room-again = back .info-room;
         known-again = unknown;
+        unmarked-again = back .unmarked;
       }
 
 entry-back : {head info : List ℕ} → length head ≡ 5 → length info ≡ esInfoLength head → AreBytes head → AreBytes info → OwnEntry (whole head info)
@@ -285,23 +296,71 @@ entry-back {head} {info} size long bh bi (known-own ones kn own) w s =
     (entry-again head info size long bh ones (seenOf Edition2015 info)
     (record-back bi (cut-cuts 2 descriptorLength (omega arith) by-tag info) own (sym (ap (λ (x : Seen). x .«wrong_length») is-seen) ∙ w)
     (sym (ap (λ (x : Seen). x .«second_record») is-seen) ∙ s))
-    (ap (λ (b : Bool). isLayer ((seenOf Edition2015 info) .«record») && not b) kn ∙ and-false (isLayer ((seenOf Edition2015 info) .«record»))))
+    (ap (λ (b : Bool). hasDescriptor ((seenOf Edition2015 info) .«record») && not b) kn ∙ and-false (hasDescriptor ((seenOf Edition2015 info) .«record»))))
 entry-back {head} size long bh bi (bare-own ones) w s =
     let is-seen : seenIn Edition2015 (streamType head) [] ≡ nothingSeen = nothing (known Edition2015 (streamType head)) in
     subst (λ (x : Seen). EntryBack (entryWith head [] size long bh ones x) (head ++ [])) (sym is-seen)
-    (entry-again head [] size long bh ones nothingSeen (record { info-bytes = refl; info-fit = refl; info-room = refl }) refl)
+    (entry-again head [] size long bh ones nothingSeen (record { info-bytes = refl; info-fit = refl; info-room = refl; unmarked = refl }) refl)
   where
     nothing : (b : Bool) → cond b nothingSeen nothingSeen ≡ nothingSeen
     nothing true = refl
     nothing false = refl
 
+-- ---- the marks: for an implied layer there is no descriptor, so that its bytes are those without the mark
+
+tables-kept : (isGiven : Bool) (r : Record) (layers : List LayerIndex) → recordTables (cond isGiven (withMark r) r) layers ≡ recordTables r layers
+tables-kept true NoRecord layers = refl
+tables-kept true (Hierarchy h) layers = refl
+tables-kept true (Extension x) layers = refl
+tables-kept true Implied layers = refl
+tables-kept false r layers = refl
+
+descriptor-kept : (isGiven : Bool) (r : Record) → hasDescriptor (cond isGiven (withMark r) r) ≡ hasDescriptor r
+descriptor-kept true NoRecord = refl
+descriptor-kept true (Hierarchy h) = refl
+descriptor-kept true (Extension x) = refl
+descriptor-kept true Implied = refl
+descriptor-kept false r = refl
+
+right-mark : (isGiven : Bool) (r : Record) → withoutMark r ≡ r → wrongMark isGiven (cond isGiven (withMark r) r) ≡ false
+right-mark true NoRecord p = refl
+right-mark true (Hierarchy h) p = refl
+right-mark true (Extension x) p = refl
+right-mark true Implied p = refl
+right-mark false NoRecord p = refl
+right-mark false (Hierarchy h) p = refl
+right-mark false (Extension x) p = refl
+right-mark false Implied p = let z : _≡_ {A = ℕ} 0 1 = cc in absurd (omega arith)
+
+-- What an entry is written as again with its mark, beside the two views or not: its own bytes, and nothing that the writer alone refuses.
+record MarkedBack (pair : Bool) (e : Entry) (entry : List ℕ) : Type 0 where
+  marked-bytes : entryBytes e ≡ entry
+  marked-fit : tooWide e ≡ false
+  marked-room : length (e .embedded) ≡ 63
+  marked-right : writersOwnSix pair e ≡ false
+
+marked-back : (pair : Bool) (s : Stream) {entry : List ℕ} → EntryBack (entryOf s) entry → MarkedBack pair (entryOf (markedStream pair s)) entry
+marked-back pair s back =
+    let isGiven : Bool = given pair (s .«stream_type») in
+    let r : Record = s .seen .«record» in
+    let tables : recordTables (cond isGiven (withMark r) r) (s .seen .embedded) ≡ recordTables r (s .seen .embedded) = tables-kept isGiven r (s .seen .embedded) in
+    let head : List Filled → Filled = λ ts. entryHeadTable (s .«stream_type») (s .pid) (length (gather bytesIn ts)) in
+    record {
+      marked-bytes = ap (λ (ts : List Filled). gather bytesIn (head ts ∷ ts)) tables ∙ back .bytes-again;
+      marked-fit = ap (λ (ts : List Filled). any tooWideIn (head ts ∷ ts)) tables ∙ back .fit-again;
+      marked-room = back .room-again;
+      marked-right = ap₂ _||_
+          (ap (λ (b : Bool). b && not (known Edition2015 (s .«stream_type»))) (descriptor-kept isGiven r) ∙ back .known-again)
+          (right-mark isGiven r (back .unmarked-again));
+    }
+
 -- ---- the loop
 
-record LoopBack (es : List Entry) (loop : List ℕ) : Type 0 where
+record LoopBack (pair : Bool) (es : List Entry) (loop : List ℕ) : Type 0 where
   loop-bytes : loopBytes es ≡ loop
   loop-fit : any tooWide es ≡ false
   loop-typed : Typed es
-  loop-known : (k : ℕ) (e : Entry) → Nth es k e → onUnknownType e ≡ false
+  loop-right : (k : ℕ) (e : Entry) → Nth es k e → writersOwnSix pair e ≡ false
 
 entry-whole : {i : Item} → OwnEntry i → IsWhole i
 entry-whole (known-own ones kn own) = tt
@@ -310,27 +369,28 @@ entry-whole (bare-own ones) = tt
 abbrev Fine : Item → Type 0
 Fine i = ((streamOf Edition2015 i) .seen .«wrong_length» ≡ false) × ((streamOf Edition2015 i) .seen .«second_record» ≡ false)
 
-abbrev entries : List Item → List Entry
-entries items = map entryOf (map (streamOf Edition2015) items)
+abbrev entries : Bool → List Item → List Entry
+entries pair items = map entryOf (map (markedStream pair) (map (streamOf Edition2015) items))
 
-loop-back : {loop : List ℕ} {items : List Item} → AreBytes loop → Cuts 5 esInfoLength loop items → ((k : ℕ) (i : Item) → Nth items k i → OwnEntry i)
-    → ((k : ℕ) (i : Item) → Nth items k i → Fine i) → LoopBack (entries items) loop
-loop-back b nothing-left own fine = record { loop-bytes = refl; loop-fit = refl; loop-typed = none; loop-known = λ k e n. absurd (not-suc-le-zero (nth-inside n)) }
-loop-back b (does-not-fit h f) own fine = absurd (entry-whole (own 0 broken here))
-loop-back b (piece {head} {body} {rest} {items} p q c) own fine =
+loop-back : (pair : Bool) {loop : List ℕ} {items : List Item} → AreBytes loop → Cuts 5 esInfoLength loop items → ((k : ℕ) (i : Item) → Nth items k i → OwnEntry i)
+    → ((k : ℕ) (i : Item) → Nth items k i → Fine i) → LoopBack pair (entries pair items) loop
+loop-back pair b nothing-left own fine = record { loop-bytes = refl; loop-fit = refl; loop-typed = none; loop-right = λ k e n. absurd (not-suc-le-zero (nth-inside n)) }
+loop-back pair b (does-not-fit h f) own fine = absurd (entry-whole (own 0 broken here))
+loop-back pair b (piece {head} {body} {rest} {items} p q c) own fine =
     let bh : AreBytes head = bytes-left head (body ++ rest) b in
     let br : AreBytes (body ++ rest) = bytes-right head (body ++ rest) b in
-    let first = entry-back p q bh (bytes-left body rest br) (own 0 (whole head body) here) ((fine 0 (whole head body) here) .0) ((fine 0 (whole head body) here) .1) in
-    let later = loop-back (bytes-right body rest br) c (λ k i n. own (suc k) i (there n)) (λ k i n. fine (suc k) i (there n)) in
+    let first = marked-back pair (streamOf Edition2015 (whole head body))
+    (entry-back p q bh (bytes-left body rest br) (own 0 (whole head body) here) ((fine 0 (whole head body) here) .0) ((fine 0 (whole head body) here) .1)) in
+    let later = loop-back pair (bytes-right body rest br) c (λ k i n. own (suc k) i (there n)) (λ k i n. fine (suc k) i (there n)) in
     record {
-      loop-bytes = ap₂ (λ (x y : List ℕ). x ++ y) (first .bytes-again) (later .loop-bytes) ∙ append-assoc head body rest;
-      loop-fit = ap₂ _||_ (first .fit-again) (later .loop-fit);
-      loop-typed = one-typed (first .room-again) (later .loop-typed);
-      loop-known = all (first .known-again) (later .loop-known);
+      loop-bytes = ap₂ (λ (x y : List ℕ). x ++ y) (first .marked-bytes) (later .loop-bytes) ∙ append-assoc head body rest;
+      loop-fit = ap₂ _||_ (first .marked-fit) (later .loop-fit);
+      loop-typed = one-typed (first .marked-room) (later .loop-typed);
+      loop-right = all (first .marked-right) (later .loop-right);
     }
   where
-    all : {e : Entry} {es : List Entry} → onUnknownType e ≡ false → ((k : ℕ) (x : Entry) → Nth es k x → onUnknownType x ≡ false) → (k : ℕ) (x : Entry)
-        → Nth (e ∷ es) k x → onUnknownType x ≡ false
+    all : {e : Entry} {es : List Entry} → writersOwnSix pair e ≡ false → ((k : ℕ) (x : Entry) → Nth es k x → writersOwnSix pair x ≡ false) → (k : ℕ) (x : Entry)
+        → Nth (e ∷ es) k x → writersOwnSix pair x ≡ false
     all u f zero x here = u
     all u f (suc k) x (there n) = f k x n
 
@@ -339,11 +399,22 @@ least-size : (es : List Entry) → 5 * length es ≤ length (loopBytes es)
 least-size [] = omega arith
 least-size (e ∷ es) = omega (arith, least-size es, length-append (entryBytes e) (loopBytes es))
 
+-- the writer sees the two views that the reader saw
+pair-written : (ss : List Stream) → pairFor (map entryOf ss) ≡ pairOf ss
+pair-written ss = ap impliedPair (go ss)
+  where
+    go : (ss : List Stream) → map shownOf (map streamFor (map entryOf ss)) ≡ map shownOf ss
+    go [] = refl
+    go (s ∷ ss) = ap (λ (l : List Shown). shownOf s ∷ l) (go ss)
+
 -- ---- REWRITING
 
 module _ (loop : List ℕ) (b : AreBytes loop) (own : OwnShape loop) (ok : (loopRead Edition2015 loop) .outcome ≡ Accepted) where
   abbrev items : List Item
   items = cut 5 esInfoLength loop
+
+  abbrev pair : Bool
+  pair = pairOf (streamsAlone Edition2015 loop)
 
   abbrev streams : List Stream
   streams = streamsOf Edition2015 loop
@@ -353,14 +424,15 @@ module _ (loop : List ℕ) (b : AreBytes loop) (own : OwnShape loop) (ok : (loop
 
   fine : (k : ℕ) (i : Item) → Nth items k i → Fine i
   fine k i n =
-      let inside : k < length streams = rw (length-map items (streamOf Edition2015)) (nth-inside n) in
-      let at : streamAt streams k ≡ streamOf Edition2015 i = getD-map (streamOf Edition2015) noStream n in (
+      let long : length streams ≡ length items = marked-length (streamsAlone Edition2015 loop) ∙ length-map items (streamOf Edition2015) in
+      let inside : k < length streams = rw long (nth-inside n) in
+      let at : streamAt streams k ≡ markedStream pair (streamOf Edition2015 i) = getD-map (markedStream pair) noStream (nth-map (streamOf Edition2015) n) in (
         sym (ap (λ (s : Stream). s .seen .«wrong_length») at) ∙ known-taken .none 4 k (omega arith) inside,
         sym (ap (λ (s : Stream). s .seen .«second_record») at) ∙ known-taken .none 5 k (omega arith) inside,
       )
 
-  back : LoopBack (map entryOf streams) loop
-  back = loop-back b (cut-cuts 5 esInfoLength (omega arith) by-head loop) own fine
+  back : LoopBack pair (map entryOf streams) loop
+  back = loop-back pair b (cut-cuts 5 esInfoLength (omega arith) by-head loop) own fine
 
   abbrev array : List Entry
   array = padTo 201 blankEntry (map entryOf streams)
@@ -380,12 +452,12 @@ module _ (loop : List ℕ) (b : AreBytes loop) (own : OwnShape loop) (ok : (loop
     typed : Typed (take (length streams) array)
     typed = rw all-given (back .loop-typed)
 
-    known-at : (k : ℕ) → onUnknownType (getD (take (length streams) array) k blankEntry) ≡ false
-    known-at k = rw all-given (go (decLt k (length (map entryOf streams))))
+    right-at : (k : ℕ) → writersOwnSix (pairFor (take (length streams) array)) (getD (take (length streams) array) k blankEntry) ≡ false
+    right-at k = rw (all-given, pair-written streams, pair-marked (streamsAlone Edition2015 loop)) (go (decLt k (length (map entryOf streams))))
       where
-        go : Dec (k < length (map entryOf streams)) → onUnknownType (getD (map entryOf streams) k blankEntry) ≡ false
-        go (yes h) = back .loop-known k (getD (map entryOf streams) k blankEntry) (getD-nth (map entryOf streams) k blankEntry h)
-        go (no h) = ap onUnknownType (List·getD-eq-default (map entryOf streams) blankEntry (omega arith))
+        go : Dec (k < length (map entryOf streams)) → writersOwnSix pair (getD (map entryOf streams) k blankEntry) ≡ false
+        go (yes h) = back .loop-right k (getD (map entryOf streams) k blankEntry) (getD-nth (map entryOf streams) k blankEntry h)
+        go (no h) = ap (writersOwnSix pair) (List·getD-eq-default (map entryOf streams) blankEntry (omega arith))
 
     -- the writer does not refuse
     not-refused : {r : Refusal} → Refuses room (length streams) array r → answer room (length streams) array ≡ Refused r → ⊥
@@ -398,7 +470,7 @@ module _ (loop : List ℕ) (b : AreBytes loop) (own : OwnShape loop) (ok : (loop
     not-refused (judged-by {n} {k} p f short low l) e =
         let named = numbered n k l (none-below (take (length streams) array) n k (low .holds l)) in
         let refused : loopRead Edition2015 loop ≡ refusedWith (refusalOf n k) =
-        rw same-bytes at (same-refusal room (length streams) array typed few e (omega (arith, named .0)) (λ six. known-at (placeOf (refusalOf n k)))) in
+        rw same-bytes at (same-refusal room (length streams) array typed few e (omega (arith, named .0)) (λ six. right-at (placeOf (refusalOf n k)))) in
         let z : _≡_ {A = ℕ} 0 1 = cc (ok, ap (λ (x : LoopRead). x .outcome) refused) in omega arith
     not-refused (no-room p q) e = omega (arith, ap length same-bytes)
 

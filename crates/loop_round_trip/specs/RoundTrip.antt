@@ -1,7 +1,8 @@
 -- THE ROUND TRIPS OF THE WRITER, under the 2015 reading.
 -- * `read-back`: what the writer accepts is read again, and the entries come back as they were given (`read-back-exactly`, `buffer-holds`).
 -- * `same-refusal`: what the writer refuses with 1, 3 or 6 to 9, reading the same entries' bytes refuses with the same number and place. The
---   exception is a record on a stream type that the 2015 reading does not know: the writer refuses it with 6, and reading does not look at it.
+--   exceptions are a record on a stream type that the 2015 reading does not know and an implied mark that isn't what the rule gives: the writer
+--   refuses them with 6, and reading does not look at the one, and sets the mark itself.
 --   (25 is of values that no bytes hold, and 17 of the buffer: reading has neither.)
 -- Assumes nothing.
 use Prim.Native.Nat.{ℕ, zero, suc, _≤_, _<_}
@@ -31,11 +32,11 @@ use Rattle.es_loop.specs.declared.verdict.Verdict.the-variants.{Refused as Verd
 use Rattle.es_loop.specs.Reading.{refusedWith, judged, answerBy, loopRead}
 use Rattle.es_loop.proofs.Judged.{judged-refused, judged-accepted}
 use Rattle.loop_writer.specs.Layout.{loopBytes, tooWide}
-use Rattle.loop_writer.specs.Verdict.{streamFor, appliesTo}
+use Rattle.loop_writer.specs.Verdict.{streamFor, appliesTo, pairFor}
 use Rattle.loop_writer.specs.declared.writer.Written.{Written}
 use Rattle.loop_writer.specs.declared.writer.Written.the-variants.{Bytes, Refused}
 use Rattle.loop_writer.specs.Writing.{answer, contentAfter, content}
-use Rattle.loop_round_trip.specs.ReadBack.{onUnknownType, normal, readAs, Typed, read-written}
+use Rattle.loop_round_trip.specs.ReadBack.{writersOwnSix, normal, readAs, readAgain, Typed, read-written}
 use Rattle.loop_round_trip.specs.Verdicts.{NotBySix, read-normal, same-lowest, none-unknown}
 
 -- THE ANSWER, CASE BY CASE: what is known where it is so many bytes, and where it is a refusal.
@@ -100,10 +101,10 @@ module _ (room count : ℕ) (array : List Entry) where
 
 -- ---- reading the bytes of entries none of which is too wide
 
-all-normal : (es : List Entry) → ((k : ℕ) (e : Entry) → Nth es k e → onUnknownType e ≡ false) → map readAs es ≡ map normal es
-all-normal [] f = refl
-all-normal (e ∷ es) f =
-    ap₂ (λ (x : Entry) (xs : List Entry). x ∷ xs) (read-normal e (f 0 e here)) (all-normal es (λ k x n. f (suc k) x (there n)))
+all-normal : (pair : Bool) (es : List Entry) → ((k : ℕ) (e : Entry) → Nth es k e → writersOwnSix pair e ≡ false) → map (readAs pair) es ≡ map normal es
+all-normal pair [] f = refl
+all-normal pair (e ∷ es) f =
+    ap₂ (λ (x : Entry) (xs : List Entry). x ∷ xs) (read-normal pair e (f 0 e here)) (all-normal pair es (λ k x n. f (suc k) x (there n)))
 
 entries-back : (es : List Entry) → map entryOf (map streamFor es) ≡ es
 entries-back [] = refl
@@ -111,10 +112,10 @@ entries-back (e ∷ es) = ap (λ (l : List Entry). e ∷ l) (entries-back es)
 
 module _ {es : List Entry} (typed : Typed es) (fit : any tooWide es ≡ false) where
   abbrev seen : List Stream
-  seen = map streamFor (map readAs es)
+  seen = map streamFor (readAgain es)
 
   as-long : length seen ≡ length es
-  as-long = length-map (map readAs es) streamFor ∙ length-map es readAs
+  as-long = length-map (readAgain es) streamFor ∙ length-map es (readAs (pairFor es))
 
   abbrev by-length : Bool → LoopRead
   by-length b =
@@ -136,12 +137,12 @@ module _ {es : List Entry} (typed : Typed es) (fit : any tooWide es ≡ false) w
   reading-accepts : (place : ℕ) → Lowest (appliesTo es) 10 (length es) 10 place → length (loopBytes es) ≤ 1008
       → loopRead Edition2015 (loopBytes es) ≡ record { outcome = Accepted; count = length es; entries = padTo 201 blankEntry (map normal es) }
   reading-accepts place low short =
-      let unknown : (k : ℕ) (e : Entry) → Nth es k e → onUnknownType e ≡ false =
-      λ k e n. sym (ap onUnknownType (nth-getD blankEntry n)) ∙ none-unknown es typed fit 10 place low (omega arith) k (nth-inside n) in
+      let unknown : (k : ℕ) (e : Entry) → Nth es k e → writersOwnSix (pairFor es) e ≡ false =
+      λ k e n. sym (ap (writersOwnSix (pairFor es)) (nth-getD blankEntry n)) ∙ none-unknown es typed fit 10 place low (omega arith) k (nth-inside n) in
       let low-seen = seen-lowest 10 place low (λ six. absurd (omega arith)) in
       reading short ∙ sym (ap (answerBy seen) (judged-accepted seen place low-seen))
       ∙ ap₂ (λ (n : ℕ) (l : List Entry). record { outcome = Accepted; count = n; entries = padTo 201 blankEntry l }) as-long
-      (entries-back (map readAs es) ∙ all-normal es unknown)
+      (entries-back (readAgain es) ∙ all-normal (pairFor es) es unknown)
 
 -- ---- the numbers that apply are those of their refusals
 
@@ -194,16 +195,16 @@ module _ (room count : ℕ) (array : List Entry) (typed : Typed (take count arra
       read-back e
       ∙ ap (λ (l : List Entry). record { outcome = Accepted; count = length (take count array); entries = padTo 201 blankEntry l }) blank
 
-  -- A REFUSAL IS THE SAME: 1, 3 and 7 to 9 in every case, 6 where the record at its place stands on a known stream type.
+  -- A REFUSAL IS THE SAME: 1, 3 and 7 to 9 in every case, 6 where the record at its place stands on a known stream type and its mark is what the rule gives.
   pub same-refusal : {r : Refusal} → count ≤ 201 → answer room count array ≡ Refused r → numberOf r ≤ 9
-      → (numberOf r ≡ 6 → onUnknownType (getD (take count array) (placeOf r) blankEntry) ≡ false)
+      → (numberOf r ≡ 6 → writersOwnSix (pairFor (take count array)) (getD (take count array) (placeOf r) blankEntry) ≡ false)
       → loopRead Edition2015 (loopBytes (take count array)) ≡ refusedWith r
   same-refusal few e small six = go (refuses room count array e) small six
     where
       es : List Entry
       es = take count array
 
-      go : {r : Refusal} → Refuses room count array r → numberOf r ≤ 9 → (numberOf r ≡ 6 → onUnknownType (getD es (placeOf r) blankEntry) ≡ false)
+      go : {r : Refusal} → Refuses room count array r → numberOf r ≤ 9 → (numberOf r ≡ 6 → writersOwnSix (pairFor es) (getD es (placeOf r) blankEntry) ≡ false)
           → loopRead Edition2015 (loopBytes es) ≡ refusedWith r
       go (wide p) h s = absurd (omega arith)
       go (too-long p q) h s =
@@ -211,7 +212,7 @@ module _ (room count : ℕ) (array : List Entry) (typed : Typed (take count arra
       go (judged-by {n} {k} p f short low l) h s =
           let named = numbered n k l (none-below es n k (low .holds l)) in
           reading typed p short
-          ∙ sym (ap (answerBy (map streamFor (map readAs es))) (judged-refused (map streamFor (map readAs es)) n k
+          ∙ sym (ap (answerBy (map streamFor (readAgain es))) (judged-refused (map streamFor (readAgain es)) n k
           (seen-lowest typed p n k low (λ is-six. rw (← named .1) (s (named .0 ∙ is-six)))) l))
       go (no-room p q) h s = absurd (omega arith)
 

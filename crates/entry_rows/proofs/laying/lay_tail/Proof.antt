@@ -30,6 +30,12 @@ cast-lay-layers c = search needs
 lay-layers-requires : tie.Need-lay-layers-requires
 lay-layers-requires c κs = search needs
 
+enum-told-3 : tie.Need-enum-told-3
+enum-told-3 c = search needs
+
+clear-tail-requires-3 : tie.Need-clear-tail-requires-3
+clear-tail-requires-3 c κs = search needs
+
 same-length : tie.Need-same-length
 same-length c = search needs
 
@@ -57,6 +63,15 @@ returns-3 c =
     let a = c .before .before .before .before .before .before .before .before .before .args in
     c .before .before .lay-layers .ensures ∙ sym (ap (λ (r : Record). take 16 (a .row .now) ++ tailOf r (a .embedded)) (c .before .before .before .before .before .before .«record» .given .1))
 
+same-length-4 : tie.Need-same-length-4
+same-length-4 c = search needs
+
+returns-4 : tie.Need-returns-4
+unfolding tailOf
+returns-4 c =
+    let a = c .before .before .before .before .before .before .before .args in
+    c .before .before .clear-tail3 .ensures ∙ sym (ap (λ (r : Record). take 16 (a .row .now) ++ tailOf r (a .embedded)) (c .before .before .before .before .enum-told3 .given .1))
+
 pub lay-tail-spec : {M : Type 1} → statement M
 lay-tail-spec =
     tie.close
@@ -68,9 +83,13 @@ lay-tail-spec =
     enum-known-record
     cast-lay-layers
     lay-layers-requires
+    enum-told-3
+    clear-tail-requires-3
     same-length
     returns
     same-length-2
     returns-2
     same-length-3
-    returns-3)
+    returns-3
+    same-length-4
+    returns-4)

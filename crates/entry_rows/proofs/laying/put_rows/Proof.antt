@@ -15,10 +15,10 @@ use Rattle.entry_rows.proofs.laying.put_rows.Statement.{statement}
 use Rattle.entry_rows.proofs.laying.put_rows.Tie as tie
 
 abbrev Inv-loop : tie.InvT-loop
-Inv-loop reading bytes out₀ count₀ at₀ out count at = Cursor reading bytes count at × (length out ≡ length out₀) × (out ≡ over (rowsFor (take count (streamsOf reading bytes))) out₀)
+Inv-loop reading pair bytes out₀ count₀ at₀ out count at = Cursor reading bytes count at × (length out ≡ length out₀) × (out ≡ over (rowsFor (take count (streamsOf reading bytes))) out₀)
 
 abbrev μ-loop : tie.MeasureT-loop
-μ-loop reading bytes out₀ count₀ at₀ out count at = length bytes - at
+μ-loop reading pair bytes out₀ count₀ at₀ out count at = length bytes - at
 
 loop-holds : tie.Need-loop-holds Inv-loop μ-loop
 loop-holds c =
@@ -43,7 +43,7 @@ slice-aggregate-read-stream c =
     let a = start .args in
     let loop = c .before .before .before .before .loop in
     let size = c .before .entry-size in
-    let here = turn (a .reading) (a .bytes .now) (a .out .now) (start .pre .0) (start .pre .1) (loop .count) (loop .at) (loop .inv .0) (c .before .before .before .loop-test .taken) (size .result) (size .ensures) in
+    let here = turn (a .reading) (a .pair) (a .bytes .now) (a .out .now) (start .pre .0) (start .pre .1) (loop .count) (loop .at) (loop .inv .0) (c .before .before .before .loop-test .taken) (size .result) (size .ensures) in
     sym (length-take-le (size .result) (leftAt (a .reading) (a .bytes .now) (loop .at)) (here .fits))
 
 read-stream-requires : tie.Need-read-stream-requires Inv-loop μ-loop
@@ -52,7 +52,7 @@ read-stream-requires c κs =
     let a = start .args in
     let loop = c .before .before .before .before .loop in
     let size = c .before .entry-size in
-    let here = turn (a .reading) (a .bytes .now) (a .out .now) (start .pre .0) (start .pre .1) (loop .count) (loop .at) (loop .inv .0) (c .before .before .before .loop-test .taken) (size .result) (size .ensures) in
+    let here = turn (a .reading) (a .pair) (a .bytes .now) (a .out .now) (start .pre .0) (start .pre .1) (loop .count) (loop .at) (loop .inv .0) (c .before .before .before .loop-test .taken) (size .result) (size .ensures) in
     rw (length-take-le (size .result) (leftAt (a .reading) (a .bytes .now) (loop .at)) (here .fits)) (here .large)
 
 entry-of-requires : tie.Need-entry-of-requires Inv-loop μ-loop
@@ -64,7 +64,7 @@ mul-start c =
     let a = start .args in
     let loop = c .before .before .before .before .before .before .loop in
     let size = c .before .before .before .entry-size in
-    let here = turn (a .reading) (a .bytes .now) (a .out .now) (start .pre .0) (start .pre .1) (loop .count) (loop .at) (loop .inv .0) (c .before .before .before .before .before .loop-test .taken) (size .result) (size .ensures) in
+    let here = turn (a .reading) (a .pair) (a .bytes .now) (a .out .now) (start .pre .0) (start .pre .1) (loop .count) (loop .at) (loop .inv .0) (c .before .before .before .before .before .loop-test .taken) (size .result) (size .ensures) in
     omega (arith, here)
 
 add-end : tie.Need-add-end Inv-loop μ-loop
@@ -73,7 +73,7 @@ add-end c =
     let a = start .args in
     let loop = c .before .before .before .before .before .before .loop in
     let size = c .before .before .before .entry-size in
-    let here = turn (a .reading) (a .bytes .now) (a .out .now) (start .pre .0) (start .pre .1) (loop .count) (loop .at) (loop .inv .0) (c .before .before .before .before .before .loop-test .taken) (size .result) (size .ensures) in
+    let here = turn (a .reading) (a .pair) (a .bytes .now) (a .out .now) (start .pre .0) (start .pre .1) (loop .count) (loop .at) (loop .inv .0) (c .before .before .before .before .before .loop-test .taken) (size .result) (size .ensures) in
     omega (arith, here)
 
 mul-lay-row : tie.Need-mul-lay-row Inv-loop μ-loop
@@ -82,7 +82,7 @@ mul-lay-row c =
     let a = start .args in
     let loop = c .before .before .before .before .before .before .loop in
     let size = c .before .before .before .entry-size in
-    let here = turn (a .reading) (a .bytes .now) (a .out .now) (start .pre .0) (start .pre .1) (loop .count) (loop .at) (loop .inv .0) (c .before .before .before .before .before .loop-test .taken) (size .result) (size .ensures) in
+    let here = turn (a .reading) (a .pair) (a .bytes .now) (a .out .now) (start .pre .0) (start .pre .1) (loop .count) (loop .at) (loop .inv .0) (c .before .before .before .before .before .loop-test .taken) (size .result) (size .ensures) in
     omega (arith, here)
 
 sub-lay-row : tie.Need-sub-lay-row Inv-loop μ-loop
@@ -91,7 +91,7 @@ sub-lay-row c =
     let a = start .args in
     let loop = c .before .before .before .before .before .before .loop in
     let size = c .before .before .before .entry-size in
-    let here = turn (a .reading) (a .bytes .now) (a .out .now) (start .pre .0) (start .pre .1) (loop .count) (loop .at) (loop .inv .0) (c .before .before .before .before .before .loop-test .taken) (size .result) (size .ensures) in
+    let here = turn (a .reading) (a .pair) (a .bytes .now) (a .out .now) (start .pre .0) (start .pre .1) (loop .count) (loop .at) (loop .inv .0) (c .before .before .before .before .before .loop-test .taken) (size .result) (size .ensures) in
     omega (arith, here)
 
 part-lay-row-start : tie.Need-part-lay-row-start Inv-loop μ-loop
@@ -100,7 +100,7 @@ part-lay-row-start c =
     let a = start .args in
     let loop = c .before .before .before .before .before .before .loop in
     let size = c .before .before .before .entry-size in
-    let here = turn (a .reading) (a .bytes .now) (a .out .now) (start .pre .0) (start .pre .1) (loop .count) (loop .at) (loop .inv .0) (c .before .before .before .before .before .loop-test .taken) (size .result) (size .ensures) in
+    let here = turn (a .reading) (a .pair) (a .bytes .now) (a .out .now) (start .pre .0) (start .pre .1) (loop .count) (loop .at) (loop .inv .0) (c .before .before .before .before .before .loop-test .taken) (size .result) (size .ensures) in
     omega (arith, here)
 
 part-lay-row-end : tie.Need-part-lay-row-end Inv-loop μ-loop
@@ -109,7 +109,7 @@ part-lay-row-end c =
     let a = start .args in
     let loop = c .before .before .before .before .before .before .loop in
     let size = c .before .before .before .entry-size in
-    let here = turn (a .reading) (a .bytes .now) (a .out .now) (start .pre .0) (start .pre .1) (loop .count) (loop .at) (loop .inv .0) (c .before .before .before .before .before .loop-test .taken) (size .result) (size .ensures) in
+    let here = turn (a .reading) (a .pair) (a .bytes .now) (a .out .now) (start .pre .0) (start .pre .1) (loop .count) (loop .at) (loop .inv .0) (c .before .before .before .before .before .loop-test .taken) (size .result) (size .ensures) in
     omega (arith, here)
 
 lay-row-requires : tie.Need-lay-row-requires Inv-loop μ-loop
@@ -118,7 +118,7 @@ lay-row-requires c κs =
     let a = start .args in
     let loop = c .before .before .before .before .before .before .before .loop in
     let size = c .before .before .before .before .entry-size in
-    let here = turn (a .reading) (a .bytes .now) (a .out .now) (start .pre .0) (start .pre .1) (loop .count) (loop .at) (loop .inv .0) (c .before .before .before .before .before .before .loop-test .taken) (size .result) (size .ensures) in
+    let here = turn (a .reading) (a .pair) (a .bytes .now) (a .out .now) (start .pre .0) (start .pre .1) (loop .count) (loop .at) (loop .inv .0) (c .before .before .before .before .before .before .loop-test .taken) (size .result) (size .ensures) in
     simp (length-take, length-drop) (omega (arith, here))
 
 add-count : tie.Need-add-count Inv-loop μ-loop
@@ -127,7 +127,7 @@ add-count c =
     let a = start .args in
     let loop = c .before .before .before .before .before .before .before .before .before .before .loop in
     let size = c .before .before .before .before .before .before .before .entry-size in
-    let here = turn (a .reading) (a .bytes .now) (a .out .now) (start .pre .0) (start .pre .1) (loop .count) (loop .at) (loop .inv .0) (c .before .before .before .before .before .before .before .before .before .loop-test .taken) (size .result) (size .ensures) in
+    let here = turn (a .reading) (a .pair) (a .bytes .now) (a .out .now) (start .pre .0) (start .pre .1) (loop .count) (loop .at) (loop .inv .0) (c .before .before .before .before .before .before .before .before .before .loop-test .taken) (size .result) (size .ensures) in
     omega (arith, here)
 
 add-at : tie.Need-add-at Inv-loop μ-loop
@@ -136,7 +136,7 @@ add-at c =
     let a = start .args in
     let loop = c .before .before .before .before .before .before .before .before .before .before .loop in
     let size = c .before .before .before .before .before .before .before .entry-size in
-    let here = turn (a .reading) (a .bytes .now) (a .out .now) (start .pre .0) (start .pre .1) (loop .count) (loop .at) (loop .inv .0) (c .before .before .before .before .before .before .before .before .before .loop-test .taken) (size .result) (size .ensures) in
+    let here = turn (a .reading) (a .pair) (a .bytes .now) (a .out .now) (start .pre .0) (start .pre .1) (loop .count) (loop .at) (loop .inv .0) (c .before .before .before .before .before .before .before .before .before .loop-test .taken) (size .result) (size .ensures) in
     omega (arith, here)
 
 loop-less : tie.Need-loop-less Inv-loop μ-loop
@@ -145,7 +145,7 @@ loop-less c =
     let a = start .args in
     let loop = c .before .before .before .before .before .before .before .before .before .before .loop in
     let size = c .before .before .before .before .before .before .before .entry-size in
-    let here = turn (a .reading) (a .bytes .now) (a .out .now) (start .pre .0) (start .pre .1) (loop .count) (loop .at) (loop .inv .0) (c .before .before .before .before .before .before .before .before .before .loop-test .taken) (size .result) (size .ensures) in
+    let here = turn (a .reading) (a .pair) (a .bytes .now) (a .out .now) (start .pre .0) (start .pre .1) (loop .count) (loop .at) (loop .inv .0) (c .before .before .before .before .before .before .before .before .before .loop-test .taken) (size .result) (size .ensures) in
     omega (arith, here)
 
 loop-again : tie.Need-loop-again Inv-loop μ-loop
@@ -154,14 +154,14 @@ loop-again c =
     let a = start .args in
     let loop = c .before .before .before .before .before .before .before .before .before .before .loop in
     let size = c .before .before .before .before .before .before .before .entry-size in
-    let here = turn (a .reading) (a .bytes .now) (a .out .now) (start .pre .0) (start .pre .1) (loop .count) (loop .at) (loop .inv .0) (c .before .before .before .before .before .before .before .before .before .loop-test .taken) (size .result) (size .ensures) in
+    let here = turn (a .reading) (a .pair) (a .bytes .now) (a .out .now) (start .pre .0) (start .pre .1) (loop .count) (loop .at) (loop .inv .0) (c .before .before .before .before .before .before .before .before .before .loop-test .taken) (size .result) (size .ensures) in
     let stream = c .before .before .before .before .before .read-stream in
     let entry = c .before .before .before .before .entry-of in
-    let stands = stands-here (a .reading) (a .bytes .now) (loop .count) (loop .at) (loop .inv .0) (c .before .before .before .before .before .before .before .before .before .loop-test .taken) (size .result) (size .ensures) (here .fits) (stream .result) (stream .ensures) in
+    let stands = stands-here (a .reading) (a .bytes .now) (loop .count) (loop .at) (loop .inv .0) (c .before .before .before .before .before .before .before .before .before .loop-test .taken) (size .result) (size .ensures) (here .fits) (a .pair) (here .paired) (stream .result) (stream .ensures) in
     let is-row = c .before .before .lay-row .ensures ∙ ap rowOf (entry .ensures ∙ ap entryOf (sym stands)) in
-    let more = row-more (a .reading) (a .bytes .now) (a .out .now) (start .pre .0) (start .pre .1) (loop .count) (loop .out) _ (here .inside) (loop .inv .2) is-row in (
-      next-here (a .reading) (a .bytes .now) (loop .count) (loop .at) (loop .inv .0) (c .before .before .before .before .before .before .before .before .before .loop-test .taken) (size .result) (size .ensures) (here .fits) (stream .result) (stream .ensures),
-      ap length more ∙ rows-long (a .reading) (a .bytes .now) (a .out .now) (start .pre .0) (start .pre .1) (loop .count + 1) (omega (arith, here)),
+    let more = row-more (a .reading) (a .pair) (a .bytes .now) (a .out .now) (start .pre .0) (start .pre .1) (loop .count) (loop .out) _ (here .inside) (loop .inv .2) is-row in (
+      next-here (a .reading) (a .bytes .now) (loop .count) (loop .at) (loop .inv .0) (c .before .before .before .before .before .before .before .before .before .loop-test .taken) (size .result) (size .ensures) (here .fits) (a .pair) (here .paired) (stream .result) (stream .ensures),
+      ap length more ∙ rows-long (a .reading) (a .pair) (a .bytes .now) (a .out .now) (start .pre .0) (start .pre .1) (loop .count + 1) (omega (arith, here)),
       more,
     )
 
@@ -174,7 +174,7 @@ returns c =
     let a = start .args in
     let loop = c .before .loop in
     loop .inv .2
-    ∙ rows-all (a .reading) (a .bytes .now) (a .out .now) (start .pre .0) (start .pre .1) (loop .count)
+    ∙ rows-all (a .reading) (a .pair) (a .bytes .now) (a .out .now) (start .pre .0) (start .pre .1) (loop .count)
     (counted-all (a .reading) (a .bytes .now) (loop .count) (loop .at) (loop .inv .0) (c .loop-test .left))
 
 pub put-rows-spec : {M : Type 1} → statement M

@@ -3,7 +3,7 @@
 use mathlib.Core.Path.{_≡_, sym, _∙_, ap}
 use lib.ListN.{getD, take, length-take, length-drop}
 use Rattle.entry_rows.specs.Rows.{layerTooWide, layerOf}
-use Rattle.entry_rows.proofs.Laws.{hierarchy-entry, extension-entry, no-record-entry}
+use Rattle.entry_rows.proofs.Laws.{hierarchy-entry, extension-entry, no-record-entry, implied-entry}
 use Rattle.entry_rows.proofs.Judged.{type-bound, kind-fine, hierarchy-fine, extension-fine, list-fine}
 use native.Mathlib.Omega.{arith}
 use Prim.Native.Nat.{ℕ}
@@ -77,9 +77,18 @@ no-layers-requires-2 c κs = search needs
 
 returns-3 : tie.Need-returns-3
 returns-3 c =
-    let row = c .before .before .before .before .before .before .before .args .row .now in
-    let none : getD row 2 0 ≡ 0 = omega (arith, kind-fine row (c .before .before .before .before .before .before .before .pre .1), c .before .before .if1 .left, c .before .if2 .left) in
-    rw (c .no-layers2 .ensures) (no-record-entry row none)
+    let row = c .before .before .before .before .before .before .before .before .args .row .now in
+    rw (c .no-layers2 .ensures) (implied-entry row (c .before .if3 .taken))
+
+no-layers-requires-3 : tie.Need-no-layers-requires-3
+no-layers-requires-3 c κs = search needs
+
+returns-4 : tie.Need-returns-4
+returns-4 c =
+    let row = c .before .before .before .before .before .before .before .before .args .row .now in
+    let none : getD row 2 0 ≡ 0 =
+    omega (arith, kind-fine row (c .before .before .before .before .before .before .before .before .pre .1), c .before .before .before .if1 .left, c .before .before .if2 .left, c .before .if3 .left) in
+    rw (c .no-layers3 .ensures) (no-record-entry row none)
 
 pub entry-in-spec : {M : Type 1} → statement M
 entry-in-spec =
@@ -101,4 +110,6 @@ entry-in-spec =
     list-in-requires
     returns-2
     no-layers-requires-2
-    returns-3)
+    returns-3
+    no-layers-requires-3
+    returns-4)

@@ -1,7 +1,7 @@
 -- `taking::row_too_wide` meets its contract: the tests in their order decide (Judged).
 -- Assumes nothing.
 use mathlib.Core.Path.{_≡_, sym, _∙_, ap}
-use Rattle.entry_rows.proofs.Judged.{kind-wide, type-wide, pid-wide, hierarchy-decides, extension-decides, no-record-fine}
+use Rattle.entry_rows.proofs.Judged.{kind-wide, type-wide, pid-wide, hierarchy-decides, extension-decides, fieldless-fine}
 use native.Mathlib.Omega.{arith}
 use Prim.Native.Nat.{ℕ}
 use mathlib.Core.Bool.{Bool, _||_}
@@ -85,8 +85,8 @@ returns-6 c =
 returns-7 : tie.Need-returns-7
 returns-7 c =
     let row = c .before .before .before .before .before .before .before .before .before .args .row .now in
-    let none : getD row 2 0 ≡ 0 = omega (arith, c .before .before .before .before .before .before .if1 .left, c .before .if4 .left, c .if5 .left) in
-    no-record-fine row (omega (arith, c .before .before .before .before .if2 .left)) (omega (arith, c .before .before .if3 .left)) none
+    fieldless-fine row (omega (arith, c .before .before .before .before .if2 .left)) (omega (arith, c .before .before .if3 .left))
+    (c .before .before .before .before .before .before .if1 .left) (c .before .if4 .left) (c .if5 .left)
 
 pub row-too-wide-spec : {M : Type 1} → statement M
 row-too-wide-spec =

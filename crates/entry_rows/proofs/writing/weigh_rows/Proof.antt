@@ -2,12 +2,14 @@
 -- Assumes nothing.
 use Prim.Native.Nat.{ℕ, _-_, _≤_, _<_}
 use mathlib.Core.Path.{_≡_, refl, sym, _∙_, ap}
+use mathlib.Core.Bool.{Bool}
 use mathlib.Core.List.{List}
 use native.Mathlib.Omega.{arith}
 use lib.ListN.{length, take, length-take, length-drop}
 use Rattle.es_loop.specs.declared.entries.Entry.{Entry}
 use Rattle.es_loop.specs.Entries.{blankEntry}
 use Rattle.loop_writer.specs.Layout.{tooWide}
+use Rattle.loop_writer.specs.Verdict.{givenTo}
 use Rattle.loop_writer.proofs.Weights.{Weighing, weighing-start, weighing-next, weighing-end}
 use Rattle.entry_rows.specs.Rows.{rowTooWide, rowCount, rowAt, entryIn, entriesBelow}
 use Rattle.entry_rows.proofs.Judged.{row-part, length-entries}
@@ -17,10 +19,10 @@ use Rattle.entry_rows.proofs.writing.weigh_rows.Statement.{statement}
 use Rattle.entry_rows.proofs.writing.weigh_rows.Tie as tie
 
 abbrev Inv-loop : tie.InvT-loop
-Inv-loop numbers pids₀ indices₀ weighed₀ count i₀ pids indices weighed i = Weighing (entriesBelow numbers count) pids indices weighed i
+Inv-loop pair numbers pids₀ indices₀ weighed₀ count i₀ pids indices weighed i = Weighing (entriesBelow numbers count) pids indices weighed i
 
 abbrev μ-loop : tie.MeasureT-loop
-μ-loop numbers pids₀ indices₀ weighed₀ count i₀ pids indices weighed i = count - i
+μ-loop pair numbers pids₀ indices₀ weighed₀ count i₀ pids indices weighed i = count - i
 
 no-pids-requires : tie.Need-no-pids-requires Inv-loop μ-loop
 no-pids-requires c κs = search needs
@@ -61,12 +63,15 @@ entry-in-requires c κs =
     let i = c .before .before .loop .i in
     (simp (length-take, length-drop) (omega arith), ap rowTooWide (row-part numbers i) ∙ row-fine numbers (start .pre .1) i (omega arith))
 
+gives-requires : tie.Need-gives-requires Inv-loop μ-loop
+gives-requires c κs = search needs
+
 weigh-next-requires : tie.Need-weigh-next-requires Inv-loop μ-loop
 weigh-next-requires c κs =
-    let start = c .before .before .before .before .before .before .before .before .before .before in
+    let start = c .before .before .before .before .before .before .before .before .before .before .before in
     let numbers = start .args .numbers .now in
-    let loop = c .before .before .before .before .before .loop in
-    let made = c .before .before .entry-in .ensures ∙ ap entryIn (row-part numbers (loop .i)) in
+    let loop = c .before .before .before .before .before .before .loop in
+    let made = c .before .before .before .entry-in .ensures ∙ ap entryIn (row-part numbers (loop .i)) in
     (ap tooWide made ∙ entry-fine numbers (start .pre .1) (loop .i) (omega arith), loop .inv .small, omega arith)
 
 add-i : tie.Need-add-i Inv-loop μ-loop
@@ -77,16 +82,18 @@ loop-less c = search needs
 
 loop-again : tie.Need-loop-again Inv-loop μ-loop
 loop-again c =
-    let start = c .before .before .before .before .before .before .before .before .before .before .before in
+    let start = c .before .before .before .before .before .before .before .before .before .before .before .before in
     let numbers = start .args .numbers .now in
     let count : ℕ = rowCount numbers in
-    let loop = c .before .before .before .before .before .before .loop in
-    let entry = c .before .before .before .entry-in in
+    let loop = c .before .before .before .before .before .before .before .loop in
+    let entry = c .before .before .before .before .entry-in in
+    let given = c .before .before .before .gives in
     let made = entry .ensures ∙ ap entryIn (row-part numbers (loop .i)) in
     let long = length-entries numbers count in
     let next = c .weigh-next in
     weighing-next (entriesBelow numbers count) (loop .pids) (loop .indices) (loop .weighed) (loop .i) (loop .inv) (omega arith) blankEntry (entry .result)
-    (entry-at numbers count (loop .i) (omega arith) ∙ sym made) (ap tooWide made ∙ entry-fine numbers (start .pre .1) (loop .i) (omega arith)) (next .ensures .0 .2)
+    (entry-at numbers count (loop .i) (omega arith) ∙ sym made) (ap tooWide made ∙ entry-fine numbers (start .pre .1) (loop .i) (omega arith))
+    (given .result) (given .ensures ∙ ap (λ (pair : Bool). givenTo pair (entry .result)) (start .pre .2)) (next .ensures .0 .2)
     (next .result) _ _ (next .ensures .0 .0) (next .ensures .0 .1) (next .ensures .1 .0) (next .ensures .1 .1)
 
 returns : tie.Need-returns Inv-loop μ-loop
@@ -113,6 +120,7 @@ weigh-rows-spec =
     part-entry-in-start
     part-entry-in-end
     entry-in-requires
+    gives-requires
     weigh-next-requires
     add-i
     loop-less

@@ -23,8 +23,11 @@ returns c =
     let numbers = start .args .numbers .now in
     too-many (rowCount numbers) (entriesIn numbers) (start .args .out .now) (none-too-wide numbers (start .pre)) (c .if1 .taken)
 
+pair-in-requires : tie.Need-pair-in-requires
+pair-in-requires c κs = c .before .before .before .pre
+
 weigh-rows-requires : tie.Need-weigh-rows-requires
-weigh-rows-requires c κs = (omega arith, c .before .before .before .pre)
+weigh-rows-requires c κs = (omega arith, c .before .before .before .before .pre, c .pair-in .ensures)
 
 decide-requires : tie.Need-decide-requires
 decide-requires c κs = search needs
@@ -36,11 +39,11 @@ enum-known-answer-2 : tie.Need-enum-known-answer-2
 enum-known-answer-2 c = search needs
 
 put-entries-requires : tie.Need-put-entries-requires
-put-entries-requires c κs = c .before .before .before .before .before .before .before .before .before .pre
+put-entries-requires c κs = c .before .before .before .before .before .before .before .before .before .before .pre
 
 returns-2 : tie.Need-returns-2
 returns-2 c =
-    let start = c .before .before .before .before .before .before .before .before in
+    let start = c .before .before .before .before .before .before .before .before .before in
     let a = start .args in
     let numbers = a .numbers .now in
     let few : rowCount numbers ≤ 201 = omega arith in
@@ -56,7 +59,7 @@ same-length c = search needs
 
 returns-3 : tie.Need-returns-3
 returns-3 c =
-    let start = c .before .before .before .before .before .before .before .before .before .before .before .before in
+    let start = c .before .before .before .before .before .before .before .before .before .before .before .before .before in
     let a = start .args in
     let numbers = a .numbers .now in
     let few : rowCount numbers ≤ 201 = omega arith in
@@ -74,6 +77,7 @@ write-rows-spec =
     tie.close
     (tie.spec
     returns
+    pair-in-requires
     weigh-rows-requires
     decide-requires
     enum-known-answer
