@@ -61,7 +61,9 @@ writeLoop =
 -- the number of a condition is one of the list
 condition-listed : {entries : List Entry} {n k : ℕ} → Loop.Condition entries n k → member n (writeLoop .numbers) ≡ true
 condition-listed (Loop.pid-seen a b c d) = refl
-condition-listed (Loop.type-wrong a b) = refl
+condition-listed (Loop.type-wrong a b c) = refl
+condition-listed (Loop.mark-not-given a b c) = refl
+condition-listed (Loop.mark-missing a b c d) = refl
 condition-listed (Loop.flags-wrong a b) = refl
 condition-listed (Loop.index-held a b c d e f) = refl
 condition-listed (Loop.embedded-wrong a b) = refl

@@ -54,17 +54,17 @@ module _ (count : ℕ) (given : List Entry) (as-many : length given ≡ count) (
   room-for-rows h = has-room (length given * 80) buffer (reply (accepted count) (over (rowsOf given) buffer)) (omega (arith, needed))
 
 -- how many entries an accepted loop has
-module _ (reading : Reading) (bytes : List ℕ) (count : ℕ) (judged : verdictOf reading bytes ≡ Entries count) where
+module _ (reading : Reading) (bytes : List ℕ) (count : ℕ) (pair : Bool) (judged : verdictOf reading bytes ≡ Entries count pair) where
   pub counted : count ≡ length (streamsOf reading bytes)
-  counted = sound reading bytes count judged .counted
+  counted = sound reading bytes count pair judged .counted
 
   pub few-counted : count ≤ 1008
-  few-counted = omega (arith, counted, few-streams reading bytes, sound reading bytes count judged .short)
+  few-counted = omega (arith, counted, few-streams reading bytes, sound reading bytes count pair judged .short)
 
 -- what a loop answers by its verdict, laid in: the entries in their array are those of its streams
-pub laid-accepted : (streams : List Stream) (count : ℕ) (buffer : List ℕ) → count ≡ length streams
-    → entriesLaid count (map entryOf streams) buffer ≡ rowsRead (answerBy streams (Entries count)) buffer
-laid-accepted streams count buffer e =
+pub laid-accepted : (streams : List Stream) (count : ℕ) (pair : Bool) (buffer : List ℕ) → count ≡ length streams
+    → entriesLaid count (map entryOf streams) buffer ≡ rowsRead (answerBy streams (Entries count pair)) buffer
+laid-accepted streams count pair buffer e =
     ap₂ (λ (n : ℕ) (l : List Entry). entriesLaid n l buffer) e
     (sym (take-at (map entryOf streams) (replicate (201 - length (map entryOf streams)) blankEntry) (length streams) (length-map streams entryOf)))
 

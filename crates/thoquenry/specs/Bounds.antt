@@ -47,7 +47,7 @@ use Rattle.es_loop.specs.declared.entries.Stream.{Stream}
 use Rattle.es_loop.specs.declared.reader.Outcome.{Outcome}
 use Rattle.es_loop.specs.declared.reader.Outcome.the-variants.{Accepted, Refused as LoopRefused}
 use Rattle.es_loop.specs.declared.reader.LoopRead.{LoopRead}
-use Rattle.es_loop.specs.Entries.{esInfoLength, streamOf, streamsOf}
+use Rattle.es_loop.specs.Entries.{esInfoLength, streamOf, pairOf, markedStream, streamsAlone, streamsOf}
 use Rattle.es_loop.specs.Conditions.{applies, refusalOf}
 use Rattle.es_loop.specs.declared.verdict.Verdict.{Verdict as LoopVerdict}
 use Rattle.es_loop.specs.declared.verdict.Verdict.the-variants.{Entries, Refused as Refuses}
@@ -169,7 +169,8 @@ few-pieces (suc most) (b ∷ bs) =
 
 pub few-streams : (reading : Reading) (bytes : List ℕ) → length (streamsOf reading bytes) ≤ length bytes
 few-streams reading bytes =
-    omega (arith, length-map (cut 5 esInfoLength bytes) (streamOf reading), few-pieces (length bytes) bytes)
+    omega
+    (arith, length-map (streamsAlone reading bytes) (markedStream (pairOf (streamsAlone reading bytes))), length-map (cut 5 esInfoLength bytes) (streamOf reading), few-pieces (length bytes) bytes)
 
 refusal-place : (number place : ℕ) → placeOf (refusalOf number place) ≤ place
 refusal-place zero place = omega arith
@@ -202,7 +203,7 @@ small-entries streams h =
     let place : ℕ = earliestPlace (applies streams) lowest (length streams) in
     let within = seek-first (applies streams lowest) (length streams) .within in
     let at = refusal-place lowest place in
-    either-way (SmallBy streams) (ltb lowest 10) (Refuses (refusalOf lowest place)) (Entries (length streams)) (omega arith, omega arith) (tt, omega arith)
+    either-way (SmallBy streams) (ltb lowest 10) (Refuses (refusalOf lowest place)) (Entries (length streams) (pairOf streams)) (omega arith, omega arith) (tt, omega arith)
 
 pub small-loop : (reading : Reading) (bytes : List ℕ) → SmallLoop (loopRead reading bytes)
 small-loop reading bytes =

@@ -18,16 +18,22 @@ use vocabulary::Refusal;
 // The numbers of an entry.
 const ENTRY_NUMBERS: usize = 80;
 
-// The rows of a loop that was judged, and accepted with so many entries, where there is room for them.
-fn lay_accepted(reading: Reading, bytes: &[u8], count: usize, entries: &mut [u16]) -> u64
-    requires { ⌜ verdictOf reading (now bytes) ≡ Verdict.Entries count ⌝ }
+// The rows of a loop that was judged, and accepted with so many entries and with the two views implied or not, where there is room for them.
+fn lay_accepted(
+    reading: Reading,
+    bytes: &[u8],
+    count: usize,
+    pair: bool,
+    entries: &mut [u16],
+) -> u64
+    requires { ⌜ verdictOf reading (now bytes) ≡ Verdict.Entries count pair ⌝ }
     ensures answer { λ r. ⌜ r ≡ entriesLaid count (map entryOf (streamsOf reading (now (bytes .entry)))) (now (entries .entry)) .answer ⌝ }
     ensures content { λ r. ⌜ now (entries .exit) ≡ entriesLaid count (map entryOf (streamsOf reading (now (bytes .entry)))) (now (entries .entry)) .buffer ⌝ }
 {
     if entries.len() < count * ENTRY_NUMBERS {
         return refused(Refusal::NoRoom);
     }
-    entry_rows::put_rows(reading, bytes, entries);
+    entry_rows::put_rows(reading, pair, bytes, entries);
     accepted(count)
 }
 
@@ -38,7 +44,7 @@ fn lay_rows(reading: Reading, bytes: &[u8], entries: &mut [u16]) -> u64
 {
     match es_loop::judge(reading, bytes) {
         Verdict::Refused(refusal) => refused(refusal),
-        Verdict::Entries(count) => lay_accepted(reading, bytes, count, entries),
+        Verdict::Entries { count, pair } => lay_accepted(reading, bytes, count, pair, entries),
     }
 }
 

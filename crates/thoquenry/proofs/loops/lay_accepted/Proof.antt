@@ -17,7 +17,7 @@ mul-if1 : tie.Need-mul-if1
 mul-if1 c =
     let start = c .before .before in
     let a = start .args in
-    omega (arith, few-counted (a .reading) (a .bytes .now) (a .count) (start .pre))
+    omega (arith, few-counted (a .reading) (a .bytes .now) (a .count) (a .pair) (start .pre))
 
 refused-requires : tie.Need-refused-requires
 refused-requires c κs = search needs
@@ -27,7 +27,7 @@ returns c =
     let start = c .before .before .before .before in
     let a = start .args in
     let given : List Entry = map entryOf (streamsOf (a .reading) (a .bytes .now)) in
-    let as-many : length given ≡ a .count = length-map (streamsOf (a .reading) (a .bytes .now)) entryOf ∙ sym (counted (a .reading) (a .bytes .now) (a .count) (start .pre)) in
+    let as-many : length given ≡ a .count = length-map (streamsOf (a .reading) (a .bytes .now)) entryOf ∙ sym (counted (a .reading) (a .bytes .now) (a .count) (a .pair) (start .pre)) in
     let same = no-room-for-rows (a .count) given as-many (a .entries .now) (c .before .if1 .taken) in
     (c .refused .ensures ∙ answers same, buffers same)
 
@@ -35,9 +35,9 @@ put-rows-requires : tie.Need-put-rows-requires
 put-rows-requires c κs =
     let start = c .before .before .before .before in
     let a = start .args in
-    let is-count = counted (a .reading) (a .bytes .now) (a .count) (start .pre) in
+    let is-count = counted (a .reading) (a .bytes .now) (a .count) (a .pair) (start .pre) in
     let enough : a .count * 80 ≤ length (a .entries .now) = omega arith in
-    (start .pre ∙ ap (λ (n : ℕ). Entries n) is-count, rw (← is-count) enough)
+    (start .pre ∙ ap (λ (n : ℕ). Entries n (a .pair)) is-count, rw (← is-count) enough)
 
 accepted-requires : tie.Need-accepted-requires
 accepted-requires c κs = search needs
@@ -50,7 +50,7 @@ returns-2 c =
     let start = c .before .before .before .before .before .before .before .before in
     let a = start .args in
     let given : List Entry = map entryOf (streamsOf (a .reading) (a .bytes .now)) in
-    let as-many : length given ≡ a .count = length-map (streamsOf (a .reading) (a .bytes .now)) entryOf ∙ sym (counted (a .reading) (a .bytes .now) (a .count) (start .pre)) in
+    let as-many : length given ≡ a .count = length-map (streamsOf (a .reading) (a .bytes .now)) entryOf ∙ sym (counted (a .reading) (a .bytes .now) (a .count) (a .pair) (start .pre)) in
     let enough : a .count * 80 ≤ length (a .entries .now) = omega arith in
     let same = room-for-rows (a .count) given as-many (a .entries .now) enough in
     (c .accepted .ensures ∙ answers same, c .before .before .before .put-rows .ensures ∙ buffers same)

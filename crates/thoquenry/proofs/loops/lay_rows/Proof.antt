@@ -44,7 +44,8 @@ returns-2 c =
     let verdict = sym (c .before .before .before .before .before .before .before .judge .ensures) ∙ told .1 in
     let laid = c .before .before .lay-accepted in
     let same =
-    laid-accepted (streamsOf (a .reading) (a .bytes .now)) (told .0 .0) (a .entries .now) (counted (a .reading) (a .bytes .now) (told .0 .0) verdict)
+    laid-accepted (streamsOf (a .reading) (a .bytes .now)) (told .0 .0) (told .0 .1 .0) (a .entries .now)
+    (counted (a .reading) (a .bytes .now) (told .0 .0) (told .0 .1 .0) verdict)
     ∙ ap (λ (v : Verdict). rowsRead (answerBy (streamsOf (a .reading) (a .bytes .now)) v) (a .entries .now)) (sym verdict) in
     (laid .ensures .0 ∙ answers same, laid .ensures .1 ∙ buffers same)
 
