@@ -1,0 +1,4 @@
+pub mod Claims
+pub mod Standing
+pub mod Order
+pub mod Sizes
