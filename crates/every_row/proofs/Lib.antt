@@ -2,3 +2,5 @@ pub mod Claims
 pub mod Standing
 pub mod Order
 pub mod Sizes
+pub mod Unique
+pub mod Keyed

@@ -167,7 +167,7 @@ module _ (layers : Layers) (target closure : ℕ) (whole : WholeClosure layers t
                   (lag-is (decodingOf t j) (startOf t closure)) half (omega arith);
             })
 
-    row-order : (j k : ℕ) → ClosureRow layers target t j → ClosureRow layers target t k → layerOf t j ≡ layerOf t k → j < k
+    pub row-order : (j k : ℕ) → ClosureRow layers target t j → ClosureRow layers target t k → layerOf t j ≡ layerOf t k → j < k
         → keyAt t closure j < keyAt t closure k
     row-order j k c d same h =
         keys-rise (decodingOf t (firstRow t (layerOf t k))) (startOf t closure) (decodingOf t j) (decodingOf t k)

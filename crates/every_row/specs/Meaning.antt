@@ -65,11 +65,15 @@ pub data ComesBefore (layers : Layers) (target : ℕ) (t : Table) (head later : 
   lower-row : {distance : ℤ} → Distance layers target t head distance → Distance layers target t later distance
       → layerOf t head ≡ layerOf t later → head < later → ComesBefore layers target t head later
 
--- the heads of a table, all of them, in the order of their units
-pub record HeadsInOrder (layers : Layers) (target : ℕ) (t : Table) (heads : List ℕ) : Type 0 where
-  pub each : (i : ℕ) → i < length heads → Head layers target t (getD heads i 0)
-  pub all : (k : ℕ) → Head layers target t k → (i : ℕ) × (i < length heads) × (getD heads i 0 ≡ k)
-  pub in-order : (i j : ℕ) → i < j → j < length heads → ComesBefore layers target t (getD heads i 0) (getD heads j 0)
+-- a list of exactly the numbers of which something holds, each before those that come after it
+pub record AllInOrder (P : ℕ → Type 0) (Before : ℕ → ℕ → Type 0) (list : List ℕ) : Type 0 where
+  pub each : (i : ℕ) → i < length list → P (getD list i 0)
+  pub all : (n : ℕ) → P n → (i : ℕ) × (i < length list) × (getD list i 0 ≡ n)
+  pub in-order : (i j : ℕ) → i < j → j < length list → Before (getD list i 0) (getD list j 0)
+
+-- the heads of a table, in the order of their units
+abbrev pub HeadsInOrder : Layers → ℕ → Table → List ℕ → Type 0
+HeadsInOrder layers target t heads = AllInOrder (Head layers target t) (ComesBefore layers target t) heads
 
 -- The units of some heads, one after another: 'each unit now reports its own size', and beside the sizes stand the row numbers as one list, and
 -- their lags as another. 'The lag is against the head.'

@@ -9,7 +9,7 @@ use native.Mathlib.Nat.{zero-add}
 use native.Mathlib.Numerals.{add-one}
 use native.Mathlib.Omega.{arith}
 use borrow.Author.Tests.{lt-ltb, le-ltb}
-use lib.ListN.{length, getD, set, take, length-set, length-map, List·getD-eq-default}
+use lib.ListN.{length, getD, set, take, drop, length-set, length-map, List·getD-append, List·getD-eq-default}
 use lib.Seq.{sets, take-all}
 use Rattle.buffers.specs.Buffers.{over}
 use Rattle.buffers.proofs.Laws.{one-more, sets-over}
@@ -30,6 +30,17 @@ module _ (t : Table) (closure : ℕ) where
       → 0 ≡ startOf t closure
   start-none k e long none =
       sym (List·getD-eq-default (t .decodings) 0 {n = k} (omega arith)) ∙ ap (decodingOf t) (seek-end (isClosureRow t closure) (rowsIn t) k e none)
+
+  -- ---- the column of keys
+
+  key-of-row : (k : ℕ) → length (t .decodings) ≡ rowsIn t → k < rowsIn t → getD (keysOf t closure) k 0 ≡ keyAt t closure k
+  key-of-row k decoded h = getD-map (keyOf (startOf t closure)) 0 (getD-nth (t .decodings) k 0 (omega arith))
+
+  -- what stands at a row's place once the keys are laid
+  pub key-laid : (old : List ℕ) (k : ℕ) → length (t .decodings) ≡ rowsIn t → k < rowsIn t → getD (over (keysOf t closure) old) k 0 ≡ keyAt t closure k
+  key-laid old k decoded h =
+      List·getD-append (keysOf t closure) (drop (length (keysOf t closure)) old) 0 k (omega (arith, length-map (t .decodings) (keyOf (startOf t closure))))
+      ∙ key-of-row k decoded h
 
   -- ---- the walk
 
@@ -65,7 +76,7 @@ module _ (t : Table) (closure : ℕ) where
         record {
           within = omega arith;
           laid = ap (λ (l : List ℕ). set l row key) (known .laid)
-              ∙ ap (set (sets old 0 (take row (keysOf t closure))) row) (keyed ∙ sym at-row)
+              ∙ ap (set (sets old 0 (take row (keysOf t closure))) row) (keyed ∙ sym (key-of-row row decoded inside))
               ∙ ap (λ (n : ℕ). set (sets old 0 (take row (keysOf t closure))) n (getD (keysOf t closure) row 0)) (sym (zero-add row))
               ∙ one-more old 0 (keysOf t closure) row 0 (omega (arith, length-map (t .decodings) (keyOf (startOf t closure))));
           long = length-set keys row key ∙ known .long;
@@ -75,9 +86,6 @@ module _ (t : Table) (closure : ℕ) where
       where
         keyed : key ≡ keyAt t closure row
         keyed = is-key ∙ ap (λ (s : ℕ). keyOf s (decodingOf t row)) starts
-
-        at-row : getD (keysOf t closure) row 0 ≡ keyAt t closure row
-        at-row = getD-map (keyOf (startOf t closure)) 0 (getD-nth (t .decodings) row 0 (omega arith))
 
     module _ (end : rowsIn t ≤ row) where
       all : row ≡ rowsIn t
