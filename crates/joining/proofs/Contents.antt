@@ -33,7 +33,7 @@ pub lags-beside : (t : Table) (head : ℕ) (rows : List ℕ) → LagsBeside t he
 lags-beside t head [] = no-row
 lags-beside t head (row ∷ rows) = beside (lag-is (decodingOf t row) (decodingOf t head)) (lags-beside t head rows)
 
-lags-one : (t : Table) (head : ℕ) {rows : List ℕ} {lags other : List ℤ} → LagsBeside t head rows lags → LagsBeside t head rows other → lags ≡ other
+pub lags-one : (t : Table) (head : ℕ) {rows : List ℕ} {lags other : List ℤ} → LagsBeside t head rows lags → LagsBeside t head rows other → lags ≡ other
 lags-one t head no-row no-row = refl
 lags-one t head (beside {row} {lag} a more) (beside {lag = lag₂} b others) =
     ap₂ (λ (z : ℤ) (l : List ℤ). z ∷ l) (lag-only (decodingOf t row) (decodingOf t head) lag lag₂ a b) (lags-one t head more others)

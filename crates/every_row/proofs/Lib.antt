@@ -1,0 +1,6 @@
+pub mod Claims
+pub mod Standing
+pub mod Order
+pub mod Sizes
+pub mod Unique
+pub mod Keyed
