@@ -8,7 +8,6 @@ ghost use Rattle.rows.specs.Table.{table};
 ghost use Rattle.assembling.specs.Index.{Sorted, Rising, Climbing, Reached, Ready};
 ghost use Rattle.assembling.specs.Assemblies.{upperOf, lowerOf, joins, Next, edgesOf, membersOf, rowAt, pairedRow, noRows, assembled};
 use closure::Layers;
-use rows::MOST_ROWS;
 
 // The edges of a closure, as many as `count`, in `list`.
 pub struct Edges {
@@ -103,7 +102,7 @@ pub fn members_of(closure: u64) -> Members
 // The first place of a layer's rows, from `first` on and before `end`, whose row lies at least `far` ahead of `origin`.
 fn first_as_far(
     decodings: &[u64],
-    order: &[usize; MOST_ROWS],
+    order: &[usize],
     origin: u64,
     far: u64,
     first: usize,
@@ -131,7 +130,7 @@ fn row_sought(
     indices: &[u8],
     decodings: &[u64],
     starts: &[usize; 65],
-    order: &[usize; MOST_ROWS],
+    order: &[usize],
     layer: usize,
     time: u64,
     next: &mut [usize; 64],
@@ -183,7 +182,7 @@ fn row_at(
     indices: &[u8],
     decodings: &[u64],
     starts: &[usize; 65],
-    order: &[usize; MOST_ROWS],
+    order: &[usize],
     layer: usize,
     time: u64,
     next: &mut [usize; 64],
@@ -209,7 +208,7 @@ fn paired_row(
     indices: &[u8],
     decodings: &[u64],
     starts: &[usize; 65],
-    order: &[usize; MOST_ROWS],
+    order: &[usize],
     row: usize,
     layer: usize,
     time: u64,
@@ -237,7 +236,7 @@ pub fn assemble(
     decodings: &[u64],
     matches: &[u64],
     starts: &[usize; 65],
-    order: &[usize; MOST_ROWS],
+    order: &[usize],
     edges: &[u16],
     top: usize,
     head: usize,

@@ -25,14 +25,14 @@ abbrev μ-loop : tie.MeasureT-loop
     length edges - at
 
 mul-rows : tie.Need-mul-rows Inv-loop μ-loop
-mul-rows c = omega (arith, c .before .before .before .before .pre .1)
+mul-rows c = omega (arith, c .before .before .before .before .before .pre .1)
 
 element-write-rows : tie.Need-element-write-rows Inv-loop μ-loop
-element-write-rows c = omega (arith, c .before .before .before .before .pre .1)
+element-write-rows c = omega (arith, c .before .before .before .before .before .pre .1)
 
 loop-holds : tie.Need-loop-holds Inv-loop μ-loop
 loop-holds c =
-    let begin = c .before .before .before .before in
+    let begin = c .before .before .before .before .before in
     let t = table (begin .args .indices .now) (begin .args .decodings .now) (begin .args .matches .now) in
     (omega arith, ap (λ (rows : List ℕ). assembledFrom t (begin .args .edges .now) (set rows (begin .args .top) (begin .args .head))) (begin .pre .2))
 
@@ -43,7 +43,7 @@ shared-slice-read-edge : tie.Need-shared-slice-read-edge Inv-loop μ-loop
 shared-slice-read-edge c = omega arith
 
 cast-edge : tie.Need-cast-edge Inv-loop μ-loop
-cast-edge c = omega (arith, c .shared-slice-known5 .given (c .before .before .loop .at))
+cast-edge c = omega (arith, c .before .before .before .shared-slice-known5 .given (c .before .before .loop .at))
 
 sub-upper : tie.Need-sub-upper Inv-loop μ-loop
 sub-upper c = omega arith
@@ -56,7 +56,7 @@ element-copy-out-upper c = omega arith
 
 returns : tie.Need-returns Inv-loop μ-loop
 returns c =
-    let begin = c .before .before .before .before .before .before .before .before .before in
+    let begin = c .before .before .before .before .before .before .before .before .before .before in
     let loop = c .before .before .before .before .loop in
     parts _ _
     (no-upper-row (table (begin .args .indices .now) (begin .args .decodings .now) (begin .args .matches .now)) (begin .args .edges .now) (loop .at) (loop .rows)
@@ -74,18 +74,18 @@ mul-paired-row-2 c = omega arith
 
 shared-slice-read-paired-row : tie.Need-shared-slice-read-paired-row Inv-loop μ-loop
 shared-slice-read-paired-row c =
-    let begin = c .before .before .before .before .before .before .before .before .before .before .before in
+    let begin = c .before .before .before .before .before .before .before .before .before .before .before .before in
     omega (arith, begin .pre .0 .matched, c .before .before .if1 .left)
 
 paired-row-requires : tie.Need-paired-row-requires Inv-loop μ-loop
 paired-row-requires c κs =
-    let begin = c .before .before .before .before .before .before .before .before .before .before .before .before in
+    let begin = c .before .before .before .before .before .before .before .before .before .before .before .before .before in
     let loop = c .before .before .before .before .before .before .before .loop in
     (begin .pre .0 .sorted, omega arith, begin .pre .0 .rising (loop .at) (c .before .before .before .before .before .before .loop-test .taken))
 
 returns-2 : tie.Need-returns-2 Inv-loop μ-loop
 returns-2 c =
-    let begin = c .before .before .before .before .before .before .before .before .before .before .before .before .before .before in
+    let begin = c .before .before .before .before .before .before .before .before .before .before .before .before .before .before .before in
     let loop = c .before .before .before .before .before .before .before .before .before .loop in
     parts _ _
     (no-lower-row (table (begin .args .indices .now) (begin .args .decodings .now) (begin .args .matches .now)) (begin .args .edges .now) (loop .at) (loop .rows)
@@ -106,7 +106,7 @@ loop-less c = omega arith
 
 loop-again : tie.Need-loop-again Inv-loop μ-loop
 loop-again c =
-    let begin = c .before .before .before .before .before .before .before .before .before .before .before .before .before .before in
+    let begin = c .before .before .before .before .before .before .before .before .before .before .before .before .before .before .before in
     let loop = c .before .before .before .before .before .before .before .before .before .loop in (
       omega arith,
       lower-row (table (begin .args .indices .now) (begin .args .decodings .now) (begin .args .matches .now)) (begin .args .edges .now) (loop .at) (loop .rows)
@@ -116,7 +116,7 @@ loop-again c =
 
 returns-3 : tie.Need-returns-3 Inv-loop μ-loop
 returns-3 c =
-    let begin = c .before .before .before .before .before .before in
+    let begin = c .before .before .before .before .before .before .before in
     let loop = c .before .loop in
     parts _ _
     (all-met (table (begin .args .indices .now) (begin .args .decodings .now) (begin .args .matches .now)) (begin .args .edges .now) (loop .at) (loop .rows)
