@@ -178,7 +178,7 @@ fn guess_of(first: usize, noted: usize) -> usize
 
 // The row of a layer that has a decoding time, or the number of rows. Time goes on from unit to unit, so that it is mostly the row after the
 // one found last; only one row of the layer has the time, so that this row is the answer wherever it has.
-fn row_at(
+pub fn row_at(
     indices: &[u8],
     decodings: &[u64],
     starts: &[usize; 65],
