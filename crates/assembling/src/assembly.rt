@@ -229,7 +229,7 @@ fn paired_row(
 }
 
 // Lays the assembly that the row `head` of the layer `top` is at the head of into `rows`, which comes with no row for any layer, and answers
-// whether each edge was met. In `next` it notes for each layer the place after the row found last, for a guess: whatever stands there, the
+// whether each edge of a layer that has a row was met. In `next` it notes for each layer the place after the row found last, for a guess: whatever stands there, the
 // answer is the same.
 pub fn assemble(
     indices: &[u8],
@@ -257,25 +257,26 @@ pub fn assemble(
     while at < edges.len() {
         let edge = edges[at] as usize;
         let upper = rows[63 - edge / 64 % 64];
-        if none <= upper {
-            return false;
+        if upper < none {
+            let lower = edge % 64;
+            let row = paired_row(
+                indices,
+                decodings,
+                starts,
+                order,
+                rows[lower],
+                lower,
+                matches[upper],
+                next,
+            );
+            if none <= row {
+                return false;
+            }
+            rows[lower] = row;
+            at += 1;
+        } else {
+            at += 1;
         }
-        let lower = edge % 64;
-        let row = paired_row(
-            indices,
-            decodings,
-            starts,
-            order,
-            rows[lower],
-            lower,
-            matches[upper],
-            next,
-        );
-        if none <= row {
-            return false;
-        }
-        rows[lower] = row;
-        at += 1;
     }
     true
 }

@@ -11,16 +11,16 @@ use borrow.Author.Tests.{lt-ltb, le-ltb, eq-eqb, ne-eqb, eqb-true}
 use lib.Dec.{eqb, ltb}
 use lib.ListN.{length, getD, set, length-set}
 use lib.Seq.{getD-set-same, getD-set-other, ext-getD}
-use Rattle.clock.specs.Clock.{distanceOf}
 use Rattle.closure.specs.declared.Layers.{Layers}
 use Rattle.closure.specs.Closures.{namedBy}
 use Rattle.combinators.specs.Below.{some, seek-first}
-use Rattle.combinators.specs.Bools.{both-left, both-right, both-ways, same-test}
+use Rattle.combinators.specs.Bools.{both-left, both-right, same-test}
 use Rattle.sets.specs.Sets.{has, lowest}
 use Rattle.sets.proofs.Laws.{has-within, lowest-least}
-use Rattle.rows.specs.Table.{Table, rowsIn, layerOf, decodingOf, matchOf, firstRow, ahead}
+use Rattle.rows.specs.Table.{Table, rowsIn, layerOf, decodingOf, matchOf}
 use Rattle.assembling.specs.Index.{Rising}
 use Rattle.assembling.specs.Assemblies.{rowAt}
+use Rattle.assembling.proofs.Assembled.{row-only}
 use Rattle.assembling.proofs.Skipping.{later, has-later, passed, beyond}
 use Rattle.claims.specs.Claims.{claimedBy, claimed}
 use Rattle.claims.specs.Marks.{Stands, markedAt, timedIn}
@@ -38,12 +38,6 @@ stands-one count value before marks other a b =
 -- ---- the row of a layer that has a decoding time
 
 module _ (t : Table) (layer : ℕ) (rising : Rising t layer) where
-  apart : (j k : ℕ) → j < k → k < rowsIn t → layerOf t j ≡ layer → layerOf t k ≡ layer → decodingOf t j ≡ decodingOf t k → ⊥
-  apart j k h l p q e =
-      let less = rising j k h l p q in
-      let same : ahead t j ≡ ahead t k = ap₂ (λ (of time : ℕ). distanceOf (decodingOf t (firstRow t of)) time) (p ∙ sym q) e in
-      omega arith
-
   abbrev sought : ℕ → ℕ → Bool
   sought time k = eqb (layerOf t k) layer && eqb (decodingOf t k) time
 
@@ -51,22 +45,10 @@ module _ (t : Table) (layer : ℕ) (rising : Rising t layer) where
   pub sought-is : (time k : ℕ) → k < rowsIn t → sought time k ≡ eqb k (rowAt t layer time)
   sought-is time k h = same-test (sought time k) (eqb k (rowAt t layer time)) (λ e. eq-eqb k (rowAt t layer time) (only e)) found
     where
-      of-layer : (j : ℕ) → sought time j ≡ true → layerOf t j ≡ layer
-      of-layer j e = eqb-true (layerOf t j) layer (both-left (eqb (layerOf t j) layer) (eqb (decodingOf t j) time) e)
-
-      timed : (j : ℕ) → sought time j ≡ true → decodingOf t j ≡ time
-      timed j e = eqb-true (decodingOf t j) time (both-right (eqb (layerOf t j) layer) (eqb (decodingOf t j) time) e)
-
       only : sought time k ≡ true → k ≡ rowAt t layer time
-      only e = go (decLt k (rowAt t layer time)) (decLt (rowAt t layer time) k)
-        where
-          go : Dec (k < rowAt t layer time) → Dec (rowAt t layer time < k) → k ≡ rowAt t layer time
-          go (yes l) d = both-ways e (seek-first (sought time) (rowsIn t) .before k l)
-          go (no l) (yes m) =
-              let there = seek-first (sought time) (rowsIn t) .found (omega arith) in
-              absurd (apart (rowAt t layer time) k m h (of-layer (rowAt t layer time) there) (of-layer k e)
-              (timed (rowAt t layer time) there ∙ sym (timed k e)))
-          go (no l) (no m) = omega arith
+      only e =
+          sym (row-only t layer time k rising h (eqb-true (layerOf t k) layer (both-left (eqb (layerOf t k) layer) (eqb (decodingOf t k) time) e))
+          (eqb-true (decodingOf t k) time (both-right (eqb (layerOf t k) layer) (eqb (decodingOf t k) time) e)))
 
       found : eqb k (rowAt t layer time) ≡ true → sought time k ≡ true
       found e =
