@@ -1,21 +1,23 @@
--- What an assembly that was found is: rows once chosen stay, each is a row of its own layer, and every edge is met.
+-- What an assembly that was found is: rows once chosen stay, each is a row of its own layer, and every edge is met that starts from a layer with a row.
 -- Assumes nothing.
 use Prim.Native.Nat.{ℕ, zero, suc, _≤_, _<_}
-use mathlib.Core.Path.{_≡_, refl, sym, _∙_, ap, subst}
+use mathlib.Core.Path.{_≡_, refl, sym, _∙_, ap, ap₂, subst}
 use mathlib.Core.Bool.{Bool, true, false, cond, _&&_, true≢false}
 use mathlib.Core.List.{List, [], _∷_}
 use mathlib.Core.Logic.{_⊎_, inl, inr}
 use native.Mathlib.Omega.{arith}
 use native.Mathlib.Decide.{decLt, ℕ-discrete}
 use native.Mathlib.Nat.{mod-lt}
-use borrow.Author.Tests.{lt-ltb, le-ltb, eqb-true}
+use borrow.Author.Tests.{lt-ltb, le-ltb, eq-eqb, eqb-true}
 use lib.Dec.{eqb, ltb}
 use lib.ListN.{length, getD, set, replicate, length-set, length-replicate, getD-replicate}
 use lib.Seq.{getD-set-same, getD-set-other}
-use Rattle.combinators.specs.Below.{seek-first}
+use Rattle.clock.specs.Clock.{distanceOf}
+use Rattle.combinators.specs.Below.{seek-first, seek-here}
 use Rattle.combinators.specs.Bools.{both-left, both-right}
-use Rattle.rows.specs.Table.{Table, rowsIn, layerOf, decodingOf, matchOf}
-use Rattle.assembling.specs.Assemblies.{Assembly, upperOf, lowerOf, rowAt, pairedRow, partner, assembledFrom, assembled}
+use Rattle.rows.specs.Table.{Table, rowsIn, layerOf, decodingOf, matchOf, firstRow, ahead}
+use Rattle.assembling.specs.Index.{Rising}
+use Rattle.assembling.specs.Assemblies.{Assembly, upperOf, lowerOf, rowAt, partner, assembledFrom, assembled}
 
 -- an edge is met: both its layers have a row, and 'the decoding time of the lower row equals the match time of the upper row'
 pub record Met (t : Table) (rows : List ℕ) (edge : ℕ) : Type 0 where
@@ -42,6 +44,23 @@ module _ (t : Table) where
         eqb-true (decodingOf t k) time (both-right (eqb (layerOf t k) layer) (eqb (decodingOf t k) time) both),
       )
 
+  -- and in a layer whose times rise no other row has it
+  pub row-only : (layer time k : ℕ) → Rising t layer → k < rowsIn t → layerOf t k ≡ layer → decodingOf t k ≡ time → rowAt t layer time ≡ k
+  row-only layer time k rising h own timed =
+      sym (seek-here (λ j. eqb (layerOf t j) layer && eqb (decodingOf t j) time) (rowsIn t) k h
+      (λ j l. none j l (eqb (layerOf t j) layer && eqb (decodingOf t j) time) refl)
+      (ap₂ (λ (a b : Bool). a && b) (eq-eqb (layerOf t k) layer own) (eq-eqb (decodingOf t k) time timed)))
+    where
+      none : (j : ℕ) → j < k → (b : Bool) → (eqb (layerOf t j) layer && eqb (decodingOf t j) time) ≡ b
+          → (eqb (layerOf t j) layer && eqb (decodingOf t j) time) ≡ false
+      none j l true e =
+          let own-j = eqb-true (layerOf t j) layer (both-left (eqb (layerOf t j) layer) (eqb (decodingOf t j) time) e) in
+          let timed-j = eqb-true (decodingOf t j) time (both-right (eqb (layerOf t j) layer) (eqb (decodingOf t j) time) e) in
+          let same : ahead t j ≡ ahead t k =
+          ap₂ (λ (own time : ℕ). distanceOf (decodingOf t (firstRow t own)) time) (own-j ∙ sym own) (timed-j ∙ sym timed) in
+          absurd (let rise = rising j k l h own-j own in omega arith)
+      none j l false e = e
+
   -- ---- one edge
 
   -- how a lower layer came to its row: it had it before, and it has the time asked for; or it was found by that time
@@ -51,37 +70,28 @@ module _ (t : Table) where
     pub origin : ((getD rows (lowerOf edge) 0 < rowsIn t) × (row ≡ getD rows (lowerOf edge) 0))
         ⊎ ((rowsIn t ≤ getD rows (lowerOf edge) 0) × (layerOf t row ≡ lowerOf edge))
 
-  pub partner-is : (rows : List ℕ) (edge : ℕ) → partner t rows edge < rowsIn t → Partner rows edge (partner t rows edge)
-  partner-is rows edge h = go (decLt (getD rows (upperOf edge) 0) (rowsIn t)) h
+  pub partner-is : (rows : List ℕ) (edge : ℕ) → getD rows (upperOf edge) 0 < rowsIn t → partner t rows edge < rowsIn t
+      → Partner rows edge (partner t rows edge)
+  partner-is rows edge above h = go (decLt (getD rows (lowerOf edge) 0) (rowsIn t)) h
     where
-      u : ℕ
-      u = getD rows (upperOf edge) 0
-
-      old : (b : Bool) → eqb (decodingOf t (getD rows (lowerOf edge) 0)) (matchOf t (getD rows (upperOf edge) 0)) ≡ b
-          → getD rows (upperOf edge) 0 < rowsIn t → getD rows (lowerOf edge) 0 < rowsIn t
+      old : (b : Bool) → eqb (decodingOf t (getD rows (lowerOf edge) 0)) (matchOf t (getD rows (upperOf edge) 0)) ≡ b → getD rows (lowerOf edge) 0 < rowsIn t
           → cond b (getD rows (lowerOf edge) 0) (rowsIn t) < rowsIn t → Partner rows edge (cond b (getD rows (lowerOf edge) 0) (rowsIn t))
-      old true e a l x =
+      old true e l x =
           record {
-            above = a;
+            above = above;
             timed = eqb-true (decodingOf t (getD rows (lowerOf edge) 0)) (matchOf t (getD rows (upperOf edge) 0)) e;
             origin = inl (l, refl);
           }
-      old false e a l x = absurd (omega arith)
+      old false e l x = absurd (omega arith)
 
-      paired : getD rows (upperOf edge) 0 < rowsIn t → Dec (getD rows (lowerOf edge) 0 < rowsIn t)
-          → pairedRow t (getD rows (lowerOf edge) 0) (lowerOf edge) (matchOf t (getD rows (upperOf edge) 0)) < rowsIn t
-          → Partner rows edge (pairedRow t (getD rows (lowerOf edge) 0) (lowerOf edge) (matchOf t (getD rows (upperOf edge) 0)))
-      paired a (yes l) =
+      go : Dec (getD rows (lowerOf edge) 0 < rowsIn t) → partner t rows edge < rowsIn t → Partner rows edge (partner t rows edge)
+      go (yes l) =
           rw (lt-ltb (getD rows (lowerOf edge) 0) (rowsIn t) l)
-          (λ x. old (eqb (decodingOf t (getD rows (lowerOf edge) 0)) (matchOf t (getD rows (upperOf edge) 0))) refl a l x)
-      paired a (no l) =
+          (λ x. old (eqb (decodingOf t (getD rows (lowerOf edge) 0)) (matchOf t (getD rows (upperOf edge) 0))) refl l x)
+      go (no l) =
           rw (le-ltb (getD rows (lowerOf edge) 0) (rowsIn t) (omega arith))
           (λ x. (let w = row-found (lowerOf edge) (matchOf t (getD rows (upperOf edge) 0)) x in
-          record { above = a; timed = w .1; origin = inr (omega arith, w .0) }))
-
-      go : Dec (getD rows (upperOf edge) 0 < rowsIn t) → partner t rows edge < rowsIn t → Partner rows edge (partner t rows edge)
-      go (yes a) = rw (lt-ltb (getD rows (upperOf edge) 0) (rowsIn t) a) (paired a (decLt (getD rows (lowerOf edge) 0) (rowsIn t)))
-      go (no a) = rw (le-ltb (getD rows (upperOf edge) 0) (rowsIn t) (omega arith)) (λ x. absurd (omega arith))
+          record { above = above; timed = w .1; origin = inr (omega arith, w .0) }))
 
   -- the rows after it: as before where there was one
   module _ (rows : List ℕ) (edge row : ℕ) (long : length rows ≡ 64) (p : Partner rows edge row) where
@@ -119,69 +129,123 @@ module _ (t : Table) where
 
   -- ---- all edges
 
-  -- a complete assembly came by its first edge
-  first-met : (edge : ℕ) (edges rows : List ℕ) → assembledFrom t (edge ∷ edges) rows .complete ≡ true
-      → (partner t rows edge < rowsIn t)
-      × (assembledFrom t (edge ∷ edges) rows ≡ assembledFrom t edges (set rows (lowerOf edge) (partner t rows edge)))
-  first-met edge edges rows e = go (decLt (partner t rows edge) (rowsIn t)) e
+  -- The first edge of a complete assembly: its upper layer has no row, and it is passed over; or it finds a row for its lower layer.
+  pub record PassedOver (edge : ℕ) (edges rows : List ℕ) : Type 0 where
+    pub no-row : rowsIn t ≤ getD rows (upperOf edge) 0
+    pub rest : assembledFrom t (edge ∷ edges) rows ≡ assembledFrom t edges rows
+
+  pub record Taken (edge : ℕ) (edges rows : List ℕ) : Type 0 where
+    pub row : partner t rows edge < rowsIn t
+    pub partnered : Partner rows edge (partner t rows edge)
+    pub rest : assembledFrom t (edge ∷ edges) rows ≡ assembledFrom t edges (set rows (lowerOf edge) (partner t rows edge))
+
+  first : (edge : ℕ) (edges rows : List ℕ) → assembledFrom t (edge ∷ edges) rows .complete ≡ true → PassedOver edge edges rows ⊎ Taken edge edges rows
+  first edge edges rows e = go (decLt (getD rows (upperOf edge) 0) (rowsIn t)) (decLt (partner t rows edge) (rowsIn t)) e
     where
-      go : Dec (partner t rows edge < rowsIn t) → assembledFrom t (edge ∷ edges) rows .complete ≡ true
-          → (partner t rows edge < rowsIn t)
-          × (assembledFrom t (edge ∷ edges) rows ≡ assembledFrom t edges (set rows (lowerOf edge) (partner t rows edge)))
-      go (yes h) e = (h, rw (lt-ltb (partner t rows edge) (rowsIn t) h))
-      go (no h) e = absurd (true≢false (sym (rw (le-ltb (partner t rows edge) (rowsIn t) (omega arith)) at e)))
+      go : Dec (getD rows (upperOf edge) 0 < rowsIn t) → Dec (partner t rows edge < rowsIn t) → assembledFrom t (edge ∷ edges) rows .complete ≡ true
+          → PassedOver edge edges rows ⊎ Taken edge edges rows
+      go (no a) d e =
+          inl (record { no-row = omega arith; rest = rw (le-ltb (getD rows (upperOf edge) 0) (rowsIn t) (omega arith)) })
+      go (yes a) (yes h) e =
+          inr (record {
+            row = h;
+            partnered = partner-is rows edge a h;
+            rest = rw (lt-ltb (getD rows (upperOf edge) 0) (rowsIn t) a, lt-ltb (partner t rows edge) (rowsIn t) h);
+          })
+      go (yes a) (no h) e =
+          absurd (true≢false (sym (rw (lt-ltb (getD rows (upperOf edge) 0) (rowsIn t) a, le-ltb (partner t rows edge) (rowsIn t) (omega arith)) at e)))
+
+  -- what is complete is so without its first edge
+  still-complete : {a b : Assembly} → a ≡ b → a .complete ≡ true → b .complete ≡ true
+  still-complete same e = sym (ap (λ (a : Assembly). a .complete) same) ∙ e
 
   -- rows once chosen stay
   pub keeps : (edges rows : List ℕ) → length rows ≡ 64 → assembledFrom t edges rows .complete ≡ true
       → (layer : ℕ) → getD rows layer 0 < rowsIn t → getD (assembledFrom t edges rows .rows) layer 0 ≡ getD rows layer 0
   keeps [] rows long e layer h = refl
-  keeps (edge ∷ edges) rows long e layer h =
-      let w = first-met edge edges rows e in
-      let p = partner-is rows edge (w .0) in
-      let s = stays rows edge (partner t rows edge) long p layer h in
-      ap (λ (a : Assembly). getD (a .rows) layer 0) (w .1)
-      ∙ keeps edges (set rows (lowerOf edge) (partner t rows edge)) (length-set rows (lowerOf edge) (partner t rows edge) ∙ long)
-      (sym (ap (λ (a : Assembly). a .complete) (w .1)) ∙ e) layer (subst (λ (x : ℕ). x < rowsIn t) (sym s) h)
-      ∙ s
+  keeps (edge ∷ edges) rows long e layer h = go (first edge edges rows e) (keeps edges)
+    where
+      go : PassedOver edge edges rows ⊎ Taken edge edges rows
+          → ((later : List ℕ) → length later ≡ 64 → assembledFrom t edges later .complete ≡ true → (layer : ℕ) → getD later layer 0 < rowsIn t
+          → getD (assembledFrom t edges later .rows) layer 0 ≡ getD later layer 0)
+          → getD (assembledFrom t (edge ∷ edges) rows .rows) layer 0 ≡ getD rows layer 0
+      go (inl w) on =
+          ap (λ (a : Assembly). getD (a .rows) layer 0) (w .rest) ∙ on rows long (still-complete (w .rest) e) layer h
+      go (inr w) on =
+          let s = stays rows edge (partner t rows edge) long (w .partnered) layer h in
+          ap (λ (a : Assembly). getD (a .rows) layer 0) (w .rest)
+          ∙ on (set rows (lowerOf edge) (partner t rows edge)) (length-set rows (lowerOf edge) (partner t rows edge) ∙ long)
+          (still-complete (w .rest) e) layer (subst (λ (x : ℕ). x < rowsIn t) (sym s) h)
+          ∙ s
 
-  -- EVERY EDGE IS MET,
-  pub all-met : (edges rows : List ℕ) → length rows ≡ 64 → assembledFrom t edges rows .complete ≡ true
+  -- each edge's upper layer has its row, or an earlier edge leads to it
+  abbrev pub Led : List ℕ → List ℕ → Type 0
+  Led edges rows = (i : ℕ) → i < length edges
+      → (getD rows (upperOf (getD edges i 0)) 0 < rowsIn t) ⊎ ((j : ℕ) × (j < i) × (lowerOf (getD edges j 0) ≡ upperOf (getD edges i 0)))
+
+  pub led-more : (edge : ℕ) (edges rows : List ℕ) (row : ℕ) → length rows ≡ 64 → Partner rows edge row → row < rowsIn t → Led (edge ∷ edges) rows
+      → Led edges (set rows (lowerOf edge) row)
+  led-more edge edges rows row long p inside led i h = go (led (suc i) (omega arith))
+    where
+      here : getD (set rows (lowerOf edge) row) (lowerOf edge) 0 < rowsIn t
+      here = subst (λ (x : ℕ). x < rowsIn t) (sym (stored rows edge row long p)) inside
+
+      go : (getD rows (upperOf (getD edges i 0)) 0 < rowsIn t) ⊎ ((j : ℕ) × (j < suc i) × (lowerOf (getD (edge ∷ edges) j 0) ≡ upperOf (getD edges i 0)))
+          → (getD (set rows (lowerOf edge) row) (upperOf (getD edges i 0)) 0 < rowsIn t)
+          ⊎ ((j : ℕ) × (j < i) × (lowerOf (getD edges j 0) ≡ upperOf (getD edges i 0)))
+      go (inl l) = inl (subst (λ (x : ℕ). x < rowsIn t) (sym (stays rows edge row long p (upperOf (getD edges i 0)) l)) l)
+      go (inr (zero, l, e)) = inl (subst (λ (u : ℕ). getD (set rows (lowerOf edge) row) u 0 < rowsIn t) e here)
+      go (inr (suc j, l, e)) = inr (j, omega arith, e)
+
+  -- then EVERY EDGE IS MET,
+  pub all-met : (edges rows : List ℕ) → length rows ≡ 64 → assembledFrom t edges rows .complete ≡ true → Led edges rows
       → (i : ℕ) → i < length edges → Met t (assembledFrom t edges rows .rows) (getD edges i 0)
-  all-met [] rows long e i h = absurd (omega arith)
-  all-met (edge ∷ edges) rows long e zero h =
-      let w = first-met edge edges rows e in
-      let p = partner-is rows edge (w .0) in
-      let later = set rows (lowerOf edge) (partner t rows edge) in
-      let long-later = length-set rows (lowerOf edge) (partner t rows edge) ∙ long in
-      let done = sym (ap (λ (a : Assembly). a .complete) (w .1)) ∙ e in
-      let s = stays rows edge (partner t rows edge) long p (upperOf edge) (p .above) in
-      let here = stored rows edge (partner t rows edge) long p in
-      let up : getD (assembledFrom t (edge ∷ edges) rows .rows) (upperOf edge) 0 ≡ getD rows (upperOf edge) 0 =
-      ap (λ (a : Assembly). getD (a .rows) (upperOf edge) 0) (w .1)
-      ∙ keeps edges later long-later done (upperOf edge) (subst (λ (x : ℕ). x < rowsIn t) (sym s) (p .above)) ∙ s in
-      let low : getD (assembledFrom t (edge ∷ edges) rows .rows) (lowerOf edge) 0 ≡ partner t rows edge =
-      ap (λ (a : Assembly). getD (a .rows) (lowerOf edge) 0) (w .1)
-      ∙ keeps edges later long-later done (lowerOf edge) (subst (λ (x : ℕ). x < rowsIn t) (sym here) (w .0)) ∙ here in
-      record {
-        upper-row = subst (λ (x : ℕ). x < rowsIn t) (sym up) (p .above);
-        lower-row = subst (λ (x : ℕ). x < rowsIn t) (sym low) (w .0);
-        paired = ap (decodingOf t) low ∙ p .timed ∙ ap (matchOf t) (sym up);
-      }
-  all-met (edge ∷ edges) rows long e (suc i) h =
-      let w = first-met edge edges rows e in
-      subst (λ (a : Assembly). Met t (a .rows) (getD edges i 0)) (sym (w .1))
-      (all-met edges (set rows (lowerOf edge) (partner t rows edge)) (length-set rows (lowerOf edge) (partner t rows edge) ∙ long)
-      (sym (ap (λ (a : Assembly). a .complete) (w .1)) ∙ e) i (omega arith))
+  all-met [] rows long e led i h = absurd (omega arith)
+  all-met (edge ∷ edges) rows long e led i h = go (first edge edges rows e) (led 0 (omega arith)) (all-met edges) i h
+    where
+      go : PassedOver edge edges rows ⊎ Taken edge edges rows
+          → (getD rows (upperOf edge) 0 < rowsIn t) ⊎ ((j : ℕ) × (j < 0) × (lowerOf (getD (edge ∷ edges) j 0) ≡ upperOf edge))
+          → ((later : List ℕ) → length later ≡ 64 → assembledFrom t edges later .complete ≡ true → Led edges later
+          → (i : ℕ) → i < length edges → Met t (assembledFrom t edges later .rows) (getD edges i 0))
+          → (i : ℕ) → i < suc (length edges) → Met t (assembledFrom t (edge ∷ edges) rows .rows) (getD (edge ∷ edges) i 0)
+      go (inl w) (inl l) on i h = absurd (omega (arith, w .no-row))
+      go (inl w) (inr l) on i h = absurd (omega (arith, l .1))
+      go (inr w) l on zero h =
+          let p = w .partnered in
+          let later = set rows (lowerOf edge) (partner t rows edge) in
+          let long-later = length-set rows (lowerOf edge) (partner t rows edge) ∙ long in
+          let done = still-complete (w .rest) e in
+          let s = stays rows edge (partner t rows edge) long p (upperOf edge) (p .above) in
+          let here = stored rows edge (partner t rows edge) long p in
+          let up : getD (assembledFrom t (edge ∷ edges) rows .rows) (upperOf edge) 0 ≡ getD rows (upperOf edge) 0 =
+          ap (λ (a : Assembly). getD (a .rows) (upperOf edge) 0) (w .rest)
+          ∙ keeps edges later long-later done (upperOf edge) (subst (λ (x : ℕ). x < rowsIn t) (sym s) (p .above)) ∙ s in
+          let low : getD (assembledFrom t (edge ∷ edges) rows .rows) (lowerOf edge) 0 ≡ partner t rows edge =
+          ap (λ (a : Assembly). getD (a .rows) (lowerOf edge) 0) (w .rest)
+          ∙ keeps edges later long-later done (lowerOf edge) (subst (λ (x : ℕ). x < rowsIn t) (sym here) (w .row)) ∙ here in
+          record {
+            upper-row = subst (λ (x : ℕ). x < rowsIn t) (sym up) (p .above);
+            lower-row = subst (λ (x : ℕ). x < rowsIn t) (sym low) (w .row);
+            paired = ap (decodingOf t) low ∙ p .timed ∙ ap (matchOf t) (sym up);
+          }
+      go (inr w) l on (suc i) h =
+          subst (λ (a : Assembly). Met t (a .rows) (getD edges i 0)) (sym (w .rest))
+          (on (set rows (lowerOf edge) (partner t rows edge)) (length-set rows (lowerOf edge) (partner t rows edge) ∙ long) (still-complete (w .rest) e)
+          (led-more edge edges rows (partner t rows edge) long (w .partnered) (w .row) led) i (omega arith))
 
   -- and every row chosen is one of its layer's.
   pub all-own : (edges rows : List ℕ) → OfLayers t rows → assembledFrom t edges rows .complete ≡ true → OfLayers t (assembledFrom t edges rows .rows)
   all-own [] rows known e = known
-  all-own (edge ∷ edges) rows known e =
-      let w = first-met edge edges rows e in
-      subst (λ (a : Assembly). OfLayers t (a .rows)) (sym (w .1))
-      (all-own edges (set rows (lowerOf edge) (partner t rows edge))
-      (own-more rows edge (partner t rows edge) (known .long) (partner-is rows edge (w .0)) known)
-      (sym (ap (λ (a : Assembly). a .complete) (w .1)) ∙ e))
+  all-own (edge ∷ edges) rows known e = go (first edge edges rows e) (all-own edges)
+    where
+      go : PassedOver edge edges rows ⊎ Taken edge edges rows
+          → ((later : List ℕ) → OfLayers t later → assembledFrom t edges later .complete ≡ true → OfLayers t (assembledFrom t edges later .rows))
+          → OfLayers t (assembledFrom t (edge ∷ edges) rows .rows)
+      go (inl w) on = subst (λ (a : Assembly). OfLayers t (a .rows)) (sym (w .rest)) (on rows known (still-complete (w .rest) e))
+      go (inr w) on =
+          subst (λ (a : Assembly). OfLayers t (a .rows)) (sym (w .rest))
+          (on (set rows (lowerOf edge) (partner t rows edge)) (own-more rows edge (partner t rows edge) (known .long) (w .partnered) known)
+          (still-complete (w .rest) e))
 
   -- ---- what no edge leads to stays as it was
 
@@ -189,29 +253,36 @@ module _ (t : Table) where
       → getD (assembledFrom t edges rows .rows) layer 0 ≡ getD rows layer 0
   untouched [] rows layer apart = refl
   untouched (edge ∷ edges) rows layer apart =
-      go (ltb (partner t rows edge) (rowsIn t))
+      go (ltb (getD rows (upperOf edge) 0) (rowsIn t)) (ltb (partner t rows edge) (rowsIn t))
       (untouched edges (set rows (lowerOf edge) (partner t rows edge)) layer (λ i h. apart (suc i) (omega arith))
       ∙ getD-set-other rows (lowerOf edge) layer (partner t rows edge) 0 (apart 0 (omega arith)))
+      (untouched edges rows layer (λ i h. apart (suc i) (omega arith)))
     where
-      go : (b : Bool) → getD (assembledFrom t edges (set rows (lowerOf edge) (partner t rows edge)) .rows) layer 0 ≡ getD rows layer 0
-          → getD (cond b (assembledFrom t edges (set rows (lowerOf edge) (partner t rows edge))) (record { complete = false; rows = rows }) .rows) layer 0
+      go : (a b : Bool) → getD (assembledFrom t edges (set rows (lowerOf edge) (partner t rows edge)) .rows) layer 0 ≡ getD rows layer 0
+          → getD (assembledFrom t edges rows .rows) layer 0 ≡ getD rows layer 0
+          → getD (cond a (cond b (assembledFrom t edges (set rows (lowerOf edge) (partner t rows edge))) (record { complete = false; rows = rows }))
+          (assembledFrom t edges rows) .rows) layer 0
           ≡ getD rows layer 0
-      go true e = e
-      go false e = refl
+      go true true e f = e
+      go true false e f = refl
+      go false b e f = f
 
   pub as-long : (edges rows : List ℕ) → length (assembledFrom t edges rows .rows) ≡ length rows
   as-long [] rows = refl
   as-long (edge ∷ edges) rows =
-      go (ltb (partner t rows edge) (rowsIn t))
-      (as-long edges (set rows (lowerOf edge) (partner t rows edge)) ∙ length-set rows (lowerOf edge) (partner t rows edge))
+      go (ltb (getD rows (upperOf edge) 0) (rowsIn t)) (ltb (partner t rows edge) (rowsIn t))
+      (as-long edges (set rows (lowerOf edge) (partner t rows edge)) ∙ length-set rows (lowerOf edge) (partner t rows edge)) (as-long edges rows)
     where
-      go : (b : Bool) → length (assembledFrom t edges (set rows (lowerOf edge) (partner t rows edge)) .rows) ≡ length rows
-          → length (cond b (assembledFrom t edges (set rows (lowerOf edge) (partner t rows edge))) (record { complete = false; rows = rows }) .rows)
+      go : (a b : Bool) → length (assembledFrom t edges (set rows (lowerOf edge) (partner t rows edge)) .rows) ≡ length rows
+          → length (assembledFrom t edges rows .rows) ≡ length rows
+          → length (cond a (cond b (assembledFrom t edges (set rows (lowerOf edge) (partner t rows edge))) (record { complete = false; rows = rows }))
+          (assembledFrom t edges rows) .rows)
           ≡ length rows
-      go true e = e
-      go false e = refl
+      go true true e f = e
+      go true false e f = refl
+      go false b e f = f
 
-  -- ---- from the start: the target's row, and no other
+  -- ---- from the start: the row of the head's layer, and no other
 
   module _ (target head : ℕ) (small : target < 64) where
     abbrev begin : List ℕ

@@ -3,3 +3,4 @@ pub mod Placing
 pub mod Searching
 pub mod Assembling
 pub mod Skipping
+pub mod Own

@@ -112,9 +112,8 @@ module _ (indices decodings starts order : List ℕ) (sorted : Sorted indices de
     pub climbing : Climbing decodings order origin (getD starts layer 0) (getD starts (layer + 1) 0)
     climbing =
         record {
-          long = sorted .ordered .long;
           nonempty = omega arith;
-          inside = (let e = end-inside in omega (arith, sorted .short));
+          inside = (let e = end-inside in omega (arith, sorted .ordered .long));
           rows = λ q h l. (let w = place-holds q h l in omega (arith, w .row, sorted .same-length));
           climbs = climbs-at;
         }

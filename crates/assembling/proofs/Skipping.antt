@@ -42,10 +42,10 @@ gathered-next layers closure edge upper next count array known is-upper given =
 -- ---- the members of a set after a number, and the lowest of them
 
 module _ (set number : ℕ) where
-  abbrev later : ℕ
+  abbrev pub later : ℕ
   later = without set (below set (number + 1))
 
-  has-later : (i : ℕ) → has later i ≡ has set i && not (ltb i (number + 1) && has set i)
+  pub has-later : (i : ℕ) → has later i ≡ has set i && not (ltb i (number + 1) && has set i)
   has-later i = has-without set (below set (number + 1)) i ∙ ap (λ (b : Bool). has set i && not b) (has-below set (number + 1) i)
 
   -- what it passes over is no member

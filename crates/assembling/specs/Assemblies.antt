@@ -54,28 +54,29 @@ pairedRow t row layer time =
     cond (ltb row (rowsIn t)) (cond (eqb (decodingOf t row) time) row (rowsIn t)) (rowAt t layer time)
 
 abbrev pub partner : Table → List ℕ → ℕ → ℕ
-partner t rows edge =
-    cond (ltb (getD rows (upperOf edge) 0) (rowsIn t))
-    (pairedRow t (getD rows (lowerOf edge) 0) (lowerOf edge) (matchOf t (getD rows (upperOf edge) 0)))
-    (rowsIn t)
+partner t rows edge = pairedRow t (getD rows (lowerOf edge) 0) (lowerOf edge) (matchOf t (getD rows (upperOf edge) 0))
 
 -- the rows chosen, one for each layer index, the number of rows standing for none; and whether each edge was met
 pub record Assembly : Type 0 where
   pub complete : Bool
   pub rows : List ℕ
 
--- Edge after edge, each lower layer is given its row; the first edge that finds none ends it.
+-- Edge after edge, each lower layer is given its row; the first edge that finds none ends it. An edge whose upper layer has no row is passed over: the
+-- edges of the highest layers come first, so that this layer is none that the head's own rests on. The edges of a closure thus serve the heads of all
+-- its layers (`own-closure` of proofs/Own.antt).
 abbrev pub assembledFrom : Table → List ℕ → List ℕ → Assembly
 assembledFrom t [] rows = record { complete = true; rows = rows }
 assembledFrom t (edge ∷ edges) rows =
-    cond (ltb (partner t rows edge) (rowsIn t))
+    cond (ltb (getD rows (upperOf edge) 0) (rowsIn t))
+    (cond (ltb (partner t rows edge) (rowsIn t))
     (assembledFrom t edges (set rows (lowerOf edge) (partner t rows edge)))
-    (record { complete = false; rows = rows })
+    (record { complete = false; rows = rows }))
+    (assembledFrom t edges rows)
 
 -- no layer has a row, where `none` stands for no row
 abbrev pub noRows : ℕ → List ℕ
 noRows none = replicate 64 none
 
--- at the start the target alone has one
+-- at the start the head's layer alone has one
 abbrev pub assembled : Table → List ℕ → ℕ → ℕ → Assembly
-assembled t edges target head = assembledFrom t edges (set (noRows (rowsIn t)) target head)
+assembled t edges top head = assembledFrom t edges (set (noRows (rowsIn t)) top head)

@@ -8,7 +8,6 @@ ghost use Rattle.rows.specs.Table.{table};
 ghost use Rattle.assembling.specs.Index.{Sorted, Rising, Climbing, Reached, Ready};
 ghost use Rattle.assembling.specs.Assemblies.{upperOf, lowerOf, joins, Next, edgesOf, membersOf, rowAt, pairedRow, noRows, assembled};
 use closure::Layers;
-use rows::MOST_ROWS;
 
 // The edges of a closure, as many as `count`, in `list`.
 pub struct Edges {
@@ -103,7 +102,7 @@ pub fn members_of(closure: u64) -> Members
 // The first place of a layer's rows, from `first` on and before `end`, whose row lies at least `far` ahead of `origin`.
 fn first_as_far(
     decodings: &[u64],
-    order: &[usize; MOST_ROWS],
+    order: &[usize],
     origin: u64,
     far: u64,
     first: usize,
@@ -131,7 +130,7 @@ fn row_sought(
     indices: &[u8],
     decodings: &[u64],
     starts: &[usize; 65],
-    order: &[usize; MOST_ROWS],
+    order: &[usize],
     layer: usize,
     time: u64,
     next: &mut [usize; 64],
@@ -179,11 +178,11 @@ fn guess_of(first: usize, noted: usize) -> usize
 
 // The row of a layer that has a decoding time, or the number of rows. Time goes on from unit to unit, so that it is mostly the row after the
 // one found last; only one row of the layer has the time, so that this row is the answer wherever it has.
-fn row_at(
+pub fn row_at(
     indices: &[u8],
     decodings: &[u64],
     starts: &[usize; 65],
-    order: &[usize; MOST_ROWS],
+    order: &[usize],
     layer: usize,
     time: u64,
     next: &mut [usize; 64],
@@ -209,7 +208,7 @@ fn paired_row(
     indices: &[u8],
     decodings: &[u64],
     starts: &[usize; 65],
-    order: &[usize; MOST_ROWS],
+    order: &[usize],
     row: usize,
     layer: usize,
     time: u64,
@@ -230,14 +229,14 @@ fn paired_row(
 }
 
 // Lays the assembly that the row `head` of the layer `top` is at the head of into `rows`, which comes with no row for any layer, and answers
-// whether each edge was met. In `next` it notes for each layer the place after the row found last, for a guess: whatever stands there, the
+// whether each edge of a layer that has a row was met. In `next` it notes for each layer the place after the row found last, for a guess: whatever stands there, the
 // answer is the same.
 pub fn assemble(
     indices: &[u8],
     decodings: &[u64],
     matches: &[u64],
     starts: &[usize; 65],
-    order: &[usize; MOST_ROWS],
+    order: &[usize],
     edges: &[u16],
     top: usize,
     head: usize,
@@ -258,25 +257,26 @@ pub fn assemble(
     while at < edges.len() {
         let edge = edges[at] as usize;
         let upper = rows[63 - edge / 64 % 64];
-        if none <= upper {
-            return false;
+        if upper < none {
+            let lower = edge % 64;
+            let row = paired_row(
+                indices,
+                decodings,
+                starts,
+                order,
+                rows[lower],
+                lower,
+                matches[upper],
+                next,
+            );
+            if none <= row {
+                return false;
+            }
+            rows[lower] = row;
+            at += 1;
+        } else {
+            at += 1;
         }
-        let lower = edge % 64;
-        let row = paired_row(
-            indices,
-            decodings,
-            starts,
-            order,
-            rows[lower],
-            lower,
-            matches[upper],
-            next,
-        );
-        if none <= row {
-            return false;
-        }
-        rows[lower] = row;
-        at += 1;
     }
     true
 }

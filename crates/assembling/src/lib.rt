@@ -9,5 +9,6 @@ pub use assembly::Members;
 pub use assembly::assemble;
 pub use assembly::edges_of;
 pub use assembly::members_of;
-pub use index::order_of;
+pub use assembly::row_at;
+pub use index::lay_order;
 pub use index::starts_of;

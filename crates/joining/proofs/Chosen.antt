@@ -8,40 +8,21 @@ use mathlib.Core.Logic.{_⊎_, inl, inr}
 use native.Mathlib.Omega.{arith}
 use native.Mathlib.Decide.{decLt, ℕ-discrete}
 use borrow.Author.Tests.{lt-ltb, le-ltb, eq-eqb, eqb-true, not-true}
-use lib.Dec.{eqb}
+use lib.Dec.{eqb, ltb}
 use lib.ListN.{length, getD, set, length-set}
 use lib.Seq.{getD-set-same, getD-set-other}
 use Rattle.closure.specs.declared.Layers.{Layers}
 use Rattle.closure.specs.Meaning.{RestsOn, by}
-use Rattle.clock.specs.Clock.{distanceOf}
-use Rattle.combinators.specs.Below.{seek-here}
 use Rattle.combinators.specs.Bools.{both-left, both-right}
 use Rattle.assembling.specs.Assemblies.{Assembly, upperOf, lowerOf, rowAt, pairedRow, partner, edgesOf, assembledFrom, assembled}
-use Rattle.rows.specs.Table.{Table, rowsIn, layerOf, decodingOf, matchOf, firstRow, ahead}
+use Rattle.rows.specs.Table.{Table, rowsIn, layerOf, decodingOf, matchOf}
 use Rattle.assembling.specs.Index.{Rising}
-use Rattle.assembling.proofs.Assembled.{all-met, all-own, heads, begin-long, begin-target, begin-other, begin-own, lower-below}
+use Rattle.assembling.proofs.Assembled.{row-only, Led, all-met, all-own, heads, begin-long, begin-target, begin-other, begin-own, lower-below}
 use Rattle.joining.specs.Units.{frameOf, unpaired}
-use Rattle.joining.proofs.Frames.{edge-names, edge-listed, led-before, row-for-each, rests-below, target-below}
+use Rattle.joining.proofs.Frames.{edge-names, edge-listed, led-edges, row-for-each, rests-below, target-below}
 use Rattle.joining.specs.Orderly.{Orderly}
 use Rattle.joining.proofs.Orderly.{rises}
 use Rattle.joining.specs.Meaning.{Assembles, NoAssembly}
-
--- in a rising layer one row at the most has a decoding time
-pub row-only : (t : Table) (layer time k : ℕ) → Rising t layer → k < rowsIn t → layerOf t k ≡ layer → decodingOf t k ≡ time → rowAt t layer time ≡ k
-row-only t layer time k rising h own timed =
-    sym (seek-here (λ j. eqb (layerOf t j) layer && eqb (decodingOf t j) time) (rowsIn t) k h
-    (λ j l. none j l (eqb (layerOf t j) layer && eqb (decodingOf t j) time) refl)
-    (ap₂ (λ (a b : Bool). a && b) (eq-eqb (layerOf t k) layer own) (eq-eqb (decodingOf t k) time timed)))
-  where
-    none : (j : ℕ) → j < k → (b : Bool) → (eqb (layerOf t j) layer && eqb (decodingOf t j) time) ≡ b
-        → (eqb (layerOf t j) layer && eqb (decodingOf t j) time) ≡ false
-    none j l true e =
-        let own-j = eqb-true (layerOf t j) layer (both-left (eqb (layerOf t j) layer) (eqb (decodingOf t j) time) e) in
-        let timed-j = eqb-true (decodingOf t j) time (both-right (eqb (layerOf t j) layer) (eqb (decodingOf t j) time) e) in
-        let same : ahead t j ≡ ahead t k =
-        ap₂ (λ (own time : ℕ). distanceOf (decodingOf t (firstRow t own)) time) (own-j ∙ sym own) (timed-j ∙ sym timed) in
-        absurd (let rise = rising j k l h own-j own in omega arith)
-    none j l false e = e
 
 -- ---- along the edges, given a choice that meets them
 
@@ -60,8 +41,7 @@ module _ (t : Table) (choice : ℕ → ℕ) where
 
   partner-chosen : (rows : List ℕ) (edge : ℕ) → Agrees rows → Fits edge → upperOf edge < 64 → getD rows (upperOf edge) 0 < rowsIn t
       → partner t rows edge ≡ choice (lowerOf edge)
-  partner-chosen rows edge agrees fits small above =
-      rw (lt-ltb (getD rows (upperOf edge) 0) (rowsIn t) above) (go (decLt (getD rows (lowerOf edge) 0) (rowsIn t)))
+  partner-chosen rows edge agrees fits small above = go (decLt (getD rows (lowerOf edge) 0) (rowsIn t))
     where
       time-is : matchOf t (getD rows (upperOf edge) 0) ≡ matchOf t (choice (upperOf edge))
       time-is = ap (matchOf t) (agrees .same (upperOf edge) small above)
@@ -102,12 +82,7 @@ module _ (t : Table) (choice : ℕ → ℕ) where
           let other = getD-set-other rows (lowerOf edge) layer (choice (lowerOf edge)) 0 e in
           other ∙ known .same layer h (subst (λ (x : ℕ). x < rowsIn t) other l)
 
-  -- an edge's upper layer has its row, or an earlier edge leads to it
-  abbrev Led : List ℕ → List ℕ → Type 0
-  Led edges rows = (i : ℕ) → i < length edges
-      → (getD rows (upperOf (getD edges i 0)) 0 < rowsIn t) ⊎ ((j : ℕ) × (j < i) × (lowerOf (getD edges j 0) ≡ upperOf (getD edges i 0)))
-
-  pub followed : (edges rows : List ℕ) → Agrees rows → ((i : ℕ) → i < length edges → Fits (getD edges i 0)) → Led edges rows
+  pub followed : (edges rows : List ℕ) → Agrees rows → ((i : ℕ) → i < length edges → Fits (getD edges i 0)) → Led t edges rows
       → (assembledFrom t edges rows .complete ≡ true) × Agrees (assembledFrom t edges rows .rows)
   followed [] rows agrees fits led = (refl, agrees)
   followed (edge ∷ edges) rows agrees fits led =
@@ -126,7 +101,7 @@ module _ (t : Table) (choice : ℕ → ℕ) where
               (subst (λ (x : ℕ). x < rowsIn t) (sym set-here) (fits 0 (omega arith) .row))
           at (no e) = subst (λ (x : ℕ). x < rowsIn t) (sym (getD-set-other rows (lowerOf edge) layer (choice (lowerOf edge)) 0 e)) h
 
-      led-next : Led edges (set rows (lowerOf edge) (choice (lowerOf edge)))
+      led-next : Led t edges (set rows (lowerOf edge) (choice (lowerOf edge)))
       led-next i h = from (led (suc i) (omega arith))
         where
           from : (getD rows (upperOf (getD edges i 0)) 0 < rowsIn t) ⊎ ((j : ℕ) × (j < suc i) × (lowerOf (getD (edge ∷ edges) j 0) ≡ upperOf (getD edges i 0)))
@@ -147,7 +122,10 @@ module _ (t : Table) (choice : ℕ → ℕ) where
           let is = partner-chosen rows edge agrees (fits 0 (omega arith)) (upper-below edge) above in
           let inside : partner t rows edge < rowsIn t = subst (λ (x : ℕ). x < rowsIn t) (sym is) (fits 0 (omega arith) .row) in
           let step : assembledFrom t (edge ∷ edges) rows ≡ assembledFrom t edges (set rows (lowerOf edge) (choice (lowerOf edge))) =
-          ap (λ (b : Bool). cond b (assembledFrom t edges (set rows (lowerOf edge) (partner t rows edge))) (record { complete = false; rows = rows }))
+          ap (λ (b : Bool). cond b
+          (cond (ltb (partner t rows edge) (rowsIn t)) (assembledFrom t edges (set rows (lowerOf edge) (partner t rows edge))) (record { complete = false; rows = rows }))
+          (assembledFrom t edges rows)) (lt-ltb (getD rows (upperOf edge) 0) (rowsIn t) above)
+          ∙ ap (λ (b : Bool). cond b (assembledFrom t edges (set rows (lowerOf edge) (partner t rows edge))) (record { complete = false; rows = rows }))
           (lt-ltb (partner t rows edge) (rowsIn t) inside)
           ∙ ap (λ (p : ℕ). assembledFrom t edges (set rows (lowerOf edge) p)) is in
           (ap (λ (a : Assembly). a .complete) step ∙ later .0, subst (λ (a : Assembly). Agrees (a .rows)) (sym step) (later .1))
@@ -173,7 +151,7 @@ module _ (layers : Layers) (target closure : ℕ) (t : Table) (orderly : Orderly
             (row-for-each layers target closure here whole t head inside e layer r);
         paired = λ upper lower r n.
             (let w = edge-listed layers target closure here whole upper lower r n in
-            let m = all-met t es _ (begin-long t target head small) e (w .0) (w .1 .inside) in
+            let m = all-met t es _ (begin-long t target head small) e (led-edges layers target closure here whole t head inside) (w .0) (w .1 .inside) in
             ap (λ (l : ℕ). decodingOf t (getD (assembled t es target head .rows) l 0)) (sym (w .1 .lower-is))
             ∙ m .paired
             ∙ ap (λ (u : ℕ). matchOf t (getD (assembled t es target head .rows) u 0)) (w .1 .upper-is));
@@ -187,7 +165,7 @@ module _ (layers : Layers) (target closure : ℕ) (t : Table) (orderly : Orderly
       let here = orderly .closed-over .here in
       let whole = orderly .closed-over .whole in
       let small = target-below layers target closure here whole in
-      let w = followed t choice es _ agrees fits led in (
+      let w = followed t choice es _ agrees fits (led-edges layers target closure here whole t head inside) in (
         w .0,
         λ layer r. w .1 .same layer (rests-below layers target closure here whole layer r)
             (row-for-each layers target closure here whole t head inside (w .0) layer r),
@@ -215,21 +193,6 @@ module _ (layers : Layers) (target closure : ℕ) (t : Table) (orderly : Orderly
             own = a .of-layer (lowerOf (getD es i 0)) lower;
             timed = a .paired (upperOf (getD es i 0)) (lowerOf (getD es i 0)) (w .0) (w .1);
           }
-
-      led : (i : ℕ) → i < length es
-          → (getD (set (lib.ListN.replicate 64 (rowsIn t)) target head) (upperOf (getD es i 0)) 0 < rowsIn t)
-          ⊎ ((j : ℕ) × (j < i) × (lowerOf (getD es j 0) ≡ upperOf (getD es i 0)))
-      led i h =
-          go (led-before layers target closure (orderly .closed-over .here) (orderly .closed-over .whole) i (upperOf (getD es i 0)) (lowerOf (getD es i 0))
-          (record { inside = h; upper-is = refl; lower-is = refl }))
-        where
-          go : (upperOf (getD es i 0) ≡ target) ⊎ ((j : ℕ) × (j < i) × (lowerOf (getD es j 0) ≡ upperOf (getD es i 0)))
-              → (getD (set (lib.ListN.replicate 64 (rowsIn t)) target head) (upperOf (getD es i 0)) 0 < rowsIn t)
-              ⊎ ((j : ℕ) × (j < i) × (lowerOf (getD es j 0) ≡ upperOf (getD es i 0)))
-          go (inl e) =
-              inl (subst (λ (u : ℕ). getD (set (lib.ListN.replicate 64 (rowsIn t)) target head) u 0 < rowsIn t) (sym e)
-              (subst (λ (x : ℕ). x < rowsIn t) (sym (begin-target t target head small)) inside))
-          go (inr w) = inr w
 
 -- 15 exactly at the target rows with no assembly
 module _ (layers : Layers) (target closure : ℕ) (t : Table) (orderly : Orderly layers target closure t) (k : ℕ) (inside : k < rowsIn t) where

@@ -9,7 +9,7 @@ use mathlib.Core.Logic.{_⊎_, inl, inr}
 use native.Mathlib.Omega.{arith}
 use borrow.Author.Tests.{lt-ltb, ltb-true, eqb-true}
 use lib.Dec.{ltb}
-use lib.ListN.{length, getD}
+use lib.ListN.{length, getD, set}
 use Rattle.closure.specs.declared.Layers.{Layers}
 use Rattle.closure.specs.Closures.{isLayer}
 use Rattle.closure.specs.Meaning.{Names, RestsOn, itself, by, WholeClosure}
@@ -20,8 +20,8 @@ use Rattle.combinators.specs.Once.{Once, once-places}
 use Rattle.combinators.specs.Those.{those-at, those-which, those-rise, those-earlier}
 use Rattle.sets.specs.Sets.{has}
 use Rattle.rows.specs.Table.{Table, rowsIn, layerOf}
-use Rattle.assembling.specs.Assemblies.{upperOf, lowerOf, joins, isEdge, edgesOf, membersOf, assembled}
-use Rattle.assembling.proofs.Assembled.{all-met, all-own, heads, begin-long, begin-own}
+use Rattle.assembling.specs.Assemblies.{upperOf, lowerOf, joins, isEdge, edgesOf, membersOf, noRows, assembled}
+use Rattle.assembling.proofs.Assembled.{Led, all-met, all-own, heads, begin-long, begin-target, begin-own}
 use Rattle.joining.specs.Units.{frameOf, unitFrom, unitOf}
 use Rattle.joining.specs.Judging.{Whole}
 use Rattle.joining.proofs.Marking.{unit-at, unit-long}
@@ -124,6 +124,20 @@ module _ (layers : Layers) (target closure : ℕ) (here : isLayer layers target 
       go (inl e) = inl e
       go (inr w) = inr (w .0, earlier i (w .0) upper lower (w .1) upper p (w .3) (w .2), w .3 .lower-is)
 
+  pub led-edges : (t : Table) (head : ℕ) → head < rowsIn t → Led t (edgesOf layers closure) (set (noRows (rowsIn t)) target head)
+  led-edges t head h i l =
+      go (led-before i (upperOf (getD (edgesOf layers closure) i 0)) (lowerOf (getD (edgesOf layers closure) i 0))
+      (record { inside = l; upper-is = refl; lower-is = refl }))
+    where
+      go : (upperOf (getD (edgesOf layers closure) i 0) ≡ target)
+          ⊎ ((j : ℕ) × (j < i) × (lowerOf (getD (edgesOf layers closure) j 0) ≡ upperOf (getD (edgesOf layers closure) i 0)))
+          → (getD (set (noRows (rowsIn t)) target head) (upperOf (getD (edgesOf layers closure) i 0)) 0 < rowsIn t)
+          ⊎ ((j : ℕ) × (j < i) × (lowerOf (getD (edgesOf layers closure) j 0) ≡ upperOf (getD (edgesOf layers closure) i 0)))
+      go (inl e) =
+          inl (subst (λ (u : ℕ). getD (set (noRows (rowsIn t)) target head) u 0 < rowsIn t) (sym e)
+          (subst (λ (x : ℕ). x < rowsIn t) (sym (begin-target t target head target-below)) h))
+      go (inr w) = inr w
+
   -- ---- a complete assembly has a row for each layer of the closure
 
   pub row-for-each : (t : Table) (head : ℕ) → head < rowsIn t → assembled t (edgesOf layers closure) target head .complete ≡ true
@@ -137,7 +151,7 @@ module _ (layers : Layers) (target closure : ℕ) (here : isLayer layers target 
           (subst (λ (x : ℕ). x < rowsIn t) (sym (heads t target head target-below (edgesOf layers closure) h e)) h)
       go (inr w) =
           subst (λ (l : ℕ). getD (assembled t (edgesOf layers closure) target head .rows) l 0 < rowsIn t) (w .3 .lower-is)
-          (all-met t (edgesOf layers closure) _ (begin-long t target head target-below) e (w .0) (w .3 .inside) .lower-row)
+          (all-met t (edgesOf layers closure) _ (begin-long t target head target-below) e (led-edges t head h) (w .0) (w .3 .inside) .lower-row)
 
   -- each a row of its own layer, so that none stands in it twice
   unit-once : (t : Table) (head : ℕ) → head < rowsIn t → layerOf t head ≡ target → assembled t (edgesOf layers closure) target head .complete ≡ true

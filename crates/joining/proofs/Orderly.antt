@@ -36,7 +36,7 @@ module _ (layers : Layers) (target closure : ℕ) (t : Table) (orderly : Orderly
   pub ready : (starts order : List ℕ) → Starts (t .indices) starts → Order (t .indices) order → Ready t starts order (edgesOf layers closure)
   ready starts order s o =
       record {
-        sorted = record { same-length = orderly .decoded; short = orderly .short; starting = s; ordered = o };
+        sorted = record { same-length = orderly .decoded; starting = s; ordered = o };
         matched = orderly .matched;
         rising = λ i h.
             (let w = edge-names layers target closure (orderly .closed-over .here) (orderly .closed-over .whole) i h in

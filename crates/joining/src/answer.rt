@@ -3,7 +3,7 @@ ghost use mathlib.Core.Path.{_≡_};
 ghost use Prim.Native.Nat.{_≤_};
 ghost use lib.ListN.{length};
 ghost use Rattle.combinators.specs.Below.{count};
-ghost use Rattle.rows.specs.Table.{table};
+ghost use Rattle.rows.specs.Table.{table, mostRows};
 ghost use Rattle.assembling.specs.Index.{Ready};
 ghost use Rattle.joining.specs.Units.{frame, frameOf};
 ghost use Rattle.joining.specs.Judging.{Whole};
@@ -12,8 +12,8 @@ ghost use Rattle.joining.specs.Joining.{isSpare, unitsJoined, tableJoine
 use super::units::judge;
 use super::writing::write_units;
 use assembling::edges_of;
+use assembling::lay_order;
 use assembling::members_of;
-use assembling::order_of;
 use assembling::starts_of;
 use closure::Closure;
 use closure::Layers;
@@ -55,7 +55,7 @@ fn join_framed(
     decodings: &[u64],
     matches: &[u64],
     starts: &[usize; 65],
-    order: &[usize; MOST_ROWS],
+    order: &[usize],
     edges: &[u16],
     members: &[u8],
     target: usize,
@@ -63,7 +63,8 @@ fn join_framed(
     lags: &mut [i64],
 ) -> Joined
     requires { ⌜ Ready (table (now indices) (now decodings) (now matches)) (now starts) (now order) (now edges)
-        × Whole (table (now indices) (now decodings) (now matches)) (frame target (now members) (now edges)) ⌝ }
+        × Whole (table (now indices) (now decodings) (now matches)) (frame target (now members) (now edges))
+        × (length (now indices) ≤ mostRows) ⌝ }
     ensures answer { λ r. ⌜ r
         ≡ unitsJoined (table (now (indices .entry)) (now (decodings .entry)) (now (matches .entry))) closure
         (frame target (now (members .entry)) (now (edges .entry))) (length (now (numbers .entry))) (length (now (lags .entry))) ⌝ }
@@ -140,7 +141,8 @@ fn join_ordered(
         (now (lags .entry)) ⌝ }
 {
     let starts = starts_of(indices);
-    let order = order_of(indices, starts);
+    let mut order = [0usize; MOST_ROWS];
+    lay_order(indices, starts, &mut order);
     let edges = edges_of(layers, closure);
     let count = edges.count;
     let pairs = edges.list;

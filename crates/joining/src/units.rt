@@ -12,7 +12,6 @@ ghost use Rattle.assembling.specs.Index.{Ready};
 ghost use Rattle.joining.specs.Units.{frame, unitFrom, unpaired, firstUnpaired};
 ghost use Rattle.joining.specs.Judging.{Placed, Whole, cleared, marked, MarkedAt, Judges};
 use assembling::assemble;
-use rows::MOST_ROWS;
 
 // What was found of the target rows: the first with no assembly and the first that shares a row, each the number of rows where there is
 // none; and where there is neither, how many units there are, and how many places their rows fill.
@@ -71,7 +70,7 @@ fn first_unpaired(
     decodings: &[u64],
     matches: &[u64],
     starts: &[usize; 65],
-    order: &[usize; MOST_ROWS],
+    order: &[usize],
     edges: &[u16],
     target: usize,
     from: usize,
@@ -117,7 +116,7 @@ pub fn judge(
     decodings: &[u64],
     matches: &[u64],
     starts: &[usize; 65],
-    order: &[usize; MOST_ROWS],
+    order: &[usize],
     edges: &[u16],
     members: &[u8],
     target: usize,

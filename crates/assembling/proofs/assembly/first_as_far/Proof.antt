@@ -23,38 +23,38 @@ abbrev μ-loop : tie.MeasureT-loop
     high - low
 
 loop-holds : tie.Need-loop-holds Inv-loop μ-loop
-loop-holds c = (omega arith, c .before .pre .nonempty, omega arith, λ q h l. absurd (omega arith), λ q h l. absurd (omega arith))
+loop-holds c = (omega arith, c .before .before .pre .nonempty, omega arith, λ q h l. absurd (omega arith), λ q h l. absurd (omega arith))
 
 sub-middle : tie.Need-sub-middle Inv-loop μ-loop
 sub-middle c = omega arith
 
 add-middle : tie.Need-add-middle Inv-loop μ-loop
-add-middle c = omega (arith, c .before .before .before .pre .inside)
+add-middle c = omega (arith, c .before .before .before .before .pre .inside)
 
 mul-distance : tie.Need-mul-distance Inv-loop μ-loop
-mul-distance c = omega (arith, c .before .before .before .pre .inside)
-
-element-copy-out-distance : tie.Need-element-copy-out-distance Inv-loop μ-loop
-element-copy-out-distance c = omega (arith, c .before .before .before .pre .inside)
-
-row-inside : (c : tie.In-loop Inv-loop μ-loop)
-    → getD (c .before .before .before .args .order .now) (c .before .loop .low + (c .before .loop .high - c .before .loop .low) / 2) 0
-    < length (c .before .before .before .args .decodings .now)
-row-inside c =
-    let at = c .before .loop in
-    c .before .before .before .pre .rows (at .low + (at .high - at .low) / 2) (omega arith) (omega arith)
-
-mul-distance-2 : tie.Need-mul-distance-2 Inv-loop μ-loop
-mul-distance-2 c = omega (arith, row-inside (c .before), c .before .before .before .before .good)
+mul-distance c = omega (arith, c .before .before .before .before .pre .inside)
 
 shared-slice-read-distance : tie.Need-shared-slice-read-distance Inv-loop μ-loop
-shared-slice-read-distance c = row-inside (c .before .before)
+shared-slice-read-distance c = omega (arith, c .before .before .before .before .before .pre .inside)
+
+row-inside : (c : tie.In-loop Inv-loop μ-loop)
+    → getD (c .before .before .before .before .args .order .now) (c .before .loop .low + (c .before .loop .high - c .before .loop .low) / 2) 0
+    < length (c .before .before .before .before .args .decodings .now)
+row-inside c =
+    let at = c .before .loop in
+    c .before .before .before .before .pre .rows (at .low + (at .high - at .low) / 2) (omega arith) (omega arith)
+
+mul-distance-2 : tie.Need-mul-distance-2 Inv-loop μ-loop
+mul-distance-2 c = omega (arith, row-inside (c .before), c .before .before .before .before .before .good)
+
+shared-slice-read-distance-2 : tie.Need-shared-slice-read-distance-2 Inv-loop μ-loop
+shared-slice-read-distance-2 c = row-inside (c .before .before)
 
 distance-requires : tie.Need-distance-requires Inv-loop μ-loop
 distance-requires c κs = search needs
 
 add-low : tie.Need-add-low Inv-loop μ-loop
-add-low c = omega (arith, c .before .before .before .before .before .before .before .pre .inside)
+add-low c = omega (arith, c .before .before .before .before .before .before .before .before .pre .inside)
 
 loop-less : tie.Need-loop-less Inv-loop μ-loop
 loop-less c = omega arith
@@ -62,7 +62,7 @@ loop-less c = omega arith
 loop-again : tie.Need-loop-again Inv-loop μ-loop
 loop-again c =
     let at = c .before .before .before .before .before .loop in
-    let begin = c .before .before .before .before .before .before .before in
+    let begin = c .before .before .before .before .before .before .before .before in
     let middle : ℕ = at .low + (at .high - at .low) / 2 in
     let less = less-before _ _ (begin .args .origin) (begin .args .far) _ _ (begin .pre) middle (omega arith)
     (subst (λ (d : ℕ). d < begin .args .far) (c .before .distance .ensures) (c .if1 .taken)) in
@@ -74,7 +74,7 @@ loop-less-2 c = omega arith
 loop-again-2 : tie.Need-loop-again-2 Inv-loop μ-loop
 loop-again-2 c =
     let at = c .before .before .before .before .before .loop in
-    let begin = c .before .before .before .before .before .before .before in
+    let begin = c .before .before .before .before .before .before .before .before in
     let middle : ℕ = at .low + (at .high - at .low) / 2 in
     let more = more-after _ _ (begin .args .origin) (begin .args .far) _ _ (begin .pre) middle (omega arith)
     (subst (λ (d : ℕ). begin .args .far ≤ d) (c .before .distance .ensures) (c .if1 .left)) in
@@ -100,9 +100,9 @@ first-as-far-spec =
     sub-middle
     add-middle
     mul-distance
-    element-copy-out-distance
-    mul-distance-2
     shared-slice-read-distance
+    mul-distance-2
+    shared-slice-read-distance-2
     distance-requires
     add-low
     loop-less

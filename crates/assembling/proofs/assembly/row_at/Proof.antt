@@ -12,16 +12,16 @@ use Rattle.assembling.proofs.assembly.row_at.Tie as tie
 
 -- the guess lies among the places of the layer's rows, which climb
 climbing-at : (c : tie.Then1)
-    → Climbing (c .before .before .before .before .before .before .before .args .decodings .now) (c .before .before .before .before .before .before .before .args .order .now)
-    (getD (c .before .before .before .before .before .before .before .args .decodings .now) (getD (c .before .before .before .before .before .before .before .args .order .now) (getD (c .before .before .before .before .before .before .before .args .starts .now) (c .before .before .before .before .before .before .before .args .layer) 0) 0) 0)
-    (getD (c .before .before .before .before .before .before .before .args .starts .now) (c .before .before .before .before .before .before .before .args .layer) 0)
-    (getD (c .before .before .before .before .before .before .before .args .starts .now) (c .before .before .before .before .before .before .before .args .layer + 1) 0)
+    → Climbing (c .before .before .before .before .before .before .before .before .args .decodings .now) (c .before .before .before .before .before .before .before .before .args .order .now)
+    (getD (c .before .before .before .before .before .before .before .before .args .decodings .now) (getD (c .before .before .before .before .before .before .before .before .args .order .now) (getD (c .before .before .before .before .before .before .before .before .args .starts .now) (c .before .before .before .before .before .before .before .before .args .layer) 0) 0) 0)
+    (getD (c .before .before .before .before .before .before .before .before .args .starts .now) (c .before .before .before .before .before .before .before .before .args .layer) 0)
+    (getD (c .before .before .before .before .before .before .before .before .args .starts .now) (c .before .before .before .before .before .before .before .before .args .layer + 1) 0)
 climbing-at c =
-    let begin = c .before .before .before .before .before .before .before in
+    let begin = c .before .before .before .before .before .before .before .before in
     climbing (begin .args .indices .now) (begin .args .decodings .now) (begin .args .starts .now) (begin .args .order .now)
     (begin .pre .0) (begin .args .layer) (begin .pre .1) (begin .pre .2) (omega (arith, c .if1 .taken, c .before .before .guess-of .ensures)) _ refl
 
-row-inside : (c : tie.Then1) → getD (c .before .before .before .before .before .before .before .args .order .now) (c .before .before .guess-of .result) 0 < length (c .before .before .before .before .before .before .before .args .decodings .now)
+row-inside : (c : tie.Then1) → getD (c .before .before .before .before .before .before .before .before .args .order .now) (c .before .before .guess-of .result) 0 < length (c .before .before .before .before .before .before .before .before .args .decodings .now)
 row-inside c = climbing-at c .rows _ (c .before .before .guess-of .ensures) (c .if1 .taken)
 
 mul-guess-of : tie.Need-mul-guess-of
@@ -49,13 +49,13 @@ element-copy-out-if1 : tie.Need-element-copy-out-if1
 element-copy-out-if1 c = search needs
 
 mul-row : tie.Need-mul-row
-mul-row c = omega (arith, climbing-at (c) .inside, c .if1 .taken)
+mul-row c = omega (arith, climbing-at c .inside, c .if1 .taken)
 
-element-copy-out-row : tie.Need-element-copy-out-row
-element-copy-out-row c = omega (arith, climbing-at (c) .inside, c .if1 .taken)
+shared-slice-read-row : tie.Need-shared-slice-read-row
+shared-slice-read-row c = omega (arith, climbing-at (c .before) .inside, c .before .if1 .taken)
 
 mul-if2 : tie.Need-mul-if2
-mul-if2 c = omega (arith, row-inside (c .before), c .before .before .before .before .before .before .before .before .good)
+mul-if2 c = omega (arith, row-inside (c .before), c .before .before .before .before .before .before .before .before .before .good)
 
 shared-slice-read-if2 : tie.Need-shared-slice-read-if2
 shared-slice-read-if2 c = row-inside (c .before .before)
@@ -71,7 +71,7 @@ element-write-next c = search needs
 
 returns : tie.Need-returns
 returns c =
-    let begin = c .before .before .before .before .before .before .before .before .before .before in
+    let begin = c .before .before .before .before .before .before .before .before .before .before .before in
     at-guess (begin .args .indices .now) (begin .args .decodings .now) (begin .args .starts .now) (begin .args .order .now)
     (begin .pre .0) (begin .args .layer) (begin .pre .1) (begin .pre .2) (omega (arith, c .before .before .before .if1 .taken, c .before .before .before .before .before .guess-of .ensures)) _ refl (begin .args .time) _
     (c .before .before .before .before .before .guess-of .ensures) (c .before .before .before .if1 .taken) (c .if2 .taken)
@@ -95,7 +95,7 @@ row-at-spec =
     mul-if1
     element-copy-out-if1
     mul-row
-    element-copy-out-row
+    shared-slice-read-row
     mul-if2
     shared-slice-read-if2
     add-next

@@ -19,8 +19,8 @@ slice-aggregate-judge-2 c = search needs
 
 judge-requires : tie.Need-judge-requires
 judge-requires c κs =
-    let begin = c .before .before .before .before .before .before .before .before in
-    let short = begin .pre .0 .sorted .short in (
+    let begin = c .before .before .before .before .before .before .before .before .before in
+    let short = begin .pre .2 in (
       begin .pre .0,
       begin .pre .1,
       marks-start (length (begin .args .indices .now)) mostRows short,
@@ -29,28 +29,28 @@ judge-requires c κs =
 
 returns : tie.Need-returns
 returns c =
-    let a = c .before .before .before .before .before .before .before .before .before .before .before .before .before .args in
+    let a = c .before .before .before .before .before .before .before .before .before .before .before .before .before .before .args in
     let t = table (a .indices .now) (a .decodings .now) (a .matches .now) in
     let f = frame (a .target) (a .members .now) (a .edges .now) in
     (is-unpaired t (a .closure) f (length (a .numbers .now)) (length (a .lags .now)) _ _ _ (c .before .before .before .before .judge .ensures) (c .if1 .taken), (refl, refl))
 
 returns-2 : tie.Need-returns-2
 returns-2 c =
-    let a = c .before .before .before .before .before .before .before .before .before .before .before .before .before .before .before .args in
+    let a = c .before .before .before .before .before .before .before .before .before .before .before .before .before .before .before .before .args in
     let t = table (a .indices .now) (a .decodings .now) (a .matches .now) in
     let f = frame (a .target) (a .members .now) (a .edges .now) in
     (is-shared t (a .closure) f (length (a .numbers .now)) (length (a .lags .now)) _ _ _ (c .before .before .before .before .before .before .judge .ensures) (c .before .before .if1 .left) (c .if2 .taken), (refl, refl))
 
 returns-3 : tie.Need-returns-3
 returns-3 c =
-    let a = c .before .before .before .before .before .before .before .before .before .before .before .before .before .before .before .before .before .args in
+    let a = c .before .before .before .before .before .before .before .before .before .before .before .before .before .before .before .before .before .before .args in
     let t = table (a .indices .now) (a .decodings .now) (a .matches .now) in
     let f = frame (a .target) (a .members .now) (a .edges .now) in
     (no-number-room t (a .closure) f (length (a .numbers .now)) (length (a .lags .now)) _ _ _ (c .before .before .before .before .before .before .before .before .judge .ensures) (c .before .before .before .before .if1 .left) (c .before .before .if2 .left) (c .if3 .taken), (refl, refl))
 
 returns-4 : tie.Need-returns-4
 returns-4 c =
-    let a = c .before .before .before .before .before .before .before .before .before .before .before .before .before .before .before .before .before .before .before .args in
+    let a = c .before .before .before .before .before .before .before .before .before .before .before .before .before .before .before .before .before .before .before .before .args in
     let t = table (a .indices .now) (a .decodings .now) (a .matches .now) in
     let f = frame (a .target) (a .members .now) (a .edges .now) in
     (no-lag-room t (a .closure) f (length (a .numbers .now)) (length (a .lags .now)) _ _ _ (c .before .before .before .before .before .before .before .before .before .before .judge .ensures) (c .before .before .before .before .before .before .if1 .left) (c .before .before .before .before .if2 .left) (c .before .before .if3 .left) (c .if4 .taken), (refl, refl))
@@ -60,7 +60,7 @@ slice-aggregate-write-units c = search needs
 
 write-units-requires : tie.Need-write-units-requires
 write-units-requires c κs =
-    let begin = c .before .before .before .before .before .before .before .before .before .before .before .before .before .before .before .before .before .before .before .before .before .before in
+    let begin = c .before .before .before .before .before .before .before .before .before .before .before .before .before .before .before .before .before .before .before .before .before .before .before in
     let a = begin .args in
     let t = table (a .indices .now) (a .decodings .now) (a .matches .now) in
     let f = frame (a .target) (a .members .now) (a .edges .now) in
@@ -72,7 +72,7 @@ slice-aggregate-count-left-out c = search needs
 
 count-left-out-requires : tie.Need-count-left-out-requires
 count-left-out-requires c κs =
-    let a = c .before .before .before .before .before .before .before .before .before .before .before .before .before .before .before .before .before .before .before .before .before .before .before .before .before .before .before .args in
+    let a = c .before .before .before .before .before .before .before .before .before .before .before .before .before .before .before .before .before .before .before .before .before .before .before .before .before .before .before .before .args in
     let t = table (a .indices .now) (a .decodings .now) (a .matches .now) in
     let f = frame (a .target) (a .members .now) (a .edges .now) in
     marks-long t (a .closure) f (length (a .numbers .now)) (length (a .lags .now)) _ _ _ (c .before .before .before .before .before .before .before .before .before .before .before .before .before .before .before .before .before .before .judge .ensures) (c .before .before .before .before .before .before .before .before .before .before .before .before .before .before .if1 .left) (c .before .before .before .before .before .before .before .before .before .before .before .before .if2 .left)
@@ -85,7 +85,7 @@ same-length-2 c = search needs
 
 returns-5 : tie.Need-returns-5
 returns-5 c =
-    let a = c .before .before .before .before .before .before .before .before .before .before .before .before .before .before .before .before .before .before .before .before .before .before .before .before .before .before .before .before .args in
+    let a = c .before .before .before .before .before .before .before .before .before .before .before .before .before .before .before .before .before .before .before .before .before .before .before .before .before .before .before .before .before .args in
     let t = table (a .indices .now) (a .decodings .now) (a .matches .now) in
     let f = frame (a .target) (a .members .now) (a .edges .now) in
     let found = c .before .before .before .before .before .before .before .before .before .before .before .before .before .before .before .before .before .before .before .judge .ensures in

@@ -32,16 +32,16 @@ abbrev μ-loop : tie.MeasureT-loop
     length indices - row
 
 loop-holds : tie.Need-loop-holds Inv-loop μ-loop
-loop-holds c = (walked-start _ _ _ _ (c .before .before .before .before .before .before .before .pre .2) (c .before .before .before .before .before .before .before .pre .3), refl, refl, refl)
+loop-holds c = (walked-start _ _ _ _ (c .before .before .before .before .before .before .before .before .pre .2) (c .before .before .before .before .before .before .before .before .pre .3), refl, refl, refl)
 
 shared-slice-read-if1 : tie.Need-shared-slice-read-if1 Inv-loop μ-loop
 shared-slice-read-if1 c = omega arith
 
 cast-if1 : tie.Need-cast-if1 Inv-loop μ-loop
-cast-if1 c = omega (arith, c .shared-slice-known6 .given (c .before .before .loop .row))
+cast-if1 c = omega (arith, c .shared-slice-known7 .given (c .before .before .loop .row))
 
 assemble-requires : tie.Need-assemble-requires Inv-loop μ-loop
-assemble-requires c κs = (c .before .before .before .before .before .before .before .before .before .before .before .before .before .pre .0, c .before .before .before .before .before .before .before .before .before .before .before .before .before .pre .1 .top, c .before .before .before .before .before .loop .inv .3)
+assemble-requires c κs = (c .before .before .before .before .before .before .before .before .before .before .before .before .before .before .pre .0, c .before .before .before .before .before .before .before .before .before .before .before .before .before .before .pre .1 .top, c .before .before .before .before .before .loop .inv .3)
 
 same-length : tie.Need-same-length Inv-loop μ-loop
 same-length c = c .before .before .before .before .before .before .before .loop .inv .1
@@ -59,7 +59,7 @@ returns c =
 
 any-used-requires : tie.Need-any-used-requires Inv-loop μ-loop
 any-used-requires c κs =
-    let begin = c .before .before .before .before .before .before .before .before .before .before .before .before .before .before .before .before .before in
+    let begin = c .before .before .before .before .before .before .before .before .before .before .before .before .before .before .before .before .before .before in
     let loop = c .before .before .before .before .before .before .before .before .before .loop in
     subst (λ (rows : List ℕ). Placed (begin .args .members .now) rows (length (loop .used))) (sym (c .before .before .before .assemble .ensures .1))
     (chosen _ _ _ _ _ _ _ (loop .inv .0) (c .before .before .before .before .before .before .before .before .loop-test .taken) (eq-eqb _ _ (c .before .before .before .before .before .before .if1 .taken)) (begin .pre .1)
@@ -70,7 +70,7 @@ add-first-unpaired c = omega arith
 
 first-unpaired-requires : tie.Need-first-unpaired-requires Inv-loop μ-loop
 first-unpaired-requires c κs =
-    let begin = c .before .before .before .before .before .before .before .before .before .before .before .before .before .before .before .before .before .before .before in
+    let begin = c .before .before .before .before .before .before .before .before .before .before .before .before .before .before .before .before .before .before .before .before in
     let loop = c .before .before .before .before .before .before .before .before .before .before .before .loop in (
       begin .pre .0,
       begin .pre .1 .top,
@@ -86,7 +86,7 @@ same-length-4 c = c .before .before .before .before .before .before .before .bef
 
 returns-2 : tie.Need-returns-2 Inv-loop μ-loop
 returns-2 c =
-    let begin = c .before .before .before .before .before .before .before .before .before .before .before .before .before .before .before .before .before .before .before .before in
+    let begin = c .before .before .before .before .before .before .before .before .before .before .before .before .before .before .before .before .before .before .before .before .before in
     let loop = c .before .before .before .before .before .before .before .before .before .before .before .before .loop in
     let inside = c .before .before .before .before .before .before .before .before .before .before .before .loop-test .taken in
     stopped-sharing _ _ _ _ _ (c .first-unpaired .ensures) inside
@@ -97,7 +97,7 @@ returns-2 c =
 
 keep-requires : tie.Need-keep-requires Inv-loop μ-loop
 keep-requires c κs =
-    let begin = c .before .before .before .before .before .before .before .before .before .before .before .before .before .before .before .before .before .before .before .before .before .before in
+    let begin = c .before .before .before .before .before .before .before .before .before .before .before .before .before .before .before .before .before .before .before .before .before .before .before in
     let loop = c .before .before .before .before .before .before .before .before .before .before .before .before .before .before .loop in
     let inside = c .before .before .before .before .before .before .before .before .before .before .before .before .before .loop-test .taken in
     let m = eq-eqb _ _ (c .before .before .before .before .before .before .before .before .before .before .before .if1 .taken) in
@@ -111,7 +111,7 @@ keep-requires c κs =
 
 add-places : tie.Need-add-places Inv-loop μ-loop
 add-places c =
-    let begin = c .before .before .before .before .before .before .before .before .before .before .before .before .before .before .before .before .before .before .before .before .before .before .before .before .before .before .before in
+    let begin = c .before .before .before .before .before .before .before .before .before .before .before .before .before .before .before .before .before .before .before .before .before .before .before .before .before .before .before .before in
     let loop = c .before .before .before .before .before .before .before .before .before .before .before .before .before .before .before .before .before .before .before .loop in
     omega (
       arith,
@@ -119,12 +119,11 @@ add-places c =
           (sym (c .before .before .before .before .before .before .before .before .before .before .before .before .before .assemble .ensures .0) ∙ not-false _ (c .before .before .before .before .before .before .before .before .before .before .before .before .if2 .left))
           (sym (c .before .before .before .before .before .before .before .before .if3 .left) ∙ c .before .before .before .before .before .before .before .before .before .any-used .ensures
           ∙ ap (λ (rows : List ℕ). any (λ row. getD (loop .used) row false) (unitFrom (begin .args .members .now) rows)) (c .before .before .before .before .before .before .before .before .before .before .before .before .before .assemble .ensures .1)),
-      begin .pre .0 .sorted .short,
     )
 
 add-units : tie.Need-add-units Inv-loop μ-loop
 add-units c =
-    let begin = c .before .before .before .before .before .before .before .before .before .before .before .before .before .before .before .before .before .before .before .before .before .before .before .before .before .before .before in
+    let begin = c .before .before .before .before .before .before .before .before .before .before .before .before .before .before .before .before .before .before .before .before .before .before .before .before .before .before .before .before in
     let loop = c .before .before .before .before .before .before .before .before .before .before .before .before .before .before .before .before .before .before .before .loop in
     omega (
       arith,
@@ -141,7 +140,7 @@ loop-less c = omega arith
 
 loop-again : tie.Need-loop-again Inv-loop μ-loop
 loop-again c =
-    let begin = c .before .before .before .before .before .before .before .before .before .before .before in
+    let begin = c .before .before .before .before .before .before .before .before .before .before .before .before in
     let loop = c .before .before .before .loop in
     let inside = c .before .before .loop-test .taken in
     let t = table (begin .args .indices .now) (begin .args .decodings .now) (begin .args .matches .now) in

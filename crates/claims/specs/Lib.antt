@@ -1,0 +1,3 @@
+pub mod Claims
+pub mod Marks
+pub mod Meaning
