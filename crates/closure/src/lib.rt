@@ -22,7 +22,7 @@ pub enum Closure {
 }
 
 // The set of the indices that a layer names: those of its embedded indices below its own, and none where the loop has no such layer.
-fn named(present: u64, embedded: u64, index: usize) -> u64
+pub fn named(present: u64, embedded: u64, index: usize) -> u64
     ensures { λ r. ⌜ r ≡ namedBy (has present index) embedded index ⌝ }
 {
     if !sets::member(present, index) {
