@@ -169,6 +169,42 @@ head-within l head = go (walked headSyntax [] 0 l) (leb (walked headSyntax [] 0 
         let same : headFrom w ≡ head = cc in
         subst (λ (n : ℕ). n ≤ length l) (ap (λ (x : Head). x .«points_at») same) (leb-true (w .end) (length l) p)
 
+-- the profiles fill what stands between the two counts
+pub profiles-between : (l : List ℕ) → AreBytes l → (head : Head) → headOf l ≡ Before head → 1 + head .«num_ptl» * 12 + 1 ≡ head .«points_at»
+profiles-between l b head e =
+    go (leb (1 + getD l 0 0 % 64 * 12 + 1) (length l)) (sym (head-by l b) ∙ e)
+  where
+    go : (f : Bool)
+        → cond f (Before (record {
+          «num_ptl» = getD l 0 0 % 64;
+          «operation_points_count» = getD l (1 + getD l 0 0 % 64 * 12) 0;
+          «points_at» = 1 + getD l 0 0 % 64 * 12 + 1;
+        })) HeadDoesNotFit ≡ Before head
+        → 1 + head .«num_ptl» * 12 + 1 ≡ head .«points_at»
+    go false p = let z : _≡_ {A = ℕ} 0 1 = cc in absurd (omega arith)
+    go true p =
+        let same : _≡_ {A = Head} (record {
+          «num_ptl» = getD l 0 0 % 64;
+          «operation_points_count» = getD l (1 + getD l 0 0 % 64 * 12) 0;
+          «points_at» = 1 + getD l 0 0 % 64 * 12 + 1;
+        }) head = cc in
+        subst (λ (h : Head). 1 + h .«num_ptl» * 12 + 1 ≡ h .«points_at») same refl
+
+-- The two lists of a point that was read stand within it: the references behind its head, and the flags behind their count.
+pub record ListsWithin (point : Point) : Type 0 where
+  pub references : 2 + point .«es_count» < point .«flags_at»
+  pub layer-flags : point .«flags_at» + point .«num_es_in_op» < point .size
+
+pub lists-within : (l : List ℕ) → AreBytes l → (point : Point) → firstPoint l ≡ Read point → ListsWithin point
+lists-within l b point e = go (isReserved l) (leb (endAt (atIn l b) (byteIn l b)) (length l)) (sym (point-by l b) ∙ e)
+  where
+    go : (r f : Bool) → cond r ReservedCount (cond f (Read (pointFrom (walkIn l b))) DoesNotFit) ≡ Read point → ListsWithin point
+    go true f p = let z : _≡_ {A = ℕ} 0 1 = cc in absurd (omega arith)
+    go false false p = let z : _≡_ {A = ℕ} 0 1 = cc in absurd (omega arith)
+    go false true p =
+        let same : pointFrom (walkIn l b) ≡ point = cc in
+        subst ListsWithin same (record { references = omega arith; layer-flags = omega arith })
+
 -- ---- the loop over the points
 
 module _ (payload : List ℕ) (count first : ℕ) where

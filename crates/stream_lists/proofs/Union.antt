@@ -18,12 +18,12 @@ use Rattle.closure.specs.declared.Layers.{Layers}
 use Rattle.closure.specs.Closures.{isLayer, restedOn}
 use Rattle.closure.specs.Meaning.{RestsOn, itself, by}
 use Rattle.closure.proofs.Reached.{layer-below-64, member-rests-on, rests-on-member}
-use Rattle.stream_lists.specs.Lists.{referred, asked, setOf, inOrder, referring}
+use Rattle.stream_lists.specs.Lists.{referred, asked, setOf, inOrder, referring, isClosed}
 use Rattle.stream_lists.specs.Meaning.{NoLayer, dependency, Lists, none, next, Closed, ClosuresJoined, Ordered}
 use Rattle.stream_lists.proofs.Ordered.{order-ascending, member-order, member-holds, holds-member}
 use Rattle.stream_lists.proofs.Placed.{member-placed}
 use Rattle.stream_lists.proofs.Building.{has-set, asked-within}
-use Rattle.stream_lists.proofs.Meant.{asked-names, adds-only}
+use Rattle.stream_lists.proofs.Meant.{asked-names, adds-only, closed-meant, closed-only}
 
 -- every member is a layer of the loop
 abbrev pub AllLayers : Layers → List ℕ → Type 0
@@ -127,3 +127,11 @@ module _ (layers : Layers) where
   closed-union references list ordered clear l o =
       let all : AllLayers layers list = lists-layers clear l (λ i m. apart m) in
       (λ c. joined list all c ordered o, λ u. union-closed list all ordered o u)
+
+  -- and so of what `closed` answers for it
+  pub closed-call-union : (references list ordered : List ℕ) → ((k reference : ℕ) → Nth references k reference → NoLayer layers reference → ⊥)
+      → Lists layers [] references list → Ordered list ordered → (isClosed layers (setOf list) ≡ true) ↔ ClosuresJoined layers list ordered
+  closed-call-union references list ordered clear l o =
+      let small = set-small list (lists-layers clear l (λ i m. apart m)) in
+      let u = closed-union references list ordered clear l o in
+      (λ e. u .0 (closed-meant layers (setOf list) small e), λ j. closed-only layers (setOf list) small (u .1 j))

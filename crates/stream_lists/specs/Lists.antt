@@ -1,4 +1,4 @@
--- The list of the elementary streams of an operation point, OperationPointESList, as 2.6.101 of source 000 builds it and as the issue of W-205 settles
+-- The list of the elementary streams of an operation point, OperationPointESList, as 2.6.101 of source 000 builds it and as docs/DECISIONS.md settles
 -- it: 'references in order; each is added at the end when not present yet; with prepend_dependencies 1 its direct embedded layers that are not present
 -- yet go immediately before its place, in ascending order, also when the reference itself was present'.
 -- Assumes nothing.

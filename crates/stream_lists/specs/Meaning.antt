@@ -1,4 +1,4 @@
--- What is right, in the words of W-205 and of 2.6.101, with no word of how it is found.
+-- What is right, in the words of W-205 and of docs/DECISIONS.md, which settle 2.6.101, with no word of how it is found.
 -- proofs/Meant.antt has the laws that join this to what is computed, and proofs/Union.antt what a closed list gives.
 -- Assumes nothing.
 use Prim.Native.Nat.{ℕ}
