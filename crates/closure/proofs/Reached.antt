@@ -23,7 +23,7 @@ module _ (layers : Layers) where
 
   -- ---- the set `named` holds what a layer names
 
-  names : (i j : ℕ) → has (named layers i) j ≡ true → Names layers i j
+  pub names : (i j : ℕ) → has (named layers i) j ≡ true → Names layers i j
   names i j = go (isLayer layers i) refl
     where
       go : (b : Bool) → isLayer layers i ≡ b → has (namedBy b (getD (layers .embedded) i 0) i) j ≡ true → Names layers i j
@@ -36,7 +36,7 @@ module _ (layers : Layers) where
           }
       go false h m = absurd (true≢false (sym m ∙ has-none j))
 
-  has-named : (i j : ℕ) → Names layers i j → has (named layers i) j ≡ true
+  pub has-named : (i j : ℕ) → Names layers i j → has (named layers i) j ≡ true
   has-named i j n =
       ap (λ (b : Bool). has (namedBy b (getD (layers .embedded) i 0) i) j) (n .in-loop)
       ∙ has-below (getD (layers .embedded) i 0) i j

@@ -1,0 +1,4 @@
+pub mod Parts
+pub mod Tables
+pub mod Points
+pub mod Meaning

@@ -1,0 +1,4 @@
+pub mod Insertion
+pub mod Lists
+pub mod Holding
+pub mod Meaning
