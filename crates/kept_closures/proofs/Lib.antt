@@ -1,0 +1,5 @@
+pub mod Resting
+pub mod Fresh
+pub mod Steps
+pub mod Less
+pub mod Answered

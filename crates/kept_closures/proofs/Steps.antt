@@ -1,0 +1,229 @@
+-- The steps of the functions: a closure put together index by index, and what is kept while a layer comes.
+-- Assumes nothing.
+use Prim.Native.Nat.{ℕ, zero, suc, _+_, _-_, _*_, _%_, _^_, _<_, _≤_}
+use mathlib.Core.Bool.{Bool, true, false, not, cond, _||_}
+use mathlib.Core.List.{List}
+use mathlib.Core.Logic.{_≢_}
+use mathlib.Core.Path.{_≡_, refl, sym, ap, ap₂, _∙_, subst}
+use native.Mathlib.Omega.{arith}
+use native.Mathlib.Decide.{ℕ-discrete}
+use native.Mathlib.Nat.{lt-of-le-of-lt}
+use lib.Dec.{eqb}
+use lib.ListN.{length, getD, set, length-set}
+use lib.Seq.{getD-set-same, getD-set-other}
+use Rattle.combinators.specs.Below.{count, count-short}
+use Rattle.sets.specs.Sets.{has, joined, only, without, size}
+use Rattle.sets.proofs.Laws.{has-none, has-joined, same-members, one-shifted}
+use Rattle.closure.specs.declared.Layers.{Layers}
+use Rattle.closure.specs.Closures.{isLayer, restedOn}
+use Rattle.kept_closures.specs.Kept.{Columns, columns, freshOf, lacksOne, storedAt, FreshAt, Places, Kept, withLayer, withNamed, united, closureOver, grownAt, grownFrom}
+use Rattle.kept_closures.proofs.Resting.{is-there}
+use Rattle.kept_closures.proofs.Fresh.{fresh-same, fresh-more, fresh-own, rested-own, same-absent, not-above}
+
+-- ---- a closure put together
+
+pub named-in : (closure names j resting : ℕ) → j < 64 → has names j ≡ true
+    → joined closure (joined resting (1 * 2 ^ j % 2 ^ 64)) ≡ withNamed closure names j resting
+named-in closure names j resting h e =
+    ap (λ (s : ℕ). joined closure (joined resting s)) (one-shifted 64 j h)
+    ∙ ap (λ (b : Bool). cond b (joined closure (joined resting (only j))) closure) (sym e)
+
+pub named-out : (closure names j resting : ℕ) → has names j ≡ false → closure ≡ withNamed closure names j resting
+named-out closure names j resting e = ap (λ (b : Bool). cond b (joined closure (joined resting (only j))) closure) (sym e)
+
+joined-assoc : (s t u : ℕ) → joined (joined s t) u ≡ joined s (joined t u)
+joined-assoc s t u = same-members (joined (joined s t) u) (joined s (joined t u)) each
+  where
+    or-assoc : (a b c : Bool) → (a || b) || c ≡ a || (b || c)
+    or-assoc true b c = refl
+    or-assoc false b c = refl
+
+    each : (i : ℕ) → has (joined (joined s t) u) i ≡ has (joined s (joined t u)) i
+    each i =
+        has-joined (joined s t) u i
+        ∙ ap (λ (b : Bool). b || has u i) (has-joined s t i)
+        ∙ or-assoc (has s i) (has t i) (has u i)
+        ∙ sym (has-joined s (joined t u) i ∙ ap (λ (b : Bool). has s i || b) (has-joined t u i))
+
+pub over-start : (closures : List ℕ) (i names : ℕ) → i < 64 → 1 * 2 ^ i % 2 ^ 64 ≡ joined (only i) (united closures names 0)
+over-start closures i names h = one-shifted 64 i h ∙ same-members (only i) (joined (only i) 0) (λ m. sym (has-joined (only i) 0 m ∙ nothing (has (only i) m) (has 0 m) (has-none m)))
+  where
+    nothing : (a b : Bool) → b ≡ false → a || b ≡ a
+    nothing true b e = refl
+    nothing false b e = e
+
+pub over-next : (closures : List ℕ) (i names j closure : ℕ) → closure ≡ joined (only i) (united closures names j)
+    → withNamed closure names j (getD closures j 0) ≡ joined (only i) (united closures names (j + 1))
+over-next closures i names j closure e =
+    ap (λ (s : ℕ). withNamed s names j (getD closures j 0)) e
+    ∙ go (has names j)
+    ∙ ap (λ (n : ℕ). joined (only i) (united closures names n)) (let s : suc j ≡ j + 1 = omega arith in s)
+  where
+    go : (b : Bool) → cond b (joined (joined (only i) (united closures names j)) (joined (getD closures j 0) (only j))) (joined (only i) (united closures names j))
+        ≡ joined (only i) (cond b (joined (united closures names j) (joined (getD closures j 0) (only j))) (united closures names j))
+    go true = joined-assoc (only i) (united closures names j) (joined (getD closures j 0) (only j))
+    go false = refl
+
+-- ---- what is kept
+
+64-small : 64 < 256
+64-small = omega arith
+
+pub size-small : (s : ℕ) → size s < 256
+unfolding size
+size-small s = lt-of-le-of-lt (count-short (has s) 64) 64-small
+
+module _ (present closure j : ℕ) (kept : Columns) (places : Places kept) (inside : j < 64) where
+  abbrev stored : Columns
+  stored = storedAt present closure j kept
+
+  pub stored-places : Places stored
+  stored-places =
+      record {
+        of-closures = length-set (kept .closures) j closure ∙ places .of-closures;
+        of-sizes = length-set (kept .sizes) j (size closure) ∙ places .of-sizes;
+        of-absents = length-set (kept .absents) j (lacksOne present closure) ∙ places .of-absents;
+      }
+
+  -- what was put at the index,
+  pub stored-here : (layers : Layers) → layers .present ≡ present → closure ≡ freshOf layers j → FreshAt layers stored j
+  stored-here layers same e =
+      let at = getD-set-same (kept .closures) j closure 0 (rw (places .of-closures) inside) in
+      record {
+        closure = at ∙ e;
+        layers-in-it = getD-set-same (kept .sizes) j (size closure) 0 (rw (places .of-sizes) inside) ∙ ap size (sym at);
+        one-absent =
+            getD-set-same (kept .absents) j (lacksOne present closure) false (rw (places .of-absents) inside)
+            ∙ ap (λ (p : ℕ). lacksOne p closure) (sym same)
+            ∙ ap (lacksOne (layers .present)) (sym at);
+      }
+
+  -- and what stands at another
+  pub stored-other : (layers : Layers) (k : ℕ) → k ≢ j → FreshAt layers kept k → FreshAt layers stored k
+  stored-other layers k d f =
+      let at = getD-set-other (kept .closures) j k closure 0 d in
+      record {
+        closure = at ∙ f .closure;
+        layers-in-it = getD-set-other (kept .sizes) j k (size closure) 0 d ∙ f .layers-in-it ∙ ap size (sym at);
+        one-absent =
+            getD-set-other (kept .absents) j k (lacksOne present closure) false d ∙ f .one-absent ∙ ap (lacksOne (layers .present)) (sym at);
+      }
+
+-- ---- a change, done up to an index: below it all is as it is now, and from there on as it was
+
+pub record Halfway (was is : Layers) (k : ℕ) (kept : Columns) : Type 0 where
+  pub places : Places kept
+  pub done : (m : ℕ) → m < k → m < 64 → FreshAt is kept m
+  pub left : (m : ℕ) → k ≤ m → m < 64 → FreshAt was kept m
+
+module _ (was is : Layers) (k : ℕ) (kept : Columns) (inside : k < 64) (half : Halfway was is k kept) where
+  -- one index more: what is right there is put there,
+  pub by-storing : (present closure : ℕ) → is .present ≡ present → closure ≡ freshOf is k → Halfway was is (k + 1) (storedAt present closure k kept)
+  by-storing present closure same e =
+      record {
+        places = stored-places present closure k kept (half .places) inside;
+        done = λ m h l. at m l (ℕ-discrete m k) h;
+        left = λ m h l. stored-other present closure k kept (half .places) inside was m (λ s. omega arith) (half .left m (omega arith) l);
+      }
+    where
+      at : (m : ℕ) → m < 64 → Dec (m ≡ k) → m < k + 1 → FreshAt is (storedAt present closure k kept) m
+      at m l (yes s) h =
+          subst (FreshAt is (storedAt present closure k kept)) (sym s) (stored-here present closure k kept (half .places) inside is same e)
+      at m l (no d) h = stored-other present closure k kept (half .places) inside is m d (half .done m (let b : m < k = omega arith in b) l)
+
+  -- or stands there already
+  pub by-leaving : FreshAt is kept k → Halfway was is (k + 1) kept
+  by-leaving f =
+      record { places = half .places; done = λ m h l. at m l (ℕ-discrete m k) h; left = λ m h l. half .left m (omega arith) l }
+    where
+      at : (m : ℕ) → m < 64 → Dec (m ≡ k) → m < k + 1 → FreshAt is kept m
+      at m l (yes s) h = subst (FreshAt is kept) (sym s) f
+      at m l (no d) h = half .done m (let b : m < k = omega arith in b) l
+
+pub at-first : (was is : Layers) (kept : Columns) → Kept was kept → Halfway was is 0 kept
+at-first was is kept k = record { places = k .places; done = λ m h l. absurd (omega arith); left = λ m h l. k .fresh m l }
+
+pub at-last : (was is : Layers) (k : ℕ) (kept : Columns) → 64 ≤ k → Halfway was is k kept → Kept is kept
+at-last was is k kept h half = record { places = half .places; fresh = λ m l. half .done m (let b : m < k = omega arith in b) l }
+
+-- ---- a layer more
+
+module _ (layers : Layers) (i names : ℕ) (room : i < length (layers .embedded)) (small : i < 64) (new : isLayer layers i ≡ false) where
+  abbrev after : Layers
+  after = withLayer layers i names
+
+  -- a layer that does not rest on the index
+  pub same-at : (kept : Columns) (k : ℕ) → k ≢ i → has (getD (kept .closures) k 0) i ≡ false → FreshAt layers kept k → FreshAt after kept k
+  same-at kept k d apart f =
+      record {
+        closure = f .closure ∙ sym (fresh-same layers i names room small new k d (ap (λ (s : ℕ). has s i) (sym (f .closure)) ∙ apart));
+        layers-in-it = f .layers-in-it;
+        one-absent = f .one-absent ∙ sym (same-absent layers i names room small new (getD (kept .closures) k 0) apart);
+      }
+
+  abbrev ownIn : Columns → ℕ
+  ownIn kept = closureOver (kept .closures) i names
+
+  below-fresh : (kept : Columns) → Kept layers kept → (j : ℕ) → j < i → getD (kept .closures) j 0 ≡ freshOf layers j
+  below-fresh kept k j h = k .fresh j (let l : j < 64 = omega arith in l) .closure
+
+  own-closure : (kept : Columns) → Kept layers kept → ownIn kept ≡ restedOn after i
+  own-closure kept k = sym (rested-own layers i names room small new (kept .closures) (below-fresh kept k))
+
+  -- no layer below the new one rests on it
+  up-to : (kept : Columns) → Kept layers kept → (n : ℕ) → n ≤ i → Halfway layers after n kept
+  up-to kept k zero h = at-first layers after kept k
+  up-to kept k (suc n) h =
+      let one : n + 1 ≡ suc n = omega arith in
+      let below : n < 64 = omega arith in
+      subst (λ (m : ℕ). Halfway layers after m kept) one
+      (by-leaving layers after n kept below (up-to kept k n (omega arith))
+      (same-at kept n (λ e. omega arith) (ap (λ (s : ℕ). has s i) (k .fresh n below .closure) ∙ no-rest (isLayer layers n)) (k .fresh n below)))
+    where
+      no-rest : (b : Bool) → has (cond b (restedOn layers n) 0) i ≡ false
+      no-rest true = not-above layers n i (omega arith)
+      no-rest false = has-none i
+
+  start : (kept : Columns) → Kept layers kept → Halfway layers after (i + 1) (storedAt (after .present) (ownIn kept) i kept)
+  start kept k =
+      by-storing layers after i kept small (up-to kept k i (omega arith)) (after .present) (ownIn kept) refl
+      (sym (fresh-own layers i names room small new (kept .closures) (below-fresh kept k)))
+
+  next : (k own : ℕ) (kept : Columns) → i < k → k < 64 → own ≡ restedOn after i → Halfway layers after k kept
+      → Halfway layers after (k + 1) (grownAt (after .present) own i k kept)
+  next k own kept above inside is-own half = go (has (getD (kept .closures) k 0) i) refl (half .left k (omega arith) inside)
+    where
+      go : (b : Bool) → has (getD (kept .closures) k 0) i ≡ b → FreshAt layers kept k
+          → Halfway layers after (k + 1) (cond b (storedAt (after .present) (joined (getD (kept .closures) k 0) own) k kept) kept)
+      go true e f =
+          by-storing layers after k kept inside half (after .present) (joined (getD (kept .closures) k 0) own) refl
+          (ap₂ joined (f .closure) is-own
+          ∙ sym (fresh-more layers i names room small new k (λ s. omega arith) (ap (λ (s : ℕ). has s i) (sym (f .closure)) ∙ e)))
+      go false e f = by-leaving layers after k kept inside half (same-at kept k (λ s. omega arith) e f)
+
+  next-all : (n k own : ℕ) (kept : Columns) → i < k → n + k ≡ 64 → own ≡ restedOn after i → Halfway layers after k kept
+      → Halfway layers after 64 (grownFrom (after .present) own i k n kept)
+  next-all zero k own kept above sum is-own half = let e : k ≡ 64 = omega arith in subst (λ (m : ℕ). Halfway layers after m kept) e half
+  next-all (suc n) k own kept above sum is-own half =
+      let same : k + 1 ≡ suc k = omega arith in
+      next-all n (suc k) own (grownAt (after .present) own i k kept) (omega arith) (omega arith) is-own
+      (subst (λ (m : ℕ). Halfway layers after m (grownAt (after .present) own i k kept)) same (next k own kept above (omega arith) is-own half))
+
+  -- THE WHOLE: the new layer's closure, and what comes to those that rest on it
+  pub added-kept : (kept : Columns) → Kept layers kept
+      → Kept after (grownFrom (after .present) (ownIn kept) i (i + 1) (63 - i) (storedAt (after .present) (ownIn kept) i kept))
+  added-kept kept k =
+      at-last layers after 64 (grownFrom (after .present) (ownIn kept) i (i + 1) (63 - i) (storedAt (after .present) (ownIn kept) i kept)) (omega arith)
+      (next-all (63 - i) (i + 1) (ownIn kept) (storedAt (after .present) (ownIn kept) i kept) (omega arith) (omega arith) (own-closure kept k) (start kept k))
+
+-- one turn of the loop
+pub grown-turn : (present own i k : ℕ) (kept : Columns) → k < 64
+    → grownFrom present own i (k + 1) (64 - (k + 1)) (grownAt present own i k kept) ≡ grownFrom present own i k (64 - k) kept
+grown-turn present own i k kept h =
+    let one : k + 1 ≡ suc k = omega arith in
+    let less : 64 - k ≡ suc (64 - (k + 1)) = omega arith in
+    ap (λ (m : ℕ). grownFrom present own i m (64 - (k + 1)) (grownAt present own i k kept)) one
+    ∙ ap (λ (n : ℕ). grownFrom present own i k n kept) (sym less)
+
+pub grown-end : (present own i k : ℕ) (kept : Columns) → 64 ≤ k → kept ≡ grownFrom present own i k (64 - k) kept
+grown-end present own i k kept h = let none : 64 - k ≡ 0 = omega arith in ap (λ (n : ℕ). grownFrom present own i k n kept) (sym none)

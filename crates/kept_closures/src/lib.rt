@@ -1,0 +1,211 @@
+// What each layer rests on, kept with it while layers come and go, so that the answer to any target is at hand: nothing is worked out afresh but what a
+// change can have changed.
+ghost use mathlib.Core.Path.{_≡_};
+ghost use mathlib.Core.Bool.{false, true};
+ghost use Prim.Native.Nat.{_+_, _-_, _<_, _≤_};
+ghost use lib.ListN.{length, set};
+ghost use Rattle.sets.specs.Sets.{added, without, only};
+ghost use Rattle.closure.specs.Closures.{isLayer};
+ghost use Rattle.kept_closures.specs.Kept.{layersBy, columns, storedAt, Kept, withLayer, withoutLayer, withNamed, closureOver, grownAt, grownFrom, shrunkAt, shrunkFrom, answerKept};
+use closure::Closure;
+use vocabulary::LayerIndex;
+use vocabulary::Refusal;
+
+// The three values of a closure, put at an index: the closure as a set, how many layers are in it, and whether one of them is not present.
+fn keep(
+    present: u64,
+    closure: u64,
+    index: usize,
+    closures: &mut [u64; 64],
+    sizes: &mut [u8; 64],
+    absents: &mut [bool; 64],
+)
+    requires { ⌜ index < 64 ⌝ }
+    ensures { λ _. ⌜ columns (now (closures .exit)) (now (sizes .exit)) (now (absents .exit))
+        ≡ storedAt present closure index (columns (now (closures .entry)) (now (sizes .entry)) (now (absents .entry))) ⌝ }
+{
+    closures[index] = closure;
+    sizes[index] = sets::size(closure) as u8;
+    absents[index] = sets::without(closure, present) != 0;
+}
+
+// A closure with a lower index and what that rests on, if the index is named.
+fn with_named(closure: u64, names: u64, lower: usize, resting: u64) -> u64
+    requires { ⌜ lower < 64 ⌝ }
+    ensures { λ r. ⌜ r ≡ withNamed closure names lower resting ⌝ }
+{
+    if sets::member(names, lower) {
+        return closure | (resting | (1 << lower));
+    }
+    closure
+}
+
+// The closure of a layer that names these, from what is kept of the layers below it.
+fn closure_over(closures: &[u64; 64], index: usize, names: u64) -> u64
+    requires { ⌜ index < 64 ⌝ }
+    ensures { λ r. ⌜ r ≡ closureOver (now (closures .entry)) index names ⌝ }
+{
+    let mut closure: u64 = 1 << index;
+    let mut lower = 0;
+    while lower < index {
+        closure = with_named(closure, names, lower, closures[lower]);
+        lower += 1;
+    }
+    closure
+}
+
+// Of a layer that rests on an index which has a layer now: what that layer rests on comes to it.
+fn grow(
+    present: u64,
+    own: u64,
+    index: usize,
+    upper: usize,
+    closures: &mut [u64; 64],
+    sizes: &mut [u8; 64],
+    absents: &mut [bool; 64],
+)
+    requires { ⌜ upper < 64 ⌝ }
+    ensures { λ _. ⌜ columns (now (closures .exit)) (now (sizes .exit)) (now (absents .exit))
+        ≡ grownAt present own index upper (columns (now (closures .entry)) (now (sizes .entry)) (now (absents .entry))) ⌝ }
+{
+    let closure = closures[upper];
+    if sets::member(closure, index) {
+        keep(present, closure | own, upper, closures, sizes, absents);
+    }
+}
+
+// The same of every layer above the index.
+fn grow_all(
+    present: u64,
+    own: u64,
+    index: usize,
+    closures: &mut [u64; 64],
+    sizes: &mut [u8; 64],
+    absents: &mut [bool; 64],
+)
+    requires { ⌜ index < 64 ⌝ }
+    ensures { λ _. ⌜ columns (now (closures .exit)) (now (sizes .exit)) (now (absents .exit))
+        ≡ grownFrom present own index (index + 1) (63 - index) (columns (now (closures .entry)) (now (sizes .entry)) (now (absents .entry))) ⌝ }
+{
+    let mut upper = index + 1;
+    while upper < 64 {
+        grow(present, own, index, upper, closures, sizes, absents);
+        upper += 1;
+    }
+}
+
+// A LAYER MORE, of an index that none has, which names these: its own closure, and of each layer that rests on the index what comes to it. The answer is
+// the set of the indices that are present now.
+pub fn add(
+    present: u64,
+    embedded: &mut [u64; 64],
+    closures: &mut [u64; 64],
+    sizes: &mut [u8; 64],
+    absents: &mut [bool; 64],
+    index: usize,
+    names: u64,
+) -> u64
+    requires { ⌜ (index < 64) × (isLayer (layersBy present (now embedded)) index ≡ false) × (length (now embedded) ≡ 64)
+        × Kept (layersBy present (now embedded)) (columns (now closures) (now sizes) (now absents)) ⌝ }
+    ensures answer { λ r. ⌜ (r ≡ added present index) × (now (embedded .exit) ≡ set (now (embedded .entry)) index names) ⌝ }
+    ensures content { λ _. ⌜ Kept (withLayer (layersBy present (now (embedded .entry))) index names)
+        (columns (now (closures .exit)) (now (sizes .exit)) (now (absents .exit))) ⌝ }
+{
+    let now_present = sets::with(present, index);
+    let own = closure_over(closures, index, names);
+    embedded[index] = names;
+    keep(now_present, own, index, closures, sizes, absents);
+    grow_all(now_present, own, index, closures, sizes, absents);
+    now_present
+}
+
+// Of a layer that rested on an index which has no layer any more: its closure is put together again from what it names.
+fn shrink(
+    present: u64,
+    index: usize,
+    upper: usize,
+    names: u64,
+    closures: &mut [u64; 64],
+    sizes: &mut [u8; 64],
+    absents: &mut [bool; 64],
+)
+    requires { ⌜ upper < 64 ⌝ }
+    ensures { λ _. ⌜ columns (now (closures .exit)) (now (sizes .exit)) (now (absents .exit))
+        ≡ shrunkAt present index upper names (columns (now (closures .entry)) (now (sizes .entry)) (now (absents .entry))) ⌝ }
+{
+    if sets::member(closures[upper], index) {
+        let closure = closure_over(closures, upper, names);
+        keep(present, closure, upper, closures, sizes, absents);
+    }
+}
+
+// The same of every layer above the index, the lower first, since a higher one rests on it.
+fn shrink_all(
+    present: u64,
+    index: usize,
+    embedded: &[u64; 64],
+    closures: &mut [u64; 64],
+    sizes: &mut [u8; 64],
+    absents: &mut [bool; 64],
+)
+    requires { ⌜ index < 64 ⌝ }
+    ensures { λ _. ⌜ columns (now (closures .exit)) (now (sizes .exit)) (now (absents .exit))
+        ≡ shrunkFrom present index (now (embedded .entry)) (index + 1) (63 - index)
+        (columns (now (closures .entry)) (now (sizes .entry)) (now (absents .entry))) ⌝ }
+{
+    let mut upper = index + 1;
+    while upper < 64 {
+        shrink(
+            present,
+            index,
+            upper,
+            embedded[upper],
+            closures,
+            sizes,
+            absents,
+        );
+        upper += 1;
+    }
+}
+
+// A LAYER LESS, of an index that one has: nothing is kept of it any more, and of each layer that rested on it the closure is put together again. The
+// answer is the set of the indices that are present now.
+pub fn remove(
+    present: u64,
+    embedded: &mut [u64; 64],
+    closures: &mut [u64; 64],
+    sizes: &mut [u8; 64],
+    absents: &mut [bool; 64],
+    index: usize,
+) -> u64
+    requires { ⌜ (index < 64) × (isLayer (layersBy present (now embedded)) index ≡ true) × (length (now embedded) ≡ 64)
+        × Kept (layersBy present (now embedded)) (columns (now closures) (now sizes) (now absents)) ⌝ }
+    ensures answer { λ r. ⌜ (r ≡ without present (only index)) × (now (embedded .exit) ≡ set (now (embedded .entry)) index 0) ⌝ }
+    ensures content { λ _. ⌜ Kept (withoutLayer (layersBy present (now (embedded .entry))) index)
+        (columns (now (closures .exit)) (now (sizes .exit)) (now (absents .exit))) ⌝ }
+{
+    let now_present = sets::without(present, 1 << index);
+    embedded[index] = 0;
+    keep(now_present, 0, index, closures, sizes, absents);
+    shrink_all(now_present, index, embedded, closures, sizes, absents);
+    now_present
+}
+
+// THE ANSWER TO A TARGET from what is kept, with nothing to be walked: the closure, or 11, or 12 with the lowest missing index.
+pub fn answer_kept(present: u64, closures: &[u64; 64], absents: &[bool; 64], target: u64) -> Closure
+    ensures { λ r. ⌜ r ≡ answerKept present (now (closures .entry)) (now (absents .entry)) target ⌝ }
+{
+    if 64 <= target {
+        return Closure::Refused(Refusal::NoSuchLayer);
+    }
+    let index = target as usize;
+    if !sets::member(present, index) {
+        return Closure::Refused(Refusal::NoSuchLayer);
+    }
+    let closure = closures[index];
+    if absents[index] {
+        let missing = sets::lowest(sets::without(closure, present));
+        return Closure::Refused(Refusal::EmbeddedLayerAbsent(LayerIndex(missing)));
+    }
+    Closure::Complete(closure)
+}
