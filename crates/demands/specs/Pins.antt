@@ -31,6 +31,13 @@ joins last summary =
     joinCall 0b11 (0 ∷ 0b1 ∷ []) 1 (table (0 ∷ 1 ∷ 0 ∷ 1 ∷ []) (9000 ∷ 9000 ∷ 12600 ∷ 12000 ∷ []) (9000 ∷ 9000 ∷ 12600 ∷ last ∷ []))
     (5 ∷ 5 ∷ 5 ∷ 5 ∷ []) (pos 5 ∷ pos 5 ∷ pos 5 ∷ pos 5 ∷ []) summary
 
+-- a plain 0x1B of PID 256 and a plain 0x20 of PID 257, and their rows of numbers
+abbrev twoViews : List ℕ
+twoViews = 0x1B ∷ 0xE1 ∷ 0x00 ∷ 0xF0 ∷ 0x00 ∷ 0x20 ∷ 0xE1 ∷ 0x01 ∷ 0xF0 ∷ 0x00 ∷ []
+
+abbrev viewRows : List ℕ
+viewRows = 27 ∷ 256 ∷ 3 ∷ replicate 77 0 ++ 32 ∷ 257 ∷ 3 ∷ replicate 77 0
+
 pub record ForCPinned : Type 0 where
   -- number and place, or 0 and a count; the buffers untouched after a refusal, and beyond what was written
   pub closure : closureCall 2015 distinct 12 (5 ∷ 5 ∷ []) ≡ reply (0 + 256 * 3) (0b1001010000000 ∷ 5 ∷ [])
@@ -43,9 +50,14 @@ pub record ForCPinned : Type 0 where
       ≡ 31 ∷ 300 ∷ 1 ∷ 1 ∷ 1 ∷ 0 ∷ 1 ∷ 1 ∷ 9 ∷ 0 ∷ 7 ∷ 42 ∷ 0 ∷ 0 ∷ 0 ∷ 0 ∷ 0 ∷ []
   pub extension-row : take 19 (drop 160 (readLoop 2015 distinct (replicate 240 5) .buffer))
       ≡ 41 ∷ 301 ∷ 2 ∷ 0 ∷ 0 ∷ 0 ∷ 0 ∷ 0 ∷ 12 ∷ 1 ∷ 0 ∷ 47 ∷ 0xABCD ∷ 6 ∷ 33 ∷ 2 ∷ 9 ∷ 7 ∷ 0 ∷ []
-  -- the same numbers written, and a `record` above 2
+  -- the same numbers written, and a `record` above 3
   pub entries-written : writeLoop (readLoop 2015 distinct (replicate 240 5) .buffer) (replicate 40 5) ≡ reply (0 + 256 * 38) (distinct ++ 5 ∷ 5 ∷ [])
-  pub record-too-wide : writeLoop (15 ∷ 300 ∷ 3 ∷ replicate 77 0) (5 ∷ []) ≡ reply (25 + 256 * 0) (5 ∷ [])
+  pub record-too-wide : writeLoop (15 ∷ 300 ∷ 4 ∷ replicate 77 0) (5 ∷ []) ≡ reply (25 + 256 * 0) (5 ∷ [])
+  -- two views without a hierarchy descriptor: `record` is 3 and every field of it 0, in both readings; written without a descriptor; and the mark on another stream
+  pub views-read : readLoop 2009 twoViews (replicate 161 5) ≡ reply (0 + 256 * 2) (viewRows ++ 5 ∷ [])
+  pub views-read-2015 : readLoop 2015 twoViews (replicate 161 5) ≡ reply (0 + 256 * 2) (viewRows ++ 5 ∷ [])
+  pub views-written : writeLoop viewRows (replicate 11 5) ≡ reply (0 + 256 * 10) (twoViews ++ 5 ∷ [])
+  pub mark-not-given : writeLoop (15 ∷ 300 ∷ 3 ∷ replicate 77 0) (5 ∷ []) ≡ reply (6 + 256 * 0) (5 ∷ [])
   -- PTS, decoding time and match time, a TREF that stood there, and the end of the header
   pub times : readTimes
       (0x00 ∷ 0x00 ∷ 0x01 ∷ 0xE0 ∷ 0x00 ∷ 0x00 ∷ 0x84 ∷ 0xC1 ∷ 0x12 ∷ 0x31 ∷ 0x00 ∷ 0x01 ∷ 0x07 ∷ 0x09 ∷ 0x11 ∷ 0x00 ∷ 0x01 ∷ 0x04 ∷ 0xB1 ∷ 0x0F ∷ 0x86 ∷ 0xFE ∷ 0xF1 ∷ 0x00 ∷ 0x01 ∷ 0x02 ∷ 0x59 ∷ [])
@@ -79,6 +91,10 @@ for-c-pinned =
       extension-row = refl;
       entries-written = refl;
       record-too-wide = refl;
+      views-read = refl;
+      views-read-2015 = refl;
+      views-written = refl;
+      mark-not-given = refl;
       times = refl;
       imported = refl;
       joined = refl;
