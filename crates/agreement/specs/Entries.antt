@@ -32,6 +32,7 @@ use Rattle.judging.specs.Meaning.{TypeNotAllowed, hierarchy-type, extension-on-
 use Rattle.descriptors.specs.Records.{indexOf}
 use Rattle.implied.specs.Rule.{isView, given, ofType, isDescribedView}
 use Rattle.implied.specs.Marking.{isDescribed, withMark, markedRecord}
+use Rattle.implied.proofs.Marks.{view-known}
 use Rattle.es_loop.specs.declared.entries.Entry.{Entry}
 use Rattle.es_loop.specs.declared.reader.Outcome.the-variants.{Accepted}
 use Rattle.es_loop.specs.declared.reader.LoopRead.{LoopRead}
@@ -302,10 +303,6 @@ module _ (items : List Item) (none : (n k : ℕ) → Condition Edition2015 items
   same-described (Extension x) = refl
   same-described Implied = refl
 
-  view-known : (t : ℕ) → isView t ≡ true → known Edition2009 t ≡ true
-  view-known t e =
-      ⊎-elim (λ p. ap (known Edition2009) (eqb-true t 0x1B p)) (λ p. ap (known Edition2009) (eqb-true t 0x20 p)) (either-which (eqb t 0x1B) (eqb t 0x20) e)
-
   view-alike : {k : ℕ} (x : Item) → Nth items k x
       → isDescribedView (shownOf (streamOf Edition2009 x)) ≡ isDescribedView (shownOf (streamOf Edition2015 x))
   view-alike broken n = refl
@@ -321,7 +318,7 @@ module _ (items : List Item) (none : (n k : ℕ) → Condition Edition2015 items
       by-type true e =
           ap (λ (y : Entry). isDescribed (y .«record»)) (entry-alike (whole head info) n)
           ∙ ap (λ (b : Bool). isDescribed ((cond b (withRecord in-2015 (recordIn2009 (in-2015 .«record»)) (in-2015 .embedded)) (withRecord in-2015 NoRecord (padTo 63 noLayer []))) .«record»))
-          (view-known (streamType head) e)
+          (view-known Edition2009 (streamType head) e)
           ∙ same-described (in-2015 .«record»)
 
   pair-alike : pairOf (map (streamOf Edition2009) items) ≡ pairOf (map (streamOf Edition2015) items)
@@ -371,7 +368,7 @@ module _ (items : List Item) (none : (n k : ℕ) → Condition Edition2015 items
           ∙ ap (λ (r : Record). withRecord in-2015 r (in-2015 .embedded)) (by-given (given pair (streamType head)) (in-2015 .«record») none-there)
           ∙ ap (λ (b : Bool). cond b (withRecord in-2015 (recordIn2009 (markedRecord pair (streamType head) (in-2015 .«record»))) (in-2015 .embedded)) (withRecord in-2015 NoRecord (padTo 63 noLayer []))) (sym p)
       by-type false p =
-          let no-view : isView (streamType head) ≡ false = false-unless (isView (streamType head)) (λ v. true≢false (sym (view-known (streamType head) v) ∙ p)) in
+          let no-view : isView (streamType head) ≡ false = false-unless (isView (streamType head)) (λ v. true≢false (sym (view-known Edition2009 (streamType head) v) ∙ p)) in
           ap marked (entry-alike (whole head info) n ∙ ap at-type p)
           ∙ ap (λ (b : Bool). withRecord in-2015 (cond (b && pair) Implied NoRecord) (padTo 63 noLayer [])) no-view
           ∙ ap (λ (b : Bool). cond b (withRecord in-2015 (recordIn2009 (markedRecord pair (streamType head) (in-2015 .«record»))) (in-2015 .embedded)) (withRecord in-2015 NoRecord (padTo 63 noLayer []))) (sym p)
