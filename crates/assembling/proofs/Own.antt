@@ -49,7 +49,7 @@ those-kept first second (suc n) =
 
 -- ---- what a layer that another rests on rests on, that one rests on too
 
-rests-further : (layers : Layers) (target top layer : ℕ) → RestsOn layers target top → RestsOn layers top layer → RestsOn layers target layer
+pub rests-further : (layers : Layers) (target top layer : ℕ) → RestsOn layers target top → RestsOn layers top layer → RestsOn layers target layer
 rests-further layers target top layer r itself = r
 rests-further layers target top layer r (by {i = upper} s n) = by (rests-further layers target top upper r s) n
 
