@@ -1,9 +1,13 @@
 // Bytes out of words, each after one blank or more: HH, a byte as two hexadecimal digits, or HH*N, that byte N times, N in decimal.
+ghost use mathlib.Core.Path.{_≡_};
 ghost use Prim.Native.Nat.{_≤_};
+ghost use lib.ListN.{replicate};
 use super::first_part;
 
 // Room for the bytes of a case. What goes beyond it is not kept.
-pub fn empty_room() -> [u8; 2048] {
+pub fn empty_room() -> [u8; 2048]
+    ensures { λ r. ⌜ r ≡ replicate 2048 0 ⌝ }
+{
     [0; 2048]
 }
 

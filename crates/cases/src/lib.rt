@@ -9,6 +9,7 @@ ghost use mathlib.Core.Path.{_≡_};
 ghost use lib.ListN.{length};
 ghost use Rattle.io.specs.Counts.{Counts};
 ghost use Rattle.cases.specs.Parts.{bytesBefore};
+ghost use Rattle.cases.specs.Numbers.{isComment};
 
 mod bytes;
 mod numbers;
@@ -64,7 +65,9 @@ pub fn first_part(mark: u8, text: &[u8]) -> Part
 }
 
 // A comment or an empty line.
-pub fn is_comment(line: &[u8]) -> bool {
+pub fn is_comment(line: &[u8]) -> bool
+    ensures { λ r. ⌜ r ≡ isComment (now (line .entry)) ⌝ }
+{
     if line.len() == 0 {
         return true;
     }
