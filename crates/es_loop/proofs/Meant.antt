@@ -1,18 +1,18 @@
 -- The law that joins the meaning of a loop's answer to what is computed, both ways.
 -- Assumes nothing.
-use Prim.Native.Nat.{ℕ, zero, suc, _+_, _≤_, _<_}
+use Prim.Native.Nat.{ℕ, suc, _+_, _≤_, _<_}
 use mathlib.Core.Path.{_≡_, refl, sym, _∙_, ap, ap₂, subst}
-use mathlib.Core.Bool.{Bool, true, false, cond, not, _&&_, _||_, and-false}
+use mathlib.Core.Bool.{Bool, true, false, cond, not, _&&_}
 use mathlib.Core.List.{List, [], _∷_, _++_, map, nil≢cons, head-eq-of-cons-eq}
 use native.Mathlib.Omega.{arith}
 use native.Mathlib.Nat.{not-suc-le-zero}
 use native.Mathlib.Decide.{decLt}
 use borrow.Author.Tests.{lt-ltb, le-ltb, ltb-true, eq-eqb, eqb-true, not-true, not-false}
-use lib.Dec.{eqb, ltb}
+use lib.Dec.{eqb}
 use lib.ListN.{length, getD, length-map}
-use Rattle.combinators.specs.Below.{some, some-at, some-which, some-same}
+use Rattle.combinators.specs.Below.{some-at, some-which, some-same}
 use Rattle.combinators.specs.Bools.{both-left, both-right, apart, both-ways, false-unless, either-way}
-use Rattle.combinators.specs.Lists.{Nth, here, there, nth-inside, nth-getD, getD-nth, nth-map, nth-of-map, getD-map, any, any-true, any-which, gather, handled}
+use Rattle.combinators.specs.Lists.{Nth, here, there, nth-inside, getD-nth, nth-map, nth-of-map, getD-map, any, any-true, any-which, gather, handled}
 use Rattle.combinators.specs.Lowest.{Lowest, lowestNumber, earliestPlace, lowest-is}
 use Rattle.combinators.specs.Padding.{padTo}
 use Rattle.framing.specs.Pieces.{Item, whole, broken, Cuts, nothing-left, does-not-fit as cut-short, piece, cut, cut-cuts, cuts-unique}
@@ -39,14 +39,13 @@ use Rattle.implied.specs.Meaning.{OnlyOne}
 use Rattle.implied.proofs.Marks.{view-known, layer-kept}
 use Rattle.implied.proofs.Meant.{pair-meant, pair-only}
 use Rattle.judging.specs.Judging.{sameIndex, typeNotAllowed, wrongFlags, wrongEmbedded}
-use Rattle.judging.specs.Meaning.{TypeNotAllowed, WrongFlags, WrongEmbedded}
 use Rattle.judging.proofs.Meant.{refusal-6, refusal-7, refusal-9, implied-sound}
 use Rattle.es_loop.specs.declared.entries.Stream.{Stream}
-use Rattle.es_loop.specs.Entries.{entryHead, streamType, elementaryPid, esInfoLength, seenIn, noStream, streamOf, shownOf, pairOf, markedStream, markedStreams, streamsOf}
+use Rattle.es_loop.specs.Entries.{entryHead, streamType, elementaryPid, esInfoLength, noStream, streamOf, shownOf, pairOf, markedStream, markedStreams, streamsOf}
 use Rattle.es_loop.specs.Conditions.{streamAt, pidAt, typeAt, recordAt, repeatedPid, repeatedIndex, givenAt, conditions, applies, refusalOf}
 use Rattle.es_loop.specs.declared.verdict.Verdict.the-variants.{Refused as Refuses}
 use Rattle.es_loop.specs.declared.reader.LoopRead.{LoopRead}
-use Rattle.es_loop.specs.Reading.{refusedWith, accepted, verdictAt, judged, verdictOf, answerBy, loopRead}
+use Rattle.es_loop.specs.Reading.{refusedWith, verdictAt, judged, answerBy, loopRead}
 use Rattle.es_loop.proofs.Pairs.{pair-marked, marked-at, marked-length}
 use Rattle.es_loop.proofs.Judged.{judged-refused, judged-accepted}
 use Rattle.es_loop.specs.Meaning.{KnownAt, RecordAt, OnlyView, ImpliedViews, LayerAt, written, implied, Condition, entry-unfit, descriptor-unfit, pid-seen, length-wrong, two-records, type-wrong, flags-wrong, index-held, embedded-wrong, Answers, too-long, refuses, accepts}

@@ -5,7 +5,6 @@ use mathlib.Core.Path.{_≡_, refl, ap, ap₂}
 use mathlib.Core.Bool.{Bool}
 use mathlib.Core.List.{List, [], _∷_, map}
 use lib.ListN.{length, length-map}
-use Rattle.descriptors.specs.declared.«record».Record.{Record}
 use Rattle.implied.specs.Rule.{Shown, impliedPair}
 use Rattle.implied.proofs.Marks.{described-kept}
 use Rattle.es_loop.specs.declared.entries.Stream.{Stream}

@@ -46,7 +46,8 @@ module _ (reading : Reading) (entries : List Item) where
     pub others : List Held
     pub first : gather heldIn kinds ≡ record { held = r; layers = layers } ∷ others
 
-  -- W-201: 'exactly one' entry of this type, and it has no hierarchy descriptor.
+  -- W-201: 'exactly one' entry of this type, and it has no hierarchy descriptor. (One of a wrong length, or behind another record, is refused with 4 or 5, which come
+  -- before every number that a mark could move.)
   pub record OnlyView (t : ℕ) : Type 0 where
     pub place : ℕ
     pub info : List ℕ

@@ -1,19 +1,18 @@
 -- What a mark leaves as it was, and where there is one.
 -- Assumes nothing.
 use Prim.Native.Nat.{ℕ}
-use mathlib.Core.Path.{_≡_, refl, sym, _∙_, ap}
-use mathlib.Core.Bool.{Bool, true, false, cond, _&&_}
+use mathlib.Core.Path.{_≡_, refl}
+use mathlib.Core.Bool.{Bool, true, false, cond}
 use mathlib.Core.Logic.{⊎-elim}
 use borrow.Author.Tests.{eqb-true}
 use lib.Dec.{eqb}
-use Rattle.combinators.specs.Bools.{apart, both-left, both-right, either-which}
+use Rattle.combinators.specs.Bools.{apart, either-which}
 use Rattle.vocabulary.specs.declared.stream_types.Reading.{Reading}
 use Rattle.vocabulary.specs.declared.stream_types.Reading.the-variants.{Edition2009, Edition2015}
 use Rattle.vocabulary.specs.StreamTypes.{known}
 use Rattle.descriptors.specs.declared.«record».Record.{Record}
 use Rattle.descriptors.specs.declared.«record».Record.the-variants.{NoRecord, Hierarchy, Extension, Implied}
 use Rattle.descriptors.specs.declared.looking.Seen.{Seen}
-use Rattle.descriptors.specs.declared.looking.Named.{Named}
 use Rattle.descriptors.specs.Records.{isLayer, namesOf}
 use Rattle.descriptors.specs.Finding.{namedBy}
 use Rattle.implied.specs.Rule.{isView, given}

@@ -1,14 +1,14 @@
 -- The law that joins the rule's meaning to what is computed, both ways.
 -- Assumes nothing.
-use Prim.Native.Nat.{ℕ, zero, suc}
-use mathlib.Core.Path.{_≡_, refl, sym, _∙_, ap}
-use mathlib.Core.Bool.{Bool, true, false, cond, not, _&&_}
+use Prim.Native.Nat.{ℕ, suc}
+use mathlib.Core.Path.{_≡_, refl, _∙_, ap}
+use mathlib.Core.Bool.{Bool, true, false, not, _&&_}
 use mathlib.Core.Logic.{⊎-elim}
 use mathlib.Core.List.{List, [], _∷_}
 use native.Mathlib.Omega.{arith}
 use borrow.Author.Tests.{eq-eqb, eqb-true, eqb-false, ne-eqb, not-true}
 use lib.Dec.{eqb}
-use Rattle.combinators.specs.Bools.{both-left, both-right, both-ways, either-left, either-right, either-which, false-unless}
+use Rattle.combinators.specs.Bools.{both-left, both-right, both-ways, either-which, false-unless}
 use Rattle.combinators.specs.Lists.{Nth, here, there, nth-one, any, any-false, any-which}
 use Rattle.implied.specs.Rule.{Shown, isView, ofType, isDescribedView, impliedPair}
 use Rattle.implied.specs.Meaning.{OnlyOne, ImpliedPair}

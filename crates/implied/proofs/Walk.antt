@@ -1,7 +1,7 @@
 -- A walk through the entries comes to the rule over the list of them.
 -- Assumes nothing.
 use Prim.Native.Nat.{ℕ, suc}
-use mathlib.Core.Path.{_≡_, refl, sym, _∙_, ap}
+use mathlib.Core.Path.{_≡_, refl, _∙_}
 use mathlib.Core.Bool.{Bool, true, false, cond, not, _&&_, _||_, and-false}
 use mathlib.Core.List.{List, [], _∷_}
 use native.Mathlib.Omega.{arith}
@@ -11,7 +11,7 @@ use Rattle.combinators.specs.Bools.{neither-left, neither-right}
 use Rattle.combinators.specs.Lists.{any}
 use Rattle.implied.specs.Rule.{Shown, isView, ofType, isDescribedView, impliedPair}
 use Rattle.implied.specs.declared.Views.{Views}
-use Rattle.implied.specs.Walking.{noViews, avcNext, mvcNext, viewNext, viewsAfter, isPair}
+use Rattle.implied.specs.Walking.{noViews, viewNext, viewsAfter, isPair}
 
 -- a number, and one more where one was seen before
 abbrev with-one : Bool → ℕ → ℕ

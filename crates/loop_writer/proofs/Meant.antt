@@ -1,7 +1,7 @@
 -- The law that joins the meaning of writing a loop to what is computed, both ways.
 -- Assumes nothing.
 use Prim.Native.Nat.{ℕ, _≤_, _<_}
-use mathlib.Core.Path.{_≡_, refl, sym, _∙_, ap, ap₂, subst}
+use mathlib.Core.Path.{_≡_, refl, sym, _∙_, ap, ap₂}
 use mathlib.Core.Bool.{Bool, true, false, not, _&&_}
 use mathlib.Core.List.{List, _++_, map}
 use native.Mathlib.Omega.{arith}
@@ -9,13 +9,11 @@ use borrow.Author.Tests.{lt-ltb, le-ltb, ltb-true, ltb-false, eq-eqb, eqb-true, 
 use lib.Dec.{eqb, ltb}
 use lib.ListN.{length, drop, getD, take}
 use Rattle.combinators.specs.Below.{some-at, some-which}
-use Rattle.combinators.specs.Bools.{both-left, both-right, either-left, either-right, apart, both-ways, false-unless}
-use Rattle.combinators.specs.Lists.{Nth, here, nth-inside, nth-getD, getD-nth, nth-map, nth-of-map, getD-map, any, any-true, any-false, any-which, handled}
+use Rattle.combinators.specs.Bools.{both-left, both-right, either-right, apart, both-ways, false-unless}
+use Rattle.combinators.specs.Lists.{Nth, here, nth-inside, getD-nth, nth-map, nth-of-map, getD-map, any, any-true, any-false, any-which, handled}
 use Rattle.combinators.specs.Lowest.{Lowest, lowestNumber, earliestPlace, lowest-number, earliest-place, lowest-is}
 use Rattle.syntax.specs.Table.{fits}
 use Rattle.syntax.proofs.Laws.{fits-fit, fit-fits}
-use Rattle.vocabulary.specs.declared.stream_types.Reading.the-variants.{Edition2015}
-use Rattle.vocabulary.specs.StreamTypes.{known}
 use Rattle.descriptors.specs.declared.«record».Record.{Record}
 use Rattle.descriptors.specs.declared.«record».Record.the-variants.{NoRecord, Hierarchy, Extension, Implied}
 use Rattle.descriptors.specs.Records.{isLayer, indexOf}
