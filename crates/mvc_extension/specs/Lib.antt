@@ -1,1 +1,2 @@
 pub mod MvcExtension
+pub mod Ranges

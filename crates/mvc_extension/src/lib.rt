@@ -1,5 +1,5 @@
 // The MVC extension descriptor, Table AMD4.1 of source 001 (clause 2.6.78), tag 49 and length 8: the record, how it is read from a payload, what of
-// it is too wide for its fields, and the payload as it is written.
+// it is too wide for its fields, the payload as it is written, and what of two of them is wrong together.
 //
 // It is read and written in the stereo set alone; in every other call a descriptor of this tag is skipped.
 ghost use mathlib.Core.Path.{_≡_};
@@ -7,6 +7,7 @@ ghost use Prim.Native.Nat.{_≤_};
 ghost use lib.ListN.{length};
 ghost use Rattle.syntax.specs.Table.{Fit, fits, writeTable};
 ghost use Rattle.mvc_extension.specs.MvcExtension.{mvcExtensionDescriptor, mvcExtensionOf, mvcExtensionFields};
+ghost use Rattle.mvc_extension.specs.Ranges.{reversedRange, rangesMeet, wrongRanges};
 use descriptor_heads::bit;
 
 // Each field but the reserved bits. Rates are in thousands of bits a second, 0 where none is told; the view order indices are a range, both ends in it.
@@ -83,4 +84,26 @@ pub fn mvc_extension_payload(extension: MvcExtension) -> [u8; 8]
         (greatest % 256) as u8,
         extension.temporal_id_start * 32 + extension.temporal_id_end * 4 + no_sei * 2 + no_prefix,
     ]
+}
+
+// Whether the least view order index of a range exceeds its greatest.
+fn reversed(extension: MvcExtension) -> bool
+    ensures { λ r. ⌜ r ≡ reversedRange extension ⌝ }
+{
+    extension.view_order_index_max < extension.view_order_index_min
+}
+
+// Whether two ranges whose least does not exceed their greatest share an index: each begins before the other ends.
+fn meet(first: MvcExtension, second: MvcExtension) -> bool
+    ensures { λ r. ⌜ r ≡ rangesMeet first second ⌝ }
+{
+    (first.view_order_index_min <= second.view_order_index_max)
+        & (second.view_order_index_min <= first.view_order_index_max)
+}
+
+// Of the two descriptors of a stereo set: a range whose least exceeds its greatest, or ranges that share an index.
+pub fn wrong_ranges(first: MvcExtension, second: MvcExtension) -> bool
+    ensures { λ r. ⌜ r ≡ wrongRanges first second ⌝ }
+{
+    reversed(first) | reversed(second) | meet(first, second)
 }
