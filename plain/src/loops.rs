@@ -27,62 +27,60 @@ pub fn read_loop_with(
         return Err(Refusal::of(1));
     }
     // The marks are known before an entry is judged. Where a piece doesn't fit it is all the same, since 2 is then the answer.
-    let streams = Frames(bytes).flatten();
-    let streams = streams.map(|frame| (frame.stream_type, frame.info));
-    let implied = descriptors::two_views(streams, has_hierarchy_descriptor);
+    let implied = descriptors::two_views(Heads(bytes), has_hierarchy_descriptor);
     let mut faults = Faults::default();
     let mut seen = Seen::default();
-    for (place, frame) in Frames(bytes).enumerate() {
+    let mut rest = bytes;
+    let mut place = 0;
+    while !rest.is_empty() {
         // Number 2 ends the reading: every entry before this one fits, and no lower number is left.
-        let frame = frame.ok_or(Refusal::at(2, place))?;
+        let too_short = Refusal::at(2, place);
+        if rest.len() < ENTRY_HEAD {
+            return Err(too_short);
+        }
+        let stream_type = rest[0];
+        let pid = u16::from_be_bytes([rest[1], rest[2]]) & 0x1FFF;
+        let end = ENTRY_HEAD + usize::from(u16::from_be_bytes([rest[3], rest[4]]) & 0x0FFF);
+        let info = rest.get(ENTRY_HEAD..end).ok_or(too_short)?;
+        rest = &rest[end..];
+
         let mut entry = Entry {
-            stream_type: frame.stream_type,
-            pid: frame.pid,
+            stream_type,
+            pid,
             record: None,
         };
-        if descriptors::known(reading, entry.stream_type) {
-            read_info(reading, frame.info, place, &mut entry.record, &mut faults)?;
+        if descriptors::known(reading, stream_type) {
+            read_info(reading, info, place, &mut entry.record, &mut faults)?;
         }
         if entry.record.is_none() && implied && descriptors::is_view(entry.stream_type) {
             entry.record = Some(Record::Implied);
         }
         judge(&entry, place, &mut seen, &mut faults);
         take(&entry);
+        place += 1;
     }
     faults.none()
 }
 
-/// An entry as it is framed.
-#[derive(Clone, Copy)]
-struct Frame<'a> {
-    stream_type: u8,
-    pid: u16,
-    info: &'a [u8],
-}
+/// The stream types and the descriptors of the entries one after another, as far as they fit.
+struct Heads<'a>(&'a [u8]);
 
-/// The entries of a loop one after another, and nothing in place of one that doesn't fit, which is the last.
-struct Frames<'a>(&'a [u8]);
-
-impl<'a> Iterator for Frames<'a> {
-    type Item = Option<Frame<'a>>;
+impl<'a> Iterator for Heads<'a> {
+    type Item = (u8, &'a [u8]);
 
     #[inline]
-    fn next(&mut self) -> Option<Option<Frame<'a>>> {
-        let rest = std::mem::take(&mut self.0);
-        if rest.is_empty() {
+    fn next(&mut self) -> Option<(u8, &'a [u8])> {
+        if self.0.len() < ENTRY_HEAD {
             return None;
         }
-        if rest.len() < ENTRY_HEAD {
-            return Some(None);
+        let (head, rest) = self.0.split_at(ENTRY_HEAD);
+        let length = usize::from(u16::from_be_bytes([head[3], head[4]]) & 0x0FFF);
+        if rest.len() < length {
+            return None;
         }
-        let end = ENTRY_HEAD + usize::from(u16::from_be_bytes([rest[3], rest[4]]) & 0x0FFF);
-        let frame = rest.get(ENTRY_HEAD..end).map(|info| Frame {
-            stream_type: rest[0],
-            pid: u16::from_be_bytes([rest[1], rest[2]]) & 0x1FFF,
-            info,
-        });
-        self.0 = rest.get(end..).unwrap_or_default();
-        Some(frame)
+        let (info, next) = rest.split_at(length);
+        self.0 = next;
+        Some((head[0], info))
     }
 }
 
