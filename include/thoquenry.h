@@ -79,6 +79,8 @@ enum thq_refusal {
     THQ_REFUSED_USED_TWICE = 16,
     /* the output room is too small */
     THQ_REFUSED_NO_ROOM = 17,
+    /* the decoding times of the closure rows lie 2^32 ticks or more apart */
+    THQ_REFUSED_SPAN_TOO_WIDE = 18,
     /* this is not a video PES header */
     THQ_REFUSED_NOT_VIDEO_HEADER = 20,
     /* PTS_DTS_flags is 00 or 01 */
@@ -91,6 +93,18 @@ enum thq_refusal {
     THQ_REFUSED_PTS_BEFORE_DTS = 24,
     /* a value to be written is too wide for its field */
     THQ_REFUSED_TOO_WIDE = 25,
+    /* the program's descriptor loop is longer than 1,008 bytes, a descriptor in it runs past it, or the fields of an operation point descriptor don't fill its length exactly */
+    THQ_REFUSED_POINTS_DO_NOT_FIT = 40,
+    /* an operation point has the reserved ES_count 0xFF */
+    THQ_REFUSED_RESERVED_ES_COUNT = 41,
+    /* an operation point refers to, or is to prepend, what is no layer of the loop */
+    THQ_REFUSED_UNKNOWN_REFERENCE = 42,
+    /* the loop has not exactly two layers, a base of type 0x1B and index 0 and a view of type 0x20 and index 1 resting on it */
+    THQ_REFUSED_NOT_STEREO_SET = 44,
+    /* on one of the two views the MVC extension descriptor is missing, doubled or of another length than 8 */
+    THQ_REFUSED_WRONG_MVC_EXTENSION = 45,
+    /* a range of view order index has a least above its greatest, or the two ranges share an index */
+    THQ_REFUSED_RANGES_MEET = 46,
 
     /* the reading is neither THQ_2009 nor THQ_2015 */
     THQ_NOT_A_CALL = 255

@@ -1,5 +1,5 @@
 """Do the declarations of the library agree? No compiler compares them: include/thoquenry.h for C, rust/thoquenry-sys for Rust,
-python/src/thoquenry/_library.py for Python, and the source itself, crates/thoquenry/src/*.rt. This test parses all four and holds them to one
+python/src/thoquenry/_library.py for Python, and the source itself, the crates that export functions. This test parses all four and holds them to one
 another: the functions' names, and the name, number, order, width and constness of the parameters and the width of the result. A slice
 parameter of the source is a pointer and, after it, a length. (ctypes does not say whether a pointer is const, so there it is not compared.)
 
@@ -24,7 +24,7 @@ ROOT = Path(__file__).resolve().parent.parent
 HEADER = "include/thoquenry.h"
 RUST = "rust/thoquenry-sys/src/lib.rs"
 PYTHON = "python/src/thoquenry/_library.py"
-SOURCE = "crates/thoquenry/src"
+SOURCE = "crates/*/src"
 WORDS = "words/refusals.tsv"
 RUST_REFUSALS = "rust/thoquenry/src/refusal.rs"
 PYTHON_REFUSALS = "python/src/thoquenry/_refusals.py"
@@ -337,7 +337,8 @@ CHANGES = [
 def main():
     single = (HEADER, RUST, PYTHON, WORDS, RUST_REFUSALS, PYTHON_REFUSALS, SOURCE_REFUSALS, VERSION_SPEC, *RUST_PACKAGES, PYTHON_PACKAGE)
     texts = {path: (ROOT / path).read_text() for path in single}
-    texts[SOURCE] = "\n".join(path.read_text() for path in sorted((ROOT / SOURCE).glob("*.rt")))
+    sources = [path.read_text() for path in sorted(ROOT.glob(f"{SOURCE}/*.rt"))]
+    texts[SOURCE] = "\n".join(text for text in sources if "#[no_mangle]" in text)
     header = c_functions(texts[HEADER])
     found = all_differences(texts)
     if len(sys.argv) > 1:

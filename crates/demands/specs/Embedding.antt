@@ -23,10 +23,11 @@ use Rattle.vocabulary.specs.declared.LayerIndex.{LayerIndex}
 use Rattle.vocabulary.specs.declared.stream_types.Reading.{Reading}
 use Rattle.vocabulary.specs.declared.stream_types.Reading.the-variants.{Edition2015}
 use Rattle.vocabulary.specs.declared.refusal.Refusal.{Refusal}
-use Rattle.vocabulary.specs.declared.refusal.Refusal.the-variants.{LoopTooLong, DoesNotFit, RepeatedPid, WrongLength, SecondRecord, TypeNotAllowed, WrongFlags, RepeatedLayerIndex, WrongEmbeddedIndex, NoSuchLayer, EmbeddedLayerAbsent, OutOfRange, TimeOrderBroken, Unpaired, UsedTwice, NoRoom, NotVideoHeader, NoPts, FieldsDoNotFit, WrongMarker, PtsBeforeDts, TooWide}
+use Rattle.vocabulary.specs.declared.refusal.Refusal.the-variants.{LoopTooLong, DoesNotFit, RepeatedPid, WrongLength, SecondRecord, TypeNotAllowed, WrongFlags, RepeatedLayerIndex, WrongEmbeddedIndex, NoSuchLayer, EmbeddedLayerAbsent, OutOfRange, TimeOrderBroken, Unpaired, UsedTwice, NoRoom, SpanTooWide, NotVideoHeader, NoPts, FieldsDoNotFit, WrongMarker, PtsBeforeDts, TooWide, PointsDoNotFit, ReservedEsCount, UnknownReference, NotStereoSet, WrongMvcExtension, RangesMeet}
 use Rattle.vocabulary.specs.Refusals.{numberOf}
 use Rattle.extension.specs.declared.ExtensionRecord.{ExtensionRecord}
 use Rattle.descriptors.specs.declared.«record».Record.{Record}
+use Rattle.vocabulary.proofs.Numbers.{not-listed}
 use Rattle.descriptors.specs.declared.«record».Record.the-variants.{Extension}
 use Rattle.extension.specs.Extension.{noLayer}
 use Rattle.es_loop.specs.declared.entries.Entry.{Entry}
@@ -108,41 +109,24 @@ no-ten (TimeOrderBroken row) = refl
 no-ten (Unpaired row) = refl
 no-ten (UsedTwice row) = refl
 no-ten NoRoom = refl
+no-ten SpanTooWide = refl
 no-ten NotVideoHeader = refl
 no-ten NoPts = refl
 no-ten FieldsDoNotFit = refl
 no-ten WrongMarker = refl
 no-ten PtsBeforeDts = refl
 no-ten TooWide = refl
+no-ten PointsDoNotFit = refl
+no-ten ReservedEsCount = refl
+no-ten UnknownReference = refl
+no-ten NotStereoSet = refl
+no-ten WrongMvcExtension = refl
+no-ten RangesMeet = refl
 
 never-listed : (outcome : Outcome) (table : LayerTable) (rest : List ℕ) → readText outcome table ≡ ascii "refused 10 " ++ rest → ⊥
 unfolding acceptedText isTen
 never-listed Accepted table rest e = let z : _≡_ {A = ℕ} 97 114 = ap (λ (text : List ℕ). getD text 0 0) e in absurd (omega arith)
 never-listed (Refused refusal) table rest e = both-ways (ap isTen e) (no-ten refusal)
-
-no-refusal-10 : (refusal : Refusal) → numberOf refusal ≡ 10 → ⊥
-no-refusal-10 LoopTooLong e = absurd (omega arith)
-no-refusal-10 (DoesNotFit entry) e = absurd (omega arith)
-no-refusal-10 (RepeatedPid entry) e = absurd (omega arith)
-no-refusal-10 (WrongLength entry) e = absurd (omega arith)
-no-refusal-10 (SecondRecord entry) e = absurd (omega arith)
-no-refusal-10 (TypeNotAllowed entry) e = absurd (omega arith)
-no-refusal-10 (WrongFlags entry) e = absurd (omega arith)
-no-refusal-10 (RepeatedLayerIndex entry) e = absurd (omega arith)
-no-refusal-10 (WrongEmbeddedIndex entry) e = absurd (omega arith)
-no-refusal-10 NoSuchLayer e = absurd (omega arith)
-no-refusal-10 (EmbeddedLayerAbsent index) e = absurd (omega arith)
-no-refusal-10 (OutOfRange row) e = absurd (omega arith)
-no-refusal-10 (TimeOrderBroken row) e = absurd (omega arith)
-no-refusal-10 (Unpaired row) e = absurd (omega arith)
-no-refusal-10 (UsedTwice row) e = absurd (omega arith)
-no-refusal-10 NoRoom e = absurd (omega arith)
-no-refusal-10 NotVideoHeader e = absurd (omega arith)
-no-refusal-10 NoPts e = absurd (omega arith)
-no-refusal-10 FieldsDoNotFit e = absurd (omega arith)
-no-refusal-10 WrongMarker e = absurd (omega arith)
-no-refusal-10 PtsBeforeDts e = absurd (omega arith)
-no-refusal-10 TooWide e = absurd (omega arith)
 
 never-in-text : (reading : Reading) (bytes rest : List ℕ) → loopText reading bytes ≡ ascii "refused 10 " ++ rest → ⊥
 unfolding loopText
@@ -153,7 +137,7 @@ never-in-text reading bytes rest e =
 pub ten-never : TenNever
 ten-never =
     record {
-      no-refusal = no-refusal-10;
+      no-refusal = not-listed 10 refl;
       reading-a-loop = never loop-read refl;
       writing-a-loop = never loop-written refl;
       closure-of-a-target = never closure-found refl;

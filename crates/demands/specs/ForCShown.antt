@@ -38,8 +38,8 @@ use Rattle.rows.specs.Table.{Table}
 use Rattle.joining.specs.Joining.{joinedOf, numbersAfter, lagsAfter}
 use Rattle.importing.specs.Importing.{layersRead, importOf}
 use Rattle.entry_rows.specs.Rows.{rowsOf, someTooWide, rowCount, entriesIn}
-use Rattle.thoquenry.specs.declared.answers.Asked.{Asked}
-use Rattle.thoquenry.specs.Answers.{accepted, askedFor, Reply, reply, unchanged}
+use Rattle.c_answers.specs.declared.Asked.{Asked}
+use Rattle.c_answers.specs.Answers.{accepted, askedFor, Reply, reply, unchanged}
 use Rattle.thoquenry.specs.Loops.{loopLaid, rowsAsked, readLoop as cReadLoop, loopWritten, writeLoop as cWriteLoop, closureLaid, closureAsked, closureCall}
 use Rattle.thoquenry.specs.Times.{timesRead, readTimes as cReadTimes, bytesWritten, timesWritten, writeTimes as cWriteTimes}
 use Rattle.thoquenry.specs.Joins.{JoinReply, layersGiven, withSummary, joinReply, joinCall, importAsked}

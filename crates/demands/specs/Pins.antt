@@ -11,7 +11,7 @@ use Rattle.sets.specs.Sets.{size}
 use Rattle.assembling.specs.Assemblies.{edgesOf, membersOf}
 use Rattle.rows.specs.Table.{Table, table}
 use Rattle.entry_rows.specs.Rows.{headOf, tailOf, rowTooWide, entryIn}
-use Rattle.thoquenry.specs.Answers.{Reply, reply}
+use Rattle.c_answers.specs.Answers.{Reply, reply}
 use Rattle.thoquenry.specs.Loops.{readLoop, writeLoop, closureCall}
 use Rattle.thoquenry.specs.Times.{readTimes}
 use Rattle.thoquenry.specs.Joins.{JoinReply, joinCall, importCall}

@@ -14,10 +14,11 @@ use Rattle.combinators.specs.Members.{member}
 use Rattle.vocabulary.specs.declared.stream_types.Reading.{Reading}
 use Rattle.vocabulary.specs.declared.stream_types.Reading.the-variants.{Edition2009, Edition2015}
 use Rattle.vocabulary.specs.Refusals.{numberOf}
-use Rattle.thoquenry.specs.declared.answers.Asked.{Asked}
-use Rattle.thoquenry.specs.declared.answers.Asked.the-variants.{Known, Neither}
-use Rattle.thoquenry.specs.Answers.{accepted, refused, notACall, askedFor}
-use Rattle.thoquenry.specs.Bounds.{Placed, refused-number, refused-place, accepted-number, accepted-count}
+use Rattle.c_answers.specs.declared.Asked.{Asked}
+use Rattle.c_answers.specs.declared.Asked.the-variants.{Known, Neither}
+use Rattle.c_answers.specs.Answers.{accepted, refused, notACall, askedFor}
+use Rattle.c_answers.proofs.Macros.{refused-number, refused-place, accepted-number, accepted-count}
+use Rattle.thoquenry.specs.Bounds.{Placed}
 use Rattle.promised.specs.Calls.{Call, isListed, Promised}
 use Rattle.promised.specs.Shown.{Computed, promised, not-refused}
 use Rattle.demands.specs.Told.{Told, counts, refuses, not-a-call, Reads, Says, Retells, If, ByYear, ForC, toldNumber, forC}
@@ -46,8 +47,8 @@ module _ {B : Type 0} where
   Fits not-a-call = Unit {0}
 
   says : (t : Told B) (before : B) → Fits t → Says t before (code t) (leaves t before)
-  says (counts count left) before h = record { number-read = accepted-number count; value-read = accepted-count count h; left-so = refl }
-  says (refuses refusal) before h = record { number-read = refused-number refusal; value-read = refused-place refusal h; left-so = refl }
+  says (counts count left) before h = record { number-read = accepted-number count; value-read = accepted-count count (omega arith); left-so = refl }
+  says (refuses refusal) before h = record { number-read = refused-number refusal; value-read = refused-place refusal (omega arith); left-so = refl }
   says not-a-call before h = record { number-read = refl; value-read = refl; left-so = refl }
 
   reads-one : {number value : ℕ} {left : B} {answer other : ℕ} {after beside : B} → Reads number value left answer after

@@ -20,7 +20,7 @@ use Rattle.syntax.proofs.Laws.{read-before}
 use Rattle.vocabulary.specs.declared.LayerIndex.{LayerIndex}
 use Rattle.vocabulary.specs.declared.stream_types.Reading.{Reading}
 use Rattle.vocabulary.specs.declared.refusal.Refusal.{Refusal}
-use Rattle.vocabulary.specs.declared.refusal.Refusal.the-variants.{LoopTooLong, DoesNotFit, RepeatedPid, WrongLength, SecondRecord, TypeNotAllowed as TypeRefused, WrongFlags as FlagsRefused, RepeatedLayerIndex, WrongEmbeddedIndex, NoSuchLayer, EmbeddedLayerAbsent, OutOfRange, TimeOrderBroken, Unpaired, UsedTwice, NoRoom, NotVideoHeader, NoPts, FieldsDoNotFit, WrongMarker, PtsBeforeDts, TooWide}
+use Rattle.vocabulary.specs.declared.refusal.Refusal.the-variants.{LoopTooLong, DoesNotFit, RepeatedPid, WrongLength, SecondRecord, TypeNotAllowed as TypeRefused, WrongFlags as FlagsRefused, RepeatedLayerIndex, WrongEmbeddedIndex, NoSuchLayer, EmbeddedLayerAbsent, OutOfRange, TimeOrderBroken, Unpaired, UsedTwice, NoRoom, SpanTooWide, NotVideoHeader, NoPts, FieldsDoNotFit, WrongMarker, PtsBeforeDts, TooWide, PointsDoNotFit, ReservedEsCount, UnknownReference, NotStereoSet, WrongMvcExtension, RangesMeet}
 use Rattle.vocabulary.specs.Refusals.{numberOf, placeOf}
 use Rattle.vocabulary.specs.StreamTypes.{known}
 use Rattle.descriptors.specs.declared.«record».Record.{Record}
@@ -71,12 +71,19 @@ named-refusal (TimeOrderBroken row) h = absurd (omega arith)
 named-refusal (Unpaired row) h = absurd (omega arith)
 named-refusal (UsedTwice row) h = absurd (omega arith)
 named-refusal NoRoom h = absurd (omega arith)
+named-refusal SpanTooWide h = absurd (omega arith)
 named-refusal NotVideoHeader h = absurd (omega arith)
 named-refusal NoPts h = absurd (omega arith)
 named-refusal FieldsDoNotFit h = absurd (omega arith)
 named-refusal WrongMarker h = absurd (omega arith)
 named-refusal PtsBeforeDts h = absurd (omega arith)
 named-refusal TooWide h = absurd (omega arith)
+named-refusal PointsDoNotFit h = absurd (omega arith)
+named-refusal ReservedEsCount h = absurd (omega arith)
+named-refusal UnknownReference h = absurd (omega arith)
+named-refusal NotStereoSet h = absurd (omega arith)
+named-refusal WrongMvcExtension h = absurd (omega arith)
+named-refusal RangesMeet h = absurd (omega arith)
 
 -- WHAT IS SEEN OF EACH ENTRY ALONE.
 module _ (reading : Reading) (entries : List Item) where

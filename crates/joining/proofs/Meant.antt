@@ -23,7 +23,7 @@ use Rattle.combinators.specs.Below.{seek-first}
 use Rattle.combinators.specs.Bools.{either-left, either-right}
 use Rattle.combinators.specs.Those.{length-those}
 use Rattle.vocabulary.specs.declared.LayerIndex.{LayerIndex}
-use Rattle.vocabulary.specs.declared.refusal.Refusal.the-variants.{LoopTooLong, DoesNotFit, RepeatedPid, WrongLength, SecondRecord, TypeNotAllowed, WrongFlags, RepeatedLayerIndex, WrongEmbeddedIndex, NotVideoHeader, NoPts, FieldsDoNotFit, WrongMarker, PtsBeforeDts, TooWide, NoSuchLayer, EmbeddedLayerAbsent, OutOfRange, TimeOrderBroken, Unpaired, UsedTwice, NoRoom}
+use Rattle.vocabulary.specs.declared.refusal.Refusal.the-variants.{LoopTooLong, DoesNotFit, RepeatedPid, WrongLength, SecondRecord, TypeNotAllowed, WrongFlags, RepeatedLayerIndex, WrongEmbeddedIndex, NotVideoHeader, NoPts, FieldsDoNotFit, WrongMarker, PtsBeforeDts, TooWide, PointsDoNotFit, ReservedEsCount, UnknownReference, NotStereoSet, WrongMvcExtension, RangesMeet, NoSuchLayer, EmbeddedLayerAbsent, OutOfRange, TimeOrderBroken, Unpaired, UsedTwice, NoRoom, SpanTooWide}
 use Rattle.joining.specs.declared.answer.Joined.{Joined}
 use Rattle.joining.specs.declared.answer.Joined.the-variants.{Units, Refused}
 use Rattle.rows.specs.Table.{Table, rowsIn, layerOf, decodingOf, matchOf, wrongShape, outOfRange, firstOutOfRange, breaksOrder, firstBroken, mostRows}
@@ -514,6 +514,13 @@ module _ (layers : Layers) (target : ℕ) (t : Table) (numbers : List ℕ) (lags
   Given (Refused WrongMarker) = ⊥
   Given (Refused PtsBeforeDts) = ⊥
   Given (Refused TooWide) = ⊥
+  Given (Refused SpanTooWide) = ⊥
+  Given (Refused PointsDoNotFit) = ⊥
+  Given (Refused ReservedEsCount) = ⊥
+  Given (Refused UnknownReference) = ⊥
+  Given (Refused NotStereoSet) = ⊥
+  Given (Refused WrongMvcExtension) = ⊥
+  Given (Refused RangesMeet) = ⊥
 
   given : {answer : Joined} {numbers₂ : List ℕ} {lags₂ : List ℤ} → Answers layers target t numbers lags answer numbers₂ lags₂ → Given answer
   given (no-closure (no-such-layer h)) = h

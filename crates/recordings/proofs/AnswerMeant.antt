@@ -14,7 +14,7 @@ use Rattle.combinators.specs.Lists.{Nth, nth-inside, getD-nth, next}
 use Rattle.combinators.specs.Lowest.{Lowest, earliestPlace, lowest-number, earliest-place}
 use Rattle.framing.specs.Pieces.{Item, whole, broken, Cuts, cut-cuts, cuts-unique}
 use Rattle.vocabulary.specs.declared.refusal.Refusal.{Refusal}
-use Rattle.vocabulary.specs.declared.refusal.Refusal.the-variants.{LoopTooLong, DoesNotFit, RepeatedPid, WrongLength, SecondRecord, TypeNotAllowed, WrongFlags, RepeatedLayerIndex, WrongEmbeddedIndex, NoSuchLayer, EmbeddedLayerAbsent, OutOfRange, TimeOrderBroken, Unpaired, UsedTwice, NoRoom, NotVideoHeader, NoPts, FieldsDoNotFit, WrongMarker, PtsBeforeDts, TooWide}
+use Rattle.vocabulary.specs.declared.refusal.Refusal.the-variants.{LoopTooLong, DoesNotFit, RepeatedPid, WrongLength, SecondRecord, TypeNotAllowed, WrongFlags, RepeatedLayerIndex, WrongEmbeddedIndex, NoSuchLayer, EmbeddedLayerAbsent, OutOfRange, TimeOrderBroken, Unpaired, UsedTwice, NoRoom, SpanTooWide, NotVideoHeader, NoPts, FieldsDoNotFit, WrongMarker, PtsBeforeDts, TooWide, PointsDoNotFit, ReservedEsCount, UnknownReference, NotStereoSet, WrongMvcExtension, RangesMeet}
 use Rattle.vocabulary.specs.Refusals.{numberOf as headerNumber}
 use Rattle.packets.specs.declared.Fault.{Fault as Refused}
 use Rattle.packets.specs.declared.Fault.the-variants.{LostSync, CounterGap, OutsidePacket, Scrambled}
@@ -85,12 +85,19 @@ named-header (TimeOrderBroken k) e = apart e
 named-header (Unpaired k) e = apart e
 named-header (UsedTwice k) e = apart e
 named-header NoRoom e = apart e
+named-header SpanTooWide e = apart e
 named-header NotVideoHeader e = refl
 named-header NoPts e = refl
 named-header FieldsDoNotFit e = refl
 named-header WrongMarker e = refl
 named-header PtsBeforeDts e = refl
 named-header TooWide e = apart e
+named-header PointsDoNotFit e = apart e
+named-header ReservedEsCount e = apart e
+named-header UnknownReference e = apart e
+named-header NotStereoSet e = apart e
+named-header WrongMvcExtension e = apart e
+named-header RangesMeet e = apart e
 
 is-fault : (n : ℕ) (event : Event) → faultIs n event ≡ true → event ≡ Fault n
 is-fault n Nothing e = apart e

@@ -22,7 +22,7 @@ use Rattle.es_loop.proofs.Judged.{sound}
 use Rattle.loop_writer.specs.Writing.{answer, content}
 use Rattle.buffers.specs.Buffers.{over}
 use Rattle.entry_rows.specs.Rows.{rowsOf, someTooWide, rowCount, entriesIn}
-use Rattle.thoquenry.specs.Answers.{accepted, Reply, reply, unchanged}
+use Rattle.c_answers.specs.Answers.{accepted, Reply, reply, unchanged}
 use Rattle.thoquenry.specs.Bounds.{few-streams}
 use Rattle.thoquenry.specs.Loops.{entriesLaid, rowsRead, loopWritten, writeLoop}
 

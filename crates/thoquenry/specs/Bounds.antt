@@ -68,49 +68,10 @@ use Rattle.rows.specs.Table.{Table, rowsIn, wrongShape, outOfRange, firstOutOfR
 use Rattle.joining.specs.Units.{Frame, isTarget, unpaired, shares, firstUnpaired, firstShared, unitsIn, leftOut, frameOf}
 use Rattle.joining.specs.Joining.{places, unitsJoined, joinedBy, tableJoined, joinedIn, joinedOf}
 use Rattle.importing.specs.Importing.{layersRead, importFor, importOf}
-use Rattle.thoquenry.specs.Answers.{accepted, refused, number-of, value-of}
 
 -- a place, or what a loop's bytes bound
 abbrev pub Placed : Refusal → Type 0
 Placed refusal = placeOf refusal ≤ 1008
-
--- ---- the caller's two macros
-
-number-small : (refusal : Refusal) → numberOf refusal < 256
-number-small LoopTooLong = omega arith
-number-small (DoesNotFit entry) = omega arith
-number-small (RepeatedPid entry) = omega arith
-number-small (WrongLength entry) = omega arith
-number-small (SecondRecord entry) = omega arith
-number-small (TypeNotAllowed entry) = omega arith
-number-small (WrongFlags entry) = omega arith
-number-small (RepeatedLayerIndex entry) = omega arith
-number-small (WrongEmbeddedIndex entry) = omega arith
-number-small NoSuchLayer = omega arith
-number-small (EmbeddedLayerAbsent index) = omega arith
-number-small (OutOfRange row) = omega arith
-number-small (TimeOrderBroken row) = omega arith
-number-small (Unpaired row) = omega arith
-number-small (UsedTwice row) = omega arith
-number-small NoRoom = omega arith
-number-small NotVideoHeader = omega arith
-number-small NoPts = omega arith
-number-small FieldsDoNotFit = omega arith
-number-small WrongMarker = omega arith
-number-small PtsBeforeDts = omega arith
-number-small TooWide = omega arith
-
-pub refused-number : (refusal : Refusal) → refused refusal % 256 ≡ numberOf refusal
-refused-number refusal = number-of (numberOf refusal) (placeOf refusal) (number-small refusal)
-
-pub refused-place : (refusal : Refusal) → Placed refusal → refused refusal / 256 ≡ placeOf refusal
-refused-place refusal h = value-of (numberOf refusal) (placeOf refusal) (number-small refusal) (omega arith)
-
-pub accepted-number : (count : ℕ) → accepted count % 256 ≡ 0
-accepted-number count = number-of 0 count (omega arith)
-
-pub accepted-count : (count : ℕ) → count ≤ 32768 → accepted count / 256 ≡ count
-accepted-count count h = value-of 0 count (omega arith) (omega arith)
 
 -- ---- times: every place is 0
 

@@ -7,7 +7,7 @@ use lib.ListN.{take, drop, replicate}
 use Rattle.sets.specs.Sets.{size}
 use Rattle.es_loop.specs.Examples.{loopA}
 use Rattle.entry_rows.specs.Rows.{headOf, tailOf}
-use Rattle.thoquenry.specs.Answers.{reply}
+use Rattle.c_answers.specs.Answers.{reply}
 use Rattle.thoquenry.specs.Loops.{readLoop, closureCall}
 use Rattle.thoquenry.specs.Times.{readTimes, writeTimes}
 

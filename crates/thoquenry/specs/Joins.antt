@@ -17,9 +17,9 @@ use Rattle.rows.specs.Table.{Table}
 use Rattle.buffers.specs.Buffers.{over}
 use Rattle.joining.specs.Joining.{joinedOf, numbersAfter, lagsAfter}
 use Rattle.importing.specs.Importing.{layersRead, importOf}
-use Rattle.thoquenry.specs.declared.answers.Asked.{Asked}
-use Rattle.thoquenry.specs.declared.answers.Asked.the-variants.{Known, Neither}
-use Rattle.thoquenry.specs.Answers.{accepted, refused, notACall, askedFor}
+use Rattle.c_answers.specs.declared.Asked.{Asked}
+use Rattle.c_answers.specs.declared.Asked.the-variants.{Known, Neither}
+use Rattle.c_answers.specs.Answers.{accepted, refused, notACall, askedFor}
 
 -- 'bit i of `present` is 1 when there is a layer of index i, and number i of `embedded` is the set of the indices that this layer names (a number that
 -- is not there is the empty set)'

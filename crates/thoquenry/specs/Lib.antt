@@ -1,4 +1,3 @@
-pub mod Answers
 pub mod Loops
 pub mod Times
 pub mod Joins

@@ -20,9 +20,9 @@ use Rattle.loop_layers.specs.Closures.{entriesRead, loopClosure}
 use Rattle.sets.specs.Sets.{size}
 use Rattle.buffers.specs.Buffers.{over}
 use Rattle.entry_rows.specs.Rows.{rowsOf, someTooWide, rowCount, entriesIn}
-use Rattle.thoquenry.specs.declared.answers.Asked.{Asked}
-use Rattle.thoquenry.specs.declared.answers.Asked.the-variants.{Known, Neither}
-use Rattle.thoquenry.specs.Answers.{accepted, refused, notACall, askedFor, Reply, reply, unchanged}
+use Rattle.c_answers.specs.declared.Asked.{Asked}
+use Rattle.c_answers.specs.declared.Asked.the-variants.{Known, Neither}
+use Rattle.c_answers.specs.Answers.{accepted, refused, notACall, askedFor, Reply, reply, unchanged}
 
 -- ---- thq_read_loop
 

@@ -14,7 +14,7 @@ use Rattle.pes_writer.specs.declared.Written.{Written}
 use Rattle.pes_writer.specs.declared.Written.the-variants.{Bytes, Refused as NotWritten}
 use Rattle.pes_reader.specs.Reading.{readOf}
 use Rattle.pes_writer.specs.Writing.{headerOf, writeOf, bufferOf}
-use Rattle.thoquenry.specs.Answers.{accepted, refused, Reply, reply, unchanged}
+use Rattle.c_answers.specs.Answers.{accepted, refused, Reply, reply, unchanged}
 
 -- '`times` receives five numbers: PTS, decoding time and match time; 1 where a TREF stood in the header, and else 0; and the offset at which the
 -- header ends. Counts them, 5.'

@@ -1,6 +1,5 @@
 // The library that others link: seven calls, and its version, for C and for whatever calls C. include/thoquenry.h documents each; specs/ has,
 // for each, one definition of its answer and of what its buffers hold afterwards, over the definitions of the crates that do the work.
-mod answers;
 mod joins;
 mod loops;
 mod times;

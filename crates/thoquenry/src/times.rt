@@ -1,8 +1,8 @@
 // The times of a PES header, and whether a TREF stands in it, read and written.
 ghost use mathlib.Core.Path.{_≡_};
 ghost use Rattle.thoquenry.specs.Times.{bitOf, readTimes, writeTimes};
-use super::answers::accepted;
-use super::answers::refused;
+use c_answers::accepted;
+use c_answers::refused;
 use pes::Answer;
 use pes::Times;
 use pes::Written;

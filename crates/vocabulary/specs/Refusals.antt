@@ -2,7 +2,7 @@
 -- Assumes nothing.
 use Prim.Native.Nat.{ℕ}
 use Rattle.vocabulary.specs.declared.refusal.Refusal.{Refusal}
-use Rattle.vocabulary.specs.declared.refusal.Refusal.the-variants.{LoopTooLong, DoesNotFit, RepeatedPid, WrongLength, SecondRecord, TypeNotAllowed, WrongFlags, RepeatedLayerIndex, WrongEmbeddedIndex, NoSuchLayer, EmbeddedLayerAbsent, OutOfRange, TimeOrderBroken, Unpaired, UsedTwice, NoRoom, NotVideoHeader, NoPts, FieldsDoNotFit, WrongMarker, PtsBeforeDts, TooWide}
+use Rattle.vocabulary.specs.declared.refusal.Refusal.the-variants.{LoopTooLong, DoesNotFit, RepeatedPid, WrongLength, SecondRecord, TypeNotAllowed, WrongFlags, RepeatedLayerIndex, WrongEmbeddedIndex, NoSuchLayer, EmbeddedLayerAbsent, OutOfRange, TimeOrderBroken, Unpaired, UsedTwice, NoRoom, SpanTooWide, NotVideoHeader, NoPts, FieldsDoNotFit, WrongMarker, PtsBeforeDts, TooWide, PointsDoNotFit, ReservedEsCount, UnknownReference, NotStereoSet, WrongMvcExtension, RangesMeet}
 
 -- the column 'No.'
 abbrev pub numberOf : Refusal → ℕ
@@ -22,12 +22,19 @@ numberOf (TimeOrderBroken row) = 14
 numberOf (Unpaired row) = 15
 numberOf (UsedTwice row) = 16
 numberOf NoRoom = 17
+numberOf SpanTooWide = 18
 numberOf NotVideoHeader = 20
 numberOf NoPts = 21
 numberOf FieldsDoNotFit = 22
 numberOf WrongMarker = 23
 numberOf PtsBeforeDts = 24
 numberOf TooWide = 25
+numberOf PointsDoNotFit = 40
+numberOf ReservedEsCount = 41
+numberOf UnknownReference = 42
+numberOf NotStereoSet = 44
+numberOf WrongMvcExtension = 45
+numberOf RangesMeet = 46
 
 -- the column 'Place', and 0 where it names none
 abbrev pub placeOf : Refusal → ℕ
@@ -47,9 +54,16 @@ placeOf (TimeOrderBroken row) = row
 placeOf (Unpaired row) = row
 placeOf (UsedTwice row) = row
 placeOf NoRoom = 0
+placeOf SpanTooWide = 0
 placeOf NotVideoHeader = 0
 placeOf NoPts = 0
 placeOf FieldsDoNotFit = 0
 placeOf WrongMarker = 0
 placeOf PtsBeforeDts = 0
 placeOf TooWide = 0
+placeOf PointsDoNotFit = 0
+placeOf ReservedEsCount = 0
+placeOf UnknownReference = 0
+placeOf NotStereoSet = 0
+placeOf WrongMvcExtension = 0
+placeOf RangesMeet = 0

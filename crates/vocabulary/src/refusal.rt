@@ -1,4 +1,4 @@
-// The refusals of document 01, one named case for each number, with its place where the document names one.
+// The refusals of documents 01 and 02, one named case for each number, with its place where the document names one.
 ghost use mathlib.Core.Path.{_≡_};
 ghost use Rattle.vocabulary.specs.Refusals.{numberOf, placeOf};
 use super::LayerIndex;
@@ -20,12 +20,19 @@ pub enum Refusal {
     Unpaired(usize),
     UsedTwice(usize),
     NoRoom,
+    SpanTooWide,
     NotVideoHeader,
     NoPts,
     FieldsDoNotFit,
     WrongMarker,
     PtsBeforeDts,
     TooWide,
+    PointsDoNotFit,
+    ReservedEsCount,
+    UnknownReference,
+    NotStereoSet,
+    WrongMvcExtension,
+    RangesMeet,
 }
 
 // The number under which document 01 lists a refusal.
@@ -49,12 +56,19 @@ pub fn number(refusal: Refusal) -> u8
         Refusal::Unpaired(_) => 15,
         Refusal::UsedTwice(_) => 16,
         Refusal::NoRoom => 17,
+        Refusal::SpanTooWide => 18,
         Refusal::NotVideoHeader => 20,
         Refusal::NoPts => 21,
         Refusal::FieldsDoNotFit => 22,
         Refusal::WrongMarker => 23,
         Refusal::PtsBeforeDts => 24,
         Refusal::TooWide => 25,
+        Refusal::PointsDoNotFit => 40,
+        Refusal::ReservedEsCount => 41,
+        Refusal::UnknownReference => 42,
+        Refusal::NotStereoSet => 44,
+        Refusal::WrongMvcExtension => 45,
+        Refusal::RangesMeet => 46,
     }
 }
 
@@ -79,11 +93,18 @@ pub fn place(refusal: Refusal) -> usize
         Refusal::Unpaired(row) => row,
         Refusal::UsedTwice(row) => row,
         Refusal::NoRoom => 0,
+        Refusal::SpanTooWide => 0,
         Refusal::NotVideoHeader => 0,
         Refusal::NoPts => 0,
         Refusal::FieldsDoNotFit => 0,
         Refusal::WrongMarker => 0,
         Refusal::PtsBeforeDts => 0,
         Refusal::TooWide => 0,
+        Refusal::PointsDoNotFit => 0,
+        Refusal::ReservedEsCount => 0,
+        Refusal::UnknownReference => 0,
+        Refusal::NotStereoSet => 0,
+        Refusal::WrongMvcExtension => 0,
+        Refusal::RangesMeet => 0,
     }
 }

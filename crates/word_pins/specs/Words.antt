@@ -6,7 +6,7 @@ use mathlib.Core.Path.{_≡_, refl}
 use Rattle.combinators.specs.Those.{those}
 use Rattle.vocabulary.specs.declared.stream_types.Reading.the-variants.{Edition2009, Edition2015}
 use Rattle.vocabulary.specs.declared.refusal.Refusal.{Refusal}
-use Rattle.vocabulary.specs.declared.refusal.Refusal.the-variants.{LoopTooLong, DoesNotFit, RepeatedPid, WrongLength, SecondRecord, TypeNotAllowed, WrongFlags, RepeatedLayerIndex, WrongEmbeddedIndex, NoSuchLayer, EmbeddedLayerAbsent, OutOfRange, TimeOrderBroken, Unpaired, UsedTwice, NoRoom, NotVideoHeader, NoPts, FieldsDoNotFit, WrongMarker, PtsBeforeDts, TooWide}
+use Rattle.vocabulary.specs.declared.refusal.Refusal.the-variants.{LoopTooLong, DoesNotFit, RepeatedPid, WrongLength, SecondRecord, TypeNotAllowed, WrongFlags, RepeatedLayerIndex, WrongEmbeddedIndex, NoSuchLayer, EmbeddedLayerAbsent, OutOfRange, TimeOrderBroken, Unpaired, UsedTwice, NoRoom, SpanTooWide, NotVideoHeader, NoPts, FieldsDoNotFit, WrongMarker, PtsBeforeDts, TooWide, PointsDoNotFit, ReservedEsCount, UnknownReference, NotStereoSet, WrongMvcExtension, RangesMeet}
 use Rattle.vocabulary.specs.Refusals.{numberOf, placeOf}
 use Rattle.vocabulary.specs.StreamTypes.{known, mayStandOn}
 
@@ -54,6 +54,8 @@ refusalTable p =
     ∷ line 16 p (UsedTwice p)
     -- 'output room too small'
     ∷ line 17 0 NoRoom
+    -- W-204: 'when the distances of closure rows from that first row span 2^32 or more'
+    ∷ line 18 0 SpanTooWide
     -- 'not a video PES header'
     ∷ line 20 0 NotVideoHeader
     -- 'PTS_DTS_flags is 00 or 01'
@@ -66,6 +68,18 @@ refusalTable p =
     ∷ line 24 0 PtsBeforeDts
     -- 'a value to be written is too wide for its field'
     ∷ line 25 0 TooWide
+    -- W-205: 'a descriptor whose fields don't fill its length exactly or that runs past its loop, or a loop over 1,008 bytes'
+    ∷ line 40 0 PointsDoNotFit
+    -- 'a reserved ES_count'
+    ∷ line 41 0 ReservedEsCount
+    -- 'a reference, or a dependency to be prepended, that is no layer of the loop'
+    ∷ line 42 0 UnknownReference
+    -- W-211: 'not these two layers'
+    ∷ line 44 0 NotStereoSet
+    -- 'the descriptor missing, doubled or of another length than its layout'
+    ∷ line 45 0 WrongMvcExtension
+    -- 'a range whose least exceeds its greatest, or ranges that meet'
+    ∷ line 46 0 RangesMeet
     ∷ []
 
 -- the known types but 0x20

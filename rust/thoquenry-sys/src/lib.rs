@@ -34,12 +34,19 @@ pub const THQ_REFUSED_TIME_ORDER_BROKEN: u64 = 14;
 pub const THQ_REFUSED_UNPAIRED: u64 = 15;
 pub const THQ_REFUSED_USED_TWICE: u64 = 16;
 pub const THQ_REFUSED_NO_ROOM: u64 = 17;
+pub const THQ_REFUSED_SPAN_TOO_WIDE: u64 = 18;
 pub const THQ_REFUSED_NOT_VIDEO_HEADER: u64 = 20;
 pub const THQ_REFUSED_NO_PTS: u64 = 21;
 pub const THQ_REFUSED_FIELDS_DO_NOT_FIT: u64 = 22;
 pub const THQ_REFUSED_WRONG_MARKER: u64 = 23;
 pub const THQ_REFUSED_PTS_BEFORE_DTS: u64 = 24;
 pub const THQ_REFUSED_TOO_WIDE: u64 = 25;
+pub const THQ_REFUSED_POINTS_DO_NOT_FIT: u64 = 40;
+pub const THQ_REFUSED_RESERVED_ES_COUNT: u64 = 41;
+pub const THQ_REFUSED_UNKNOWN_REFERENCE: u64 = 42;
+pub const THQ_REFUSED_NOT_STEREO_SET: u64 = 44;
+pub const THQ_REFUSED_WRONG_MVC_EXTENSION: u64 = 45;
+pub const THQ_REFUSED_RANGES_MEET: u64 = 46;
 
 /// The number of the refusal of a reading that is neither.
 pub const THQ_NOT_A_CALL: u64 = 255;

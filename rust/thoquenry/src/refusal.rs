@@ -152,6 +152,8 @@ refusals! {
     },
     /// 17: the output room is too small.
     17 NoRoom,
+    /// 18: the decoding times of the closure rows lie 2^32 ticks or more apart.
+    18 SpanTooWide,
     /// 20: this is not a video PES header.
     20 NotVideoHeader,
     /// 21: PTS_DTS_flags is 00 or 01.
@@ -164,6 +166,18 @@ refusals! {
     24 PtsBeforeDts,
     /// 25: a value to be written is too wide for its field.
     25 TooWide,
+    /// 40: the program's descriptor loop is longer than 1,008 bytes, a descriptor in it runs past it, or the fields of an operation point descriptor don't fill its length exactly.
+    40 PointsDoNotFit,
+    /// 41: an operation point has the reserved ES_count 0xFF.
+    41 ReservedEsCount,
+    /// 42: an operation point refers to, or is to prepend, what is no layer of the loop.
+    42 UnknownReference,
+    /// 44: the loop has not exactly two layers, a base of type 0x1B and index 0 and a view of type 0x20 and index 1 resting on it.
+    44 NotStereoSet,
+    /// 45: on one of the two views the MVC extension descriptor is missing, doubled or of another length than 8.
+    45 WrongMvcExtension,
+    /// 46: a range of view order index has a least above its greatest, or the two ranges share an index.
+    46 RangesMeet,
 }
 
 impl Refusal {

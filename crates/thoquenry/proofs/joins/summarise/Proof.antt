@@ -6,7 +6,7 @@ use mathlib.Core.List.{[], _∷_}
 use lib.ListN.{length-set}
 use Rattle.joining.specs.declared.answer.Joined.{Joined}
 use Rattle.buffers.proofs.Laws.{sets-over}
-use Rattle.thoquenry.specs.Answers.{accepted}
+use Rattle.c_answers.specs.Answers.{accepted}
 use Rattle.thoquenry.specs.Joins.{joinedAnswer, summaryAfter}
 use Rattle.thoquenry.specs.Bounds.{Few, size-short, places-fit}
 use native.Mathlib.Omega.{arith}

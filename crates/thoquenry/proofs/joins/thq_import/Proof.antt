@@ -2,7 +2,7 @@
 -- Assumes nothing.
 use mathlib.Core.Path.{sym, _∙_, refl, ap}
 use Rattle.rows.specs.Table.{table}
-use Rattle.thoquenry.specs.declared.answers.Asked.{Asked}
+use Rattle.c_answers.specs.declared.Asked.{Asked}
 use Rattle.thoquenry.specs.Joins.{importAsked}
 use Rattle.thoquenry.proofs.Joined.{left-as}
 use native.Mathlib.Omega.{arith}

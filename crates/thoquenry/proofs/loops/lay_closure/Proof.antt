@@ -6,7 +6,7 @@ use Rattle.closure.specs.declared.Closure.{Closure}
 use Rattle.sets.specs.Sets.{size}
 use Rattle.buffers.specs.Buffers.{over}
 use Rattle.buffers.proofs.Laws.{sets-over}
-use Rattle.thoquenry.specs.Answers.{accepted, reply}
+use Rattle.c_answers.specs.Answers.{accepted, reply}
 use Rattle.thoquenry.specs.Loops.{closureLaid}
 use Rattle.thoquenry.proofs.Replies.{answers, buffers, no-room, has-room}
 use native.Mathlib.Omega.{arith}

@@ -2,7 +2,7 @@
 -- Assumes nothing.
 use mathlib.Core.Path.{sym, _∙_, ap}
 use Rattle.closure.specs.declared.Closure.{Closure}
-use Rattle.thoquenry.specs.declared.answers.Asked.{Asked}
+use Rattle.c_answers.specs.declared.Asked.{Asked}
 use Rattle.thoquenry.specs.Loops.{closureLaid, closureAsked}
 use Rattle.thoquenry.proofs.Replies.{answers, buffers}
 use native.Mathlib.Omega.{arith}

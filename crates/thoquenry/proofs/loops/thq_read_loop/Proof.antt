@@ -1,7 +1,7 @@
 -- `loops::thq_read_loop` meets its contract: which reading was asked for decides.
 -- Assumes nothing.
 use mathlib.Core.Path.{sym, _∙_, ap}
-use Rattle.thoquenry.specs.declared.answers.Asked.{Asked}
+use Rattle.c_answers.specs.declared.Asked.{Asked}
 use Rattle.thoquenry.specs.Loops.{rowsAsked}
 use Rattle.thoquenry.proofs.Replies.{answers, buffers}
 use native.Mathlib.Omega.{arith}

@@ -10,7 +10,7 @@ use Rattle.vocabulary.specs.declared.refusal.Refusal.the-variants.{TooWide}
 use Rattle.stamps.specs.declared.Times.{Times}
 use Rattle.pes_writer.specs.declared.Written.{Written}
 use Rattle.pes_writer.specs.Writing.{headerOf, bufferOf}
-use Rattle.thoquenry.specs.Answers.{Reply, unchanged}
+use Rattle.c_answers.specs.Answers.{Reply, unchanged}
 use Rattle.thoquenry.specs.Times.{bytesWritten, timesWritten}
 use Rattle.thoquenry.proofs.Replies.{answers, buffers}
 use native.Mathlib.Omega.{arith}

@@ -75,6 +75,27 @@ enum-told-8 c = search needs
 enum-told-9 : tie.Need-enum-told-9
 enum-told-9 c = search needs
 
+enum-told-10 : tie.Need-enum-told-10
+enum-told-10 c = search needs
+
+enum-told-11 : tie.Need-enum-told-11
+enum-told-11 c = search needs
+
+enum-told-12 : tie.Need-enum-told-12
+enum-told-12 c = search needs
+
+enum-told-13 : tie.Need-enum-told-13
+enum-told-13 c = search needs
+
+enum-told-14 : tie.Need-enum-told-14
+enum-told-14 c = search needs
+
+enum-told-15 : tie.Need-enum-told-15
+enum-told-15 c = search needs
+
+enum-told-16 : tie.Need-enum-told-16
+enum-told-16 c = search needs
+
 returns : tie.Need-returns
 returns c = sym (ap placeOf (c .enum-told .given .1))
 
@@ -141,6 +162,27 @@ returns-21 c = sym (ap placeOf (c .enum-told8 .given .1))
 returns-22 : tie.Need-returns-22
 returns-22 c = sym (ap placeOf (c .enum-told9 .given .1))
 
+returns-23 : tie.Need-returns-23
+returns-23 c = sym (ap placeOf (c .enum-told10 .given .1))
+
+returns-24 : tie.Need-returns-24
+returns-24 c = sym (ap placeOf (c .enum-told11 .given .1))
+
+returns-25 : tie.Need-returns-25
+returns-25 c = sym (ap placeOf (c .enum-told12 .given .1))
+
+returns-26 : tie.Need-returns-26
+returns-26 c = sym (ap placeOf (c .enum-told13 .given .1))
+
+returns-27 : tie.Need-returns-27
+returns-27 c = sym (ap placeOf (c .enum-told14 .given .1))
+
+returns-28 : tie.Need-returns-28
+returns-28 c = sym (ap placeOf (c .enum-told15 .given .1))
+
+returns-29 : tie.Need-returns-29
+returns-29 c = sym (ap placeOf (c .enum-told16 .given .1))
+
 pub place-spec : {M : Type 1} → statement M
 place-spec =
     tie.close
@@ -168,6 +210,13 @@ place-spec =
     enum-told-7
     enum-told-8
     enum-told-9
+    enum-told-10
+    enum-told-11
+    enum-told-12
+    enum-told-13
+    enum-told-14
+    enum-told-15
+    enum-told-16
     returns
     returns-2
     returns-3
@@ -189,4 +238,11 @@ place-spec =
     returns-19
     returns-20
     returns-21
-    returns-22)
+    returns-22
+    returns-23
+    returns-24
+    returns-25
+    returns-26
+    returns-27
+    returns-28
+    returns-29)

@@ -1,6 +1,7 @@
-// Answers as one number, and readings by their year.
+// What every function for C has: its answer as one number of 64 bits, by which a caller has a count, or a refusal with its place; and readings by their
+// year. include/thoquenry.h says it in its own words.
 ghost use mathlib.Core.Path.{_≡_};
-ghost use Rattle.thoquenry.specs.Answers.{answerOf, accepted as acceptedOf, refused as refusedOf, notACall, askedFor};
+ghost use Rattle.c_answers.specs.Answers.{answerOf, accepted as acceptedOf, refused as refusedOf, notACall, askedFor};
 use vocabulary::Reading;
 use vocabulary::Refusal;
 

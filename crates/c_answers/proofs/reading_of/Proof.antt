@@ -3,8 +3,8 @@
 use borrow.Author.Tests.{eq-eqb, ne-eqb}
 use borrow.Author.Needs.{needs}
 use native.Mathlib.Omega.{arith}
-use Rattle.thoquenry.proofs.answers.reading_of.Statement.{statement}
-use Rattle.thoquenry.proofs.answers.reading_of.Tie as tie
+use Rattle.c_answers.proofs.reading_of.Statement.{statement}
+use Rattle.c_answers.proofs.reading_of.Tie as tie
 
 returns : tie.Need-returns
 returns c = rw (eq-eqb (c .before .args .year) 2009 (c .if1 .taken))

@@ -1,19 +1,17 @@
 -- THE ANSWER OF A CALL as one number of 64 bits, as include/thoquenry.h says: THQ_NUMBER(answer), the remainder by 256, is 0 where the call is accepted, or else the
 -- number of the refusal; THQ_VALUE(answer), the quotient, is the place of the refusal, or what the function counts.
 -- Assumes nothing.
-use Prim.Native.Nat.{ℕ, _+_, _*_, _/_, _%_, _^_, _<_}
-use mathlib.Core.Path.{_≡_}
+use Prim.Native.Nat.{ℕ, _+_, _*_, _%_, _^_}
 use mathlib.Core.Bool.{cond}
 use mathlib.Core.List.{List, _++_}
-use native.Mathlib.Omega.{arith}
 use lib.Dec.{eqb}
 use lib.ListN.{length, drop}
 use Rattle.vocabulary.specs.declared.refusal.Refusal.{Refusal}
 use Rattle.vocabulary.specs.declared.stream_types.Reading.{Reading}
 use Rattle.vocabulary.specs.declared.stream_types.Reading.the-variants.{Edition2009, Edition2015}
 use Rattle.vocabulary.specs.Refusals.{numberOf, placeOf}
-use Rattle.thoquenry.specs.declared.answers.Asked.{Asked}
-use Rattle.thoquenry.specs.declared.answers.Asked.the-variants.{Known, Neither}
+use Rattle.c_answers.specs.declared.Asked.{Asked}
+use Rattle.c_answers.specs.declared.Asked.the-variants.{Known, Neither}
 
 -- 8 bits for the number and 56 for the value
 abbrev pub answerOf : ℕ → ℕ → ℕ
@@ -43,10 +41,3 @@ reply answer buffer = record { answer = answer; buffer = buffer }
 -- 'After a refusal every output buffer holds what it held.'
 abbrev pub unchanged : Refusal → List ℕ → Reply
 unchanged refusal buffer = reply (refused refusal) buffer
-
--- what a caller's two macros make of an answer
-pub number-of : (number value : ℕ) → number < 256 → answerOf number value % 256 ≡ number
-number-of number value h = omega arith
-
-pub value-of : (number value : ℕ) → number < 256 → value < 2 ^ 56 → answerOf number value / 256 ≡ value
-value-of number value h k = omega arith
