@@ -1,0 +1,4 @@
+pub mod Frames
+pub mod Orderly
+pub mod Chosen
+pub mod Assemblies
