@@ -2,3 +2,5 @@ pub mod Frames
 pub mod Orderly
 pub mod Chosen
 pub mod Assemblies
+pub mod Gathered
+pub mod Meant
