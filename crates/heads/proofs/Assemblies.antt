@@ -9,14 +9,16 @@ use lib.ListN.{getD}
 use Rattle.clock.specs.Clock.{half}
 use Rattle.closure.specs.declared.Layers.{Layers}
 use Rattle.closure.specs.Closures.{restedOn}
-use Rattle.closure.specs.Meaning.{RestsOn, WholeClosure}
+use Rattle.closure.specs.Meaning.{RestsOn, itself, by, WholeClosure}
 use Rattle.closure.proofs.Reached.{member-rests-on, rests-on-member}
 use Rattle.sets.specs.Sets.{has}
 use Rattle.rows.specs.Table.{Table, rowsIn, layerOf, ahead, passed, breaksOrder}
-use Rattle.assembling.specs.Assemblies.{Assembly, edgesOf, assembled}
+use Rattle.assembling.specs.Assemblies.{Assembly, lowerOf, edgesOf, assembled}
+use Rattle.assembling.proofs.Assembled.{untouched, begin-other}
 use Rattle.assembling.proofs.Own.{rests-further, own-closure}
 use Rattle.heads.specs.Orderly.{Orderly}
 use Rattle.heads.specs.Meaning.{Assembles}
+use Rattle.heads.proofs.Frames.{edge-names, target-below}
 use Rattle.heads.proofs.Chosen.{found, only}
 
 module _ (layers : Layers) (target closure : ℕ) (t : Table) (orderly : Orderly layers target closure t) (top : ℕ) (rests : RestsOn layers target top) where
@@ -72,3 +74,15 @@ module _ (layers : Layers) (target closure : ℕ) (t : Table) (orderly : Orderly
           ap (λ (a : Assembly). a .complete) same ∙ w .0,
           λ layer r. ap (λ (a : Assembly). getD (a .rows) layer 0) same ∙ w .1 layer r,
         )
+
+    -- No layer but those that this one rests on has a row.
+    pub head-no-other : (layer : ℕ) → layer < 64 → (RestsOn layers top layer → ⊥)
+        → getD (assembled t (edgesOf layers closure) top head .rows) layer 0 ≡ rowsIn t
+    head-no-other layer h outside =
+        ap (λ (a : Assembly). getD (a .rows) layer 0) same
+        ∙ untouched t (edgesOf layers (restedOn layers top)) _ layer
+        (λ i l e.
+        (let w = edge-names layers top (restedOn layers top) (own-orderly .closed-over .here) own-whole i l in
+        outside (subst (RestsOn layers top) (sym e) (by (w .0) (w .1)))))
+        ∙ begin-other t top head (target-below layers top (restedOn layers top) (own-orderly .closed-over .here) own-whole) layer h
+        (λ e. outside (subst (RestsOn layers top) (sym e) itself))

@@ -4,3 +4,5 @@ pub mod Chosen
 pub mod Assemblies
 pub mod Gathered
 pub mod Meant
+pub mod Apart
+pub mod Wholeness

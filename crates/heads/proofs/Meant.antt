@@ -33,7 +33,7 @@ use Rattle.claims.proofs.Meant as claims-meant
 use Rattle.heads.specs.Units.{Frame, isHead, ownOf, assemblyOf, unitFrom, unitOf, lagsFrom, lagsOf, headsBelow, rowsBelow, unpaired, shares, firstUnpaired, firstShared}
 use Rattle.heads.specs.Orderly.{Orderly, Framed}
 use Rattle.heads.specs.Meaning.{Assembles, AssemblesOwn, NoAssembly, InUnitOf, SharesRow, LagsBeside, no-row, beside, UnitOf}
-use Rattle.heads.proofs.Assemblies.{head-found, head-only as only-found}
+use Rattle.heads.proofs.Assemblies.{head-found, head-only as only-found, head-no-other}
 use Rattle.heads.proofs.Gathered.{gathered-from, gathered-in}
 
 -- ---- a lag beside each row, as it is computed, and no other
@@ -111,6 +111,13 @@ module _ (layers : Layers) (target closure : ℕ) (t : Table) (orderly : Orderly
         λ layer r. ap (λ (a : Assembly). getD (a .rows) layer 0) (assembly-is k) ∙ w .1 layer r,
       )
 
+  pub assembly-no-other : (k : ℕ) → Head layers target t k → (layer : ℕ) → layer < 64 → has (ownOf t f k) layer ≡ false
+      → getD (assemblyOf t f k .rows) layer 0 ≡ rowsIn t
+  assembly-no-other k head layer h e =
+      ap (λ (a : Assembly). getD (a .rows) layer 0) (assembly-is k)
+      ∙ head-no-other layers target closure t orderly (layerOf t k) (head .closure-row) k (head .inside) refl layer h
+      (λ r. true≢false (sym (own-only k head layer r) ∙ e))
+
   -- ---- 15 exactly at the heads with no assembly
 
   pub unpaired-meant : (k : ℕ) → k < rowsIn t → unpaired t f k ≡ true → NoAssembly layers target t k
@@ -180,10 +187,10 @@ module _ (layers : Layers) (target closure : ℕ) (t : Table) (orderly : Orderly
 
   -- ---- its rows are those that stand in it
 
-  unit-long : (k : ℕ) → length (unitOf t f k) ≡ length (membersOf (ownOf t f k))
+  pub unit-long : (k : ℕ) → length (unitOf t f k) ≡ length (membersOf (ownOf t f k))
   unit-long k = length-map (membersOf (ownOf t f k)) (chosen k)
 
-  unit-at : (k p : ℕ) → p < length (membersOf (ownOf t f k)) → getD (unitOf t f k) p 0 ≡ chosen k (getD (membersOf (ownOf t f k)) p 0)
+  pub unit-at : (k p : ℕ) → p < length (membersOf (ownOf t f k)) → getD (unitOf t f k) p 0 ≡ chosen k (getD (membersOf (ownOf t f k)) p 0)
   unit-at k p h = getD-map (chosen k) 0 (getD-nth (membersOf (ownOf t f k)) p 0 h)
 
   pub unit-row : (k row : ℕ) → Head layers target t k → member row (unitOf t f k) ≡ true
