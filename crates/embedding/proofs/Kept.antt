@@ -23,8 +23,8 @@ entries-kept : {reading : Reading} {bytes : List ℕ} {streams : List Stream} �
     → Loop.Answers reading bytes (acceptedNow streams)
 entries-kept (Read.accepts short cuts none) = Loop.accepts short cuts (λ n k now. none n k (Read.as-now now))
 
-given-still : {reading : Reading} {bytes : List ℕ} {target : ℕ} {t : Table} {numbers : List ℕ} {lags : List ℤ} {a : Answer}
-    → Gave reading bytes target t numbers lags a → Gives reading bytes target t numbers lags a
+given-still : {reading : Reading} {bytes : List ℕ} {target : ℕ} {t : Table} {before : Lists} {a : Answer}
+    → Gave reading bytes target t before a → Gives reading bytes target t before a
 given-still gave =
     let read = entries-kept (gave .loop-accepted) in
     record {
