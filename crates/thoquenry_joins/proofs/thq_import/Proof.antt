@@ -1,14 +1,14 @@
--- `joins::thq_import` meets its contract: which reading was asked for decides.
+-- `thq_import` meets its contract: which reading was asked for decides.
 -- Assumes nothing.
 use mathlib.Core.Path.{sym, _∙_, refl, ap}
 use Rattle.rows.specs.Table.{table}
 use Rattle.c_answers.specs.declared.Asked.{Asked}
-use Rattle.thoquenry.specs.Joins.{importAsked}
-use Rattle.thoquenry.proofs.Joined.{left-as}
+use Rattle.thoquenry_joins.specs.Joins.{importAsked}
+use Rattle.thoquenry_joins.proofs.Joined.{left-as}
 use native.Mathlib.Omega.{arith}
 use borrow.Author.Needs.{needs}
-use Rattle.thoquenry.proofs.joins.thq_import.Statement.{statement}
-use Rattle.thoquenry.proofs.joins.thq_import.Tie as tie
+use Rattle.thoquenry_joins.proofs.thq_import.Statement.{statement}
+use Rattle.thoquenry_joins.proofs.thq_import.Tie as tie
 
 reading-of-requires : tie.Need-reading-of-requires
 reading-of-requires c κs = search needs

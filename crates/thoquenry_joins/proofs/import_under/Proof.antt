@@ -1,4 +1,4 @@
--- `joins::import_under` meets its contract: what reading answered says which of the two cases it is, and an accepted loop's layers are those that
+-- `import_under` meets its contract: what reading answered says which of the two cases it is, and an accepted loop's layers are those that
 -- the rows are joined over.
 -- Assumes nothing.
 use Prim.Native.Nat.{ℕ}
@@ -12,10 +12,10 @@ use Rattle.es_loop.specs.declared.reader.Outcome.{Outcome}
 use Rattle.loop_layers.specs.declared.layer_sets.LayersRead.{LayersRead}
 use Rattle.rows.specs.Table.{Table, table}
 use Rattle.importing.specs.Importing.{importFor}
-use Rattle.thoquenry.specs.Joins.{withSummary, JoinReply, joinReply}
-use Rattle.thoquenry.proofs.Joined.{left-as}
-use Rattle.thoquenry.proofs.joins.import_under.Statement.{statement}
-use Rattle.thoquenry.proofs.joins.import_under.Tie as tie
+use Rattle.thoquenry_joins.specs.Joins.{withSummary, JoinReply, joinReply}
+use Rattle.thoquenry_joins.proofs.Joined.{left-as}
+use Rattle.thoquenry_joins.proofs.import_under.Statement.{statement}
+use Rattle.thoquenry_joins.proofs.import_under.Tie as tie
 
 read-layers-requires : tie.Need-read-layers-requires
 read-layers-requires c κs = search needs

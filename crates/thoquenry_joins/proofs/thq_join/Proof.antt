@@ -1,14 +1,14 @@
--- `joins::thq_join` meets its contract: the rows joined over the layers that the caller gives.
+-- `thq_join` meets its contract: the rows joined over the layers that the caller gives.
 -- Assumes nothing.
 use mathlib.Core.Path.{ap}
 use Rattle.closure.specs.declared.Layers.{Layers}
 use Rattle.rows.specs.Table.{table}
-use Rattle.thoquenry.specs.Joins.{joinOver}
-use Rattle.thoquenry.proofs.Joined.{left-as}
+use Rattle.thoquenry_joins.specs.Joins.{joinOver}
+use Rattle.thoquenry_joins.proofs.Joined.{left-as}
 use native.Mathlib.Omega.{arith}
 use borrow.Author.Needs.{needs}
-use Rattle.thoquenry.proofs.joins.thq_join.Statement.{statement}
-use Rattle.thoquenry.proofs.joins.thq_join.Tie as tie
+use Rattle.thoquenry_joins.proofs.thq_join.Statement.{statement}
+use Rattle.thoquenry_joins.proofs.thq_join.Tie as tie
 
 layers-given-requires : tie.Need-layers-given-requires
 layers-given-requires c κs = search needs

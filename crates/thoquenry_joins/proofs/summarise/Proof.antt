@@ -1,4 +1,4 @@
--- `joins::summarise` meets its contract: the three numbers, or the refusal.
+-- `summarise` meets its contract: the three numbers, or the refusal.
 -- Assumes nothing.
 use Prim.Native.Nat.{ℕ, _*_, _≤_}
 use mathlib.Core.Path.{_≡_, sym, _∙_, ap, subst}
@@ -7,12 +7,12 @@ use lib.ListN.{length-set}
 use Rattle.joining.specs.declared.answer.Joined.{Joined}
 use Rattle.buffers.proofs.Laws.{sets-over}
 use Rattle.c_answers.specs.Answers.{accepted}
-use Rattle.thoquenry.specs.Joins.{joinedAnswer, summaryAfter}
+use Rattle.thoquenry_joins.specs.Joins.{joinedAnswer, summaryAfter}
 use Rattle.thoquenry.specs.Bounds.{Few, size-short, places-fit}
 use native.Mathlib.Omega.{arith}
 use borrow.Author.Needs.{needs}
-use Rattle.thoquenry.proofs.joins.summarise.Statement.{statement}
-use Rattle.thoquenry.proofs.joins.summarise.Tie as tie
+use Rattle.thoquenry_joins.proofs.summarise.Statement.{statement}
+use Rattle.thoquenry_joins.proofs.summarise.Tie as tie
 
 enum-known-joined : tie.Need-enum-known-joined
 enum-known-joined c = search needs

@@ -1,16 +1,16 @@
--- `joins::join_over` meets its contract: with room for the summary joining itself, without it a joining in lists of its own.
+-- `join_over` meets its contract: with room for the summary joining itself, without it a joining in lists of its own.
 -- Assumes nothing.
 use mathlib.Core.Path.{sym, _∙_, ap, subst}
 use lib.ListN.{length}
 use Rattle.rows.specs.Table.{table}
 use Rattle.joining.specs.Joining.{joinedOf}
 use Rattle.thoquenry.specs.Bounds.{Few, few-joined}
-use Rattle.thoquenry.specs.Rooms.{barred, alike-joined}
-use Rattle.thoquenry.proofs.Joined.{left-short, left-whole}
+use Rattle.thoquenry_joins.proofs.Rooms.{barred, alike-joined}
+use Rattle.thoquenry_joins.proofs.Joined.{left-short, left-whole}
 use native.Mathlib.Omega.{arith}
 use borrow.Author.Needs.{needs}
-use Rattle.thoquenry.proofs.joins.join_over.Statement.{statement}
-use Rattle.thoquenry.proofs.joins.join_over.Tie as tie
+use Rattle.thoquenry_joins.proofs.join_over.Statement.{statement}
+use Rattle.thoquenry_joins.proofs.join_over.Tie as tie
 
 slice-aggregate-join : tie.Need-slice-aggregate-join
 slice-aggregate-join c = search needs

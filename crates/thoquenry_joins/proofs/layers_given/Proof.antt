@@ -1,4 +1,4 @@
--- `joins::layers_given` meets its contract. The invariant: the array holds the sets passed, and empty ones.
+-- `layers_given` meets its contract. The invariant: the array holds the sets passed, and empty ones.
 -- Assumes nothing.
 use Prim.Native.Nat.{ℕ, _-_, _≤_, min}
 use mathlib.Core.Path.{_≡_, refl, _∙_, ap}
@@ -7,11 +7,11 @@ use lib.ListN.{length, take}
 use Rattle.combinators.specs.Padding.{padTo}
 use Rattle.closure.specs.declared.Layers.{Layers}
 use Rattle.combinators.specs.Lists.{take-within}
-use Rattle.thoquenry.proofs.Replies.{store-take}
+use Rattle.thoquenry_joins.proofs.Stored.{store-take}
 use borrow.Author.Needs.{needs}
 use native.Mathlib.Omega.{arith}
-use Rattle.thoquenry.proofs.joins.layers_given.Statement.{statement}
-use Rattle.thoquenry.proofs.joins.layers_given.Tie as tie
+use Rattle.thoquenry_joins.proofs.layers_given.Statement.{statement}
+use Rattle.thoquenry_joins.proofs.layers_given.Tie as tie
 
 abbrev Inv-loop : tie.InvT-loop
 Inv-loop present embedded named₀ end i₀ named i = (i ≤ end) × (named ≡ padTo 64 0 (take i embedded))

@@ -1,12 +1,12 @@
--- `joins::without_summary` meets its contract: the arm that was taken says what joining answered.
+-- `without_summary` meets its contract: the arm that was taken says what joining answered.
 -- Assumes nothing.
 use mathlib.Core.Path.{sym, _∙_, ap}
 use Rattle.joining.specs.declared.answer.Joined.{Joined}
-use Rattle.thoquenry.specs.Joins.{withSummary, joinedAnswer}
+use Rattle.thoquenry_joins.specs.Joins.{withSummary, joinedAnswer}
 use native.Mathlib.Omega.{arith}
 use borrow.Author.Needs.{needs}
-use Rattle.thoquenry.proofs.joins.without_summary.Statement.{statement}
-use Rattle.thoquenry.proofs.joins.without_summary.Tie as tie
+use Rattle.thoquenry_joins.proofs.without_summary.Statement.{statement}
+use Rattle.thoquenry_joins.proofs.without_summary.Tie as tie
 
 enum-told : tie.Need-enum-told
 enum-told c = search needs
