@@ -46,14 +46,14 @@ module _ (reading : Reading) (bytes : List ℕ) (target : ℕ) (t : Table) (befo
   answer-given =
       record {
         right-closure = loop-answer-meant reading bytes target;
-        right-import = import-meant reading bytes target t before (record { is-answer = refl; is-lists = refl });
+        right-import = import-meant reading bytes target t before (record { is-answer = refl; is-after = refl });
       }
 
   given-only : {a : Answer} → Gives reading bytes target t before a → a ≡ answerIn reading bytes target t before
   given-only g =
       let p = import-only reading bytes target t before (g .right-import) in
       same-answer (loop-answer-only reading bytes target (g .right-closure)) (p .is-answer)
-      (p .is-lists ∙ ap (λ (j : Joined). importedLists reading bytes t j before) (p .is-answer))
+      (p .is-after ∙ ap (λ (j : Joined). importedLists reading bytes t j before) (p .is-answer))
 
   pub one-answer : {a b : Answer} → Gives reading bytes target t before a → Gives reading bytes target t before b → a ≡ b
   one-answer g h = given-only g ∙ sym (given-only h)

@@ -107,14 +107,14 @@ module _ (bytes : List ℕ) (is-accepted : IsAccepted Edition2015 bytes) (target
           let r = w .members i .0 h in
           same-embedded bytes is-accepted i (kept every i r (w .in-loop i r))
 
+      same-own : {a b : ℕ} → Complete a ≡ Complete b → a ≡ b
+      same-own e = cc
+
       own : (closure : ℕ) → closureOf all target ≡ Complete closure → (i : ℕ) → has closure i ≡ true → restedOn few i ≡ restedOn all i
       own closure e i h =
           let r = given-complete all target closure .0 e .1 .members i .0 h in
           let same-set = same-closure few all part i (λ j s. kept every j (rests-further all target i j r s)) in
           same-own (sym (own-complete few target closure (closures ∙ e) i h) ∙ same-set ∙ own-complete all target closure e i h)
-
-      same-own : {a b : ℕ} → Complete a ≡ Complete b → a ≡ b
-      same-own e = cc
 
   -- where the 2009 reading finds no closure, it refuses, whatever the row table and the lists hold
   refused : (refusal : Refusal) → NoSet refusal → closureOf few target ≡ NoClosure refusal → AlwaysRefused bytes target

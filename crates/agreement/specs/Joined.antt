@@ -58,10 +58,10 @@ module _ (few all : Layers) (closure : ℕ)
           ap (named upper lower (getD (few .embedded) upper 0)) p ∙ sym (ap (named upper lower (getD (all .embedded) upper 0)) p)
 
   claims-alike : (t : Table) → claimed few closure t ≡ claimed all closure t
-  claims-alike t =
-      ap
-      (λ (e : ℕ → ℕ → Bool) (k : ℕ). some (λ j. e (layerOf t j) (layerOf t k) && eqb (decodingOf t k) (matchOf t j)) (rowsIn t))
-      embeds-alike
+  claims-alike t = ap claimedWith embeds-alike
+    where
+      claimedWith : (ℕ → ℕ → Bool) → ℕ → Bool
+      claimedWith names k = some (λ j. names (layerOf t j) (layerOf t k) && eqb (decodingOf t k) (matchOf t j)) (rowsIn t)
 
   owns-alike : ownSet few closure ≡ ownSet all closure
   owns-alike = fun-ext (λ layer. go layer (has closure layer) refl)

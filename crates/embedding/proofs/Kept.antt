@@ -2,7 +2,6 @@
 -- Assumes nothing.
 use Prim.Native.Nat.{ℕ}
 use mathlib.Core.List.{List}
-use lib.IntN.{ℤ}
 use Rattle.vocabulary.specs.declared.stream_types.Reading.{Reading}
 use Rattle.es_loop.specs.declared.entries.Entry.{Entry}
 use Rattle.es_loop.specs.declared.entries.Stream.{Stream}
@@ -12,6 +11,7 @@ use Rattle.loop_writer.specs.declared.writer.Written.the-variants.{Bytes}
 use Rattle.loop_writer.specs.Meaning as Writer
 use Rattle.loop_layers.specs.Meaning as LoopClosure
 use Rattle.rows.specs.Table.{Table}
+use Rattle.joining.specs.Joining.{Lists}
 use Rattle.importing.specs.Meaning as Import
 use Rattle.agreement.specs.Meaning.{Answer, Gives}
 use Rattle.embedding.specs.Before.{accepted}

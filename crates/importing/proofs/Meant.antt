@@ -27,7 +27,7 @@ module _ (reading : Reading) (bytes : List ℕ) (target : ℕ) (t : Table) (befo
   -- WHAT THE CALL PROMISES of its answer and of the three lists: the two equalities of its contract.
   pub record Computed (answer : Joined) (after : Lists) : Type 0 where
     pub is-answer : answer ≡ importOf reading bytes target t (roomOf before)
-    pub is-lists : after ≡ importedLists reading bytes t answer before
+    pub is-after : after ≡ importedLists reading bytes t answer before
 
   -- the answer computed, given what reading the loop answered, with the lists that go with it
   abbrev Right : LoopRead → Type 0
@@ -57,7 +57,7 @@ module _ (reading : Reading) (bytes : List ℕ) (target : ℕ) (t : Table) (befo
 
   -- WHAT IS PROMISED IS RIGHT,
   pub import-meant : {answer : Joined} {after : Lists} → Computed answer after → Answers reading bytes target t before answer after
-  import-meant p = rw (p .is-lists, p .is-answer) computed-right
+  import-meant p = rw (p .is-after, p .is-answer) computed-right
 
   -- the layers of an accepted loop are those of the entries that were read
   same-layers : (streams : List Stream) {layers : Layers} → LayersOf (map entryOf streams) layers → layers ≡ layersRead (accepted streams)
@@ -66,7 +66,7 @@ module _ (reading : Reading) (bytes : List ℕ) (target : ℕ) (t : Table) (befo
   -- and nothing else is.
   pub import-only : {answer : Joined} {after : Lists} → Answers reading bytes target t before answer after → Computed answer after
   import-only (loop-refused a) =
-      record { is-answer = ap (λ (r : LoopRead). importIn r target t (roomOf before)) (answer-only reading bytes a); is-lists = refl }
+      record { is-answer = ap (λ (r : LoopRead). importIn r target t (roomOf before)) (answer-only reading bytes a); is-after = refl }
   import-only {answer} (loop-accepted streams {layers} a m j) =
       let only = joined-only mostRows layers target t before j in
       let same = same-layers streams m in
@@ -75,7 +75,7 @@ module _ (reading : Reading) (bytes : List ℕ) (target : ℕ) (t : Table) (befo
         is-answer = only .is-answer
             ∙ ap (λ (l : Layers). joinedOf mostRows l target t (roomOf before)) same
             ∙ ap (λ (r : LoopRead). importIn r target t (roomOf before)) read;
-        is-lists = only .is-lists
+        is-after = only .is-after
             ∙ ap (λ (l : Layers). listsAfter l t answer before) same
             ∙ ap (λ (r : LoopRead). listsAfter (layersRead r) t answer before) read;
       }
@@ -88,5 +88,5 @@ module _ (reading : Reading) (bytes : List ℕ) (target : ℕ) (t : Table) (befo
       let y = import-only q in
       let same = x .is-answer ∙ sym (y .is-answer) in (
         same,
-        x .is-lists ∙ ap (λ (r : Joined). importedLists reading bytes t r before) same ∙ sym (y .is-lists),
+        x .is-after ∙ ap (λ (r : Joined). importedLists reading bytes t r before) same ∙ sym (y .is-after),
       )

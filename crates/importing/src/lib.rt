@@ -35,7 +35,16 @@ pub fn import(
     let layers = read.layers;
     match outcome {
         Outcome::Accepted => {
-            joining::join(layers, target, indices, decodings, matches, numbers, lags, sizes)
+            joining::join(
+                layers,
+                target,
+                indices,
+                decodings,
+                matches,
+                numbers,
+                lags,
+                sizes,
+            )
         }
         Outcome::Refused(refusal) => Joined::Refused(refusal),
     }

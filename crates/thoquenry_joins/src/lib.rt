@@ -104,7 +104,14 @@ fn join_over(
         return without_summary(joined);
     }
     let joined = joining::join(
-        layers, target, indices, decodings, matches, numbers, lags, sizes,
+        layers,
+        target,
+        indices,
+        decodings,
+        matches,
+        numbers,
+        lags,
+        sizes,
     );
     summarise(joined, summary)
 }
@@ -128,7 +135,15 @@ pub extern "C" fn thq_join(
 {
     let layers = layers_given(present, embedded);
     join_over(
-        layers, target, indices, decodings, matches, numbers, lags, sizes, summary,
+        layers,
+        target,
+        indices,
+        decodings,
+        matches,
+        numbers,
+        lags,
+        sizes,
+        summary,
     )
 }
 
@@ -179,8 +194,21 @@ fn join_long_over(
         return without_summary(joined);
     }
     let joined = joining::join_long(
-        layers, target, indices, decodings, matches, order, keys, kept, places, heads, claimed,
-        used, numbers, lags, sizes,
+        layers,
+        target,
+        indices,
+        decodings,
+        matches,
+        order,
+        keys,
+        kept,
+        places,
+        heads,
+        claimed,
+        used,
+        numbers,
+        lags,
+        sizes,
     );
     summarise(joined, summary)
 }
@@ -211,8 +239,22 @@ pub extern "C" fn thq_join_long(
 {
     let layers = layers_given(present, embedded);
     join_long_over(
-        layers, target, indices, decodings, matches, order, keys, kept, places, heads, claimed,
-        used, numbers, lags, sizes, summary,
+        layers,
+        target,
+        indices,
+        decodings,
+        matches,
+        order,
+        keys,
+        kept,
+        places,
+        heads,
+        claimed,
+        used,
+        numbers,
+        lags,
+        sizes,
+        summary,
     )
 }
 
@@ -238,7 +280,15 @@ fn import_under(
     let layers = read.layers;
     match outcome {
         Outcome::Accepted => join_over(
-            layers, target, indices, decodings, matches, numbers, lags, sizes, summary,
+            layers,
+            target,
+            indices,
+            decodings,
+            matches,
+            numbers,
+            lags,
+            sizes,
+            summary,
         ),
         Outcome::Refused(refusal) => refused(refusal),
     }
@@ -264,7 +314,16 @@ pub extern "C" fn thq_import(
     let asked = reading_of(reading);
     match asked {
         Asked::Known(known) => import_under(
-            known, bytes, target, indices, decodings, matches, numbers, lags, sizes, summary,
+            known,
+            bytes,
+            target,
+            indices,
+            decodings,
+            matches,
+            numbers,
+            lags,
+            sizes,
+            summary,
         ),
         Asked::Neither => not_a_call(),
     }
