@@ -1,19 +1,21 @@
 -- DEMAND 1. 'Every loop, packet header, row table and output buffer gets an answer that ends, whether the bytes are sound or damaged. The refusal
 -- is one of the listed numbers, given exactly under its listed condition, and the output buffers then hold what they held before.'
 --
--- One statement for all calls that refuse, the seven functions for C among them: each keeps the promise of Calls for whatever it is handed. The calls
+-- One statement for all calls that refuse, the eight functions for C among them: each keeps the promise of Calls for whatever it is handed. The calls
 -- that refuse nothing are bound beside them, each to the one definition that it equals. (The tests of `judging`, which reading and writing a loop are
--- made of, are not said again.) `joining::join_table` asks for the target's closure, and keeps
--- the promise wherever it is handed that.
+-- made of, are not said again.) `joining::join_table` asks for the target's closure and for work space, and keeps
+-- the promise wherever it is handed these.
 -- Assumes nothing.
 use Rattle.promised.specs.Calls.{Promised}
 use Rattle.promised.specs.Readers.{readLoop, loop-read, closureOfTarget, closure-found, closureOfLoop, loop-closure-found, readTimes, times-read}
 use Rattle.promised.specs.Writers.{writeLoop, loop-written, writeTimes, times-written}
-use Rattle.promised.specs.Joiners.{joinTable, table-joined, joinRows, rows-joined, importLoop, loop-imported}
+use Rattle.promised.specs.Joiners.{joinTable, table-joined, joinRows, rows-joined, joinLong, long-joined, importLoop, loop-imported}
 use Rattle.demands.specs.Told.{forC}
 use Rattle.demands.specs.Others.{RefuseNothing, refuse-nothing}
-use Rattle.demands.specs.ForC.{thqReadLoop, thqWriteLoop, thqClosure, thqReadTimes, thqWriteTimes, thqJoin, thqImport}
-use Rattle.demands.specs.ForCShown.{thq-loop-read, thq-loop-written, thq-closure-found, thq-times-read, thq-times-written, thq-rows-joined, thq-loop-imported}
+use Rattle.demands.specs.ForC.{thqReadLoop, thqWriteLoop, thqClosure, thqReadTimes, thqWriteTimes}
+use Rattle.demands.specs.JoinsForC.{thqJoin, thqJoinLong, thqImport}
+use Rattle.demands.specs.ForCShown.{thq-loop-read, thq-loop-written, thq-closure-found, thq-times-read, thq-times-written}
+use Rattle.demands.specs.JoinsForCShown.{thq-rows-joined, thq-long-joined, thq-loop-imported}
 
 pub record Demand-1 : Type 0 where
   -- 1 to 9
@@ -28,11 +30,12 @@ pub record Demand-1 : Type 0 where
   pub reading-times : Promised readTimes
   -- 17, 24, 25
   pub writing-times : Promised writeTimes
-  -- 13 to 17, over the closure that was found
+  -- 13 to 18, over the closure that was found
   pub joining-a-table : Promised joinTable
-  -- 11 to 17
+  -- 11 to 18, of at most 512 rows, and of as many as the work space has places for
   pub joining-rows : Promised joinRows
-  -- 1 to 9, 11 to 17
+  pub joining-long-tables : Promised joinLong
+  -- 1 to 9, 11 to 18
   pub importing : Promised importLoop
   -- 1 to 9, 17, 255
   pub thq-read-loop : Promised (forC thqReadLoop)
@@ -44,9 +47,10 @@ pub record Demand-1 : Type 0 where
   pub thq-read-times : Promised (forC thqReadTimes)
   -- 17, 24, 25
   pub thq-write-times : Promised (forC thqWriteTimes)
-  -- 11 to 17
+  -- 11 to 18
   pub thq-join : Promised (forC thqJoin)
-  -- 1 to 9, 11 to 17, 255
+  pub thq-join-long : Promised (forC thqJoinLong)
+  -- 1 to 9, 11 to 18, 255
   pub thq-import : Promised (forC thqImport)
   -- none
   pub others : RefuseNothing
@@ -62,6 +66,7 @@ demand-1 =
       writing-times = times-written;
       joining-a-table = table-joined;
       joining-rows = rows-joined;
+      joining-long-tables = long-joined;
       importing = loop-imported;
       thq-read-loop = thq-loop-read;
       thq-write-loop = thq-loop-written;
@@ -69,6 +74,7 @@ demand-1 =
       thq-read-times = thq-times-read;
       thq-write-times = thq-times-written;
       thq-join = thq-rows-joined;
+      thq-join-long = thq-long-joined;
       thq-import = thq-loop-imported;
       others = refuse-nothing;
     }

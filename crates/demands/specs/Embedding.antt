@@ -47,10 +47,12 @@ use Rattle.embedding.proofs.Long.{long-lists}
 use Rattle.promised.specs.Calls.{Call, isListed, Promised}
 use Rattle.promised.specs.Readers.{readLoop, loop-read, closureOfTarget, closure-found, closureOfLoop, loop-closure-found, readTimes, times-read}
 use Rattle.promised.specs.Writers.{writeLoop, loop-written, writeTimes, times-written}
-use Rattle.promised.specs.Joiners.{joinTable, table-joined, joinRows, rows-joined, importLoop, loop-imported}
+use Rattle.promised.specs.Joiners.{joinTable, table-joined, joinRows, rows-joined, joinLong, long-joined, importLoop, loop-imported}
 use Rattle.demands.specs.Told.{forC}
-use Rattle.demands.specs.ForC.{thqReadLoop, thqWriteLoop, thqClosure, thqReadTimes, thqWriteTimes, thqJoin, thqImport}
-use Rattle.demands.specs.ForCShown.{thq-loop-read, thq-loop-written, thq-closure-found, thq-times-read, thq-times-written, thq-rows-joined, thq-loop-imported}
+use Rattle.demands.specs.ForC.{thqReadLoop, thqWriteLoop, thqClosure, thqReadTimes, thqWriteTimes}
+use Rattle.demands.specs.JoinsForC.{thqJoin, thqJoinLong, thqImport}
+use Rattle.demands.specs.ForCShown.{thq-loop-read, thq-loop-written, thq-closure-found, thq-times-read, thq-times-written}
+use Rattle.demands.specs.JoinsForCShown.{thq-rows-joined, thq-long-joined, thq-loop-imported}
 use Rattle.demands.specs.Demand2.{entriesOf, asGiven, LoopRewritten, read-back, rewritten}
 
 -- ---- 'Show that in the new build refusal 10 never occurs.'
@@ -70,6 +72,7 @@ pub record TenNever : Type 0 where
   pub writing-times : Never10 writeTimes
   pub joining-a-table : Never10 joinTable
   pub joining-rows : Never10 joinRows
+  pub joining-long-tables : Never10 joinLong
   pub importing : Never10 importLoop
   -- the functions for C, which answer the number as a number
   pub thq-read-loop : Never10 (forC thqReadLoop)
@@ -78,6 +81,7 @@ pub record TenNever : Type 0 where
   pub thq-read-times : Never10 (forC thqReadTimes)
   pub thq-write-times : Never10 (forC thqWriteTimes)
   pub thq-join : Never10 (forC thqJoin)
+  pub thq-join-long : Never10 (forC thqJoinLong)
   pub thq-import : Never10 (forC thqImport)
   -- the listing, and with it the program `layers`, which prints it
   pub listing : (reading : Reading) (bytes rest : List ℕ) → loopText reading bytes ≡ ascii "refused 10 " ++ rest → ⊥
@@ -146,6 +150,7 @@ ten-never =
       writing-times = never times-written refl;
       joining-a-table = never table-joined refl;
       joining-rows = never rows-joined refl;
+      joining-long-tables = never long-joined refl;
       importing = never loop-imported refl;
       thq-read-loop = never thq-loop-read refl;
       thq-write-loop = never thq-loop-written refl;
@@ -153,6 +158,7 @@ ten-never =
       thq-read-times = never thq-times-read refl;
       thq-write-times = never thq-times-written refl;
       thq-join = never thq-rows-joined refl;
+      thq-join-long = never thq-long-joined refl;
       thq-import = never thq-loop-imported refl;
       listing = never-in-text;
     }

@@ -2,7 +2,7 @@
 -- Assumes nothing.
 use Prim.Native.Nat.{ℕ, _≤_, _<_, _^_}
 use mathlib.Core.Bool.{Bool, true, false, cond}
-use mathlib.Core.List.{List}
+use mathlib.Core.List.{List, [], _∷_}
 use mathlib.Core.Path.{_≡_, refl}
 use native.Mathlib.Omega.{arith}
 use lib.Dec.{ltb}
@@ -26,10 +26,15 @@ use Rattle.spans.specs.Spans.{isClosureRow, wideSpan}
 use Rattle.heads.specs.Units.{Frame, unpaired, shares, firstUnpaired, firstShared, unitsIn}
 use Rattle.joining.specs.declared.answer.Joined.{Joined}
 use Rattle.joining.specs.declared.answer.Joined.the-variants.{Units, Refused}
-use Rattle.joining.specs.Joining.{frameOf, closureRows, Room, tooSmall, unitsJoined, joinedBy, tableJoined, joinedIn, joinedOf}
+use Rattle.joining.specs.Joining.{frameOf, closureRows, Room, tooSmall, unitsJoined, joinedBy, tableJoined, joinedIn, joinedOf, longestTable, mostLong}
 use Rattle.importing.specs.Importing.{layersRead, importFor, importOf}
 use Rattle.combinators.specs.Bools.{either-way, or-else}
 use Rattle.thoquenry.specs.Bounds.{SmallOutcome, SmallClosure, small-closure-of, small-loop}
+
+-- a table that is joined in lent work space has no more rows than can be told
+pub most-short : (places : List ℕ) → mostLong places ≤ longestTable
+most-short [] = omega arith
+most-short (first ∷ places) = let h = most-short places in omega arith
 
 abbrev pub Few : Joined → Type 0
 Few (Units closure units rows) = rows < 2 ^ 56
