@@ -1,13 +1,15 @@
--- The heads as they are computed are all heads in the order of their units (`heads-in-order`), and no other list is (`heads-only`).
+-- The heads as they are computed are all heads in the order of their units (`heads-in-order`), and no other list is (`heads-only`); and the units of heads, their
+-- sizes, rows and lags one after another, are those that `UnitsOf` asks for (`units-meant`), and no others are (`units-only`).
 -- Assumes nothing.
-use Prim.Native.Nat.{ℕ, _≤_, _<_}
+use Prim.Native.Nat.{ℕ, zero, suc, _≤_, _<_}
 use mathlib.Core.Bool.{Bool, true, _&&_, _||_, or-assoc, or-comm}
-use mathlib.Core.List.{List, [], _∷_, _++_}
+use mathlib.Core.List.{List, [], _∷_, _++_, map}
 use mathlib.Core.Path.{_≡_, refl, sym, _∙_, ap, ap₂, subst}
 use native.Mathlib.Decide.{decLe}
 use native.Mathlib.Omega.{arith}
 use borrow.Author.Tests.{eq-eqb, eqb-true}
 use lib.Dec.{eqb}
+use lib.IntN.{ℤ}
 use lib.ListN.{length, getD}
 use Rattle.closure.specs.declared.Layers.{Layers}
 use Rattle.combinators.specs.Bools.{both-left, both-right}
@@ -24,12 +26,13 @@ use Rattle.rows.specs.Table.{Table, rowsIn, layerOf}
 use Rattle.claims.specs.Meaning.{Head}
 use Rattle.spans.specs.Spans.{keyAt}
 use Rattle.spans.specs.Meaning.{ClosureRow}
-use Rattle.heads.specs.Units.{Frame, isHead}
+use Rattle.heads.specs.Units.{Frame, isHead, assemblyOf, unitOf, lagsOf}
+use Rattle.heads.specs.Meaning.{AssemblesOwn}
 use Rattle.heads.specs.Orderly.{Orderly, Framed}
 use Rattle.heads.proofs.Gathered.{gathered-from, gathered-in}
-use Rattle.heads.proofs.Meant.{head-meant, head-only}
+use Rattle.heads.proofs.Meant.{head-meant, head-only, unit-meant, unit-only}
 use Rattle.unit_lists.specs.Sequence.{headsOfLayer, headsByLayer, headsInOrder}
-use Rattle.unit_lists.specs.Meaning.{ComesBefore, HeadsInOrder}
+use Rattle.unit_lists.specs.Meaning.{ComesBefore, HeadsInOrder, UnitsOf, no-unit, next-unit}
 use Rattle.unit_lists.proofs.Order as order
 use Rattle.unit_lists.proofs.Order.{KeyBefore, key-before, never-itself, never-both}
 use Rattle.unit_lists.proofs.Unique.{in-order-one}
@@ -99,6 +102,13 @@ module _ (t : Table) (g : ℕ → List ℕ) (of-layer : (layer : ℕ) → Each (
       two-append (of-one layer (of-layer layer) (rising layer)) (by-layer others two)
       (each-other (λ row e. each-other (λ later h. lower-layer (subst (λ (n : ℕ). n < layerOf t later) (sym e) h)) (higher layer others each)) (of-layer layer))
 
+-- among the units of some heads is an assembly of each
+pub assembly-of : {layers : Layers} {t : Table} {heads sizes rows : List ℕ} {lags : List ℤ} → UnitsOf layers t heads sizes rows lags
+    → (i : ℕ) → i < length heads → (choice : ℕ → ℕ) × AssemblesOwn layers t (getD heads i 0) choice
+assembly-of no-unit i h = absurd (omega arith)
+assembly-of (next-unit u us) zero h = (u .choice, u .assembles)
+assembly-of (next-unit u us) (suc i) h = assembly-of us i (omega arith)
+
 module _ (layers : Layers) (target closure : ℕ) (t : Table) (orderly : Orderly layers target closure t) (f : Frame) (framed : Framed layers closure t f) where
   -- ---- the heads by layer are the heads
 
@@ -167,3 +177,25 @@ module _ (layers : Layers) (target closure : ℕ) (t : Table) (orderly : Orderly
   heads-only heads o =
       in-order-one (ComesBefore layers target t) (never-itself layers target closure (orderly .closed-over .whole) t) (Head layers target t)
       (λ i j h l b c. never-both layers target closure (orderly .closed-over .whole) t i j b c) heads (headsInOrder t f) o heads-in-order
+
+  -- ---- THE UNITS of some heads, one after another: what is computed is right, and nothing else is
+
+  pub units-meant : ((k : ℕ) → Head layers target t k → assemblyOf t f k .complete ≡ true) → (heads : List ℕ)
+      → ((i : ℕ) → i < length heads → Head layers target t (getD heads i 0))
+      → UnitsOf layers t heads (map (λ head. length (unitOf t f head)) heads) (gather (unitOf t f) heads) (gather (lagsOf t f) heads)
+  units-meant complete [] each = no-unit
+  units-meant complete (head ∷ heads) each =
+      next-unit (unit-meant layers target closure t orderly f framed head (each 0 (omega arith)) (complete head (each 0 (omega arith))))
+      (units-meant complete heads (λ i h. each (suc i) (omega arith)))
+
+  pub units-only : {heads sizes rows : List ℕ} {lags : List ℤ} → ((i : ℕ) → i < length heads → Head layers target t (getD heads i 0))
+      → UnitsOf layers t heads sizes rows lags
+      → (sizes ≡ map (λ head. length (unitOf t f head)) heads) × (rows ≡ gather (unitOf t f) heads) × (lags ≡ gather (lagsOf t f) heads)
+  units-only each no-unit = (refl, refl, refl)
+  units-only each (next-unit {head = head} u us) =
+      let one = unit-only layers target closure t orderly f framed head (each 0 (omega arith)) u in
+      let more = units-only (λ i h. each (suc i) (omega arith)) us in (
+        ap₂ (λ (unit sizes : List ℕ). length unit ∷ sizes) (one .0) (more .0),
+        ap₂ (λ (a b : List ℕ). a ++ b) (one .0) (more .1),
+        ap₂ (λ (a b : List ℤ). a ++ b) (one .1) (more .2),
+      )
