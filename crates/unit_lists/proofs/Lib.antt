@@ -1,2 +1,4 @@
 pub mod Laying
 pub mod Filling
+pub mod ByLayer
+pub mod Front
