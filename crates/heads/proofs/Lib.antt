@@ -4,3 +4,11 @@ pub mod Tested
 pub mod Gathers
 pub mod Kept
 pub mod Claiming
+pub mod Frames
+pub mod Orderly
+pub mod Chosen
+pub mod Assemblies
+pub mod Gathered
+pub mod Meant
+pub mod Apart
+pub mod Wholeness
