@@ -136,7 +136,7 @@ module _ (layers : Layers) (target closure : ℕ) (t : Table) (orderly : Orderly
             differ 0 (suc (from .0)) (omega arith) (omega (arith, from .1))
             (one-head head (getD heads (from .0) 0) row (each 0 (omega arith)) (each (suc (from .0)) (omega (arith, from .1))) (w .3) (from .2))
 
-    -- NO MORE ROWS THAN CLOSURE ROWS, and no more units
+    -- NO MORE ROWS THAN CLOSURE ROWS
     module _ (heads : List ℕ) (each : (i : ℕ) → i < length heads → Head layers target t (getD heads i 0)) (differ : Differ heads) where
       pub rows-few : length (gather (unitOf t f) heads) ≤ count (λ k. has closure (layerOf t k)) (rowsIn t)
       rows-few =
@@ -146,8 +146,9 @@ module _ (layers : Layers) (target closure : ℕ) (t : Table) (orderly : Orderly
           unit-closure-row (getD heads (from .0) 0) (getD (gather (unitOf t f) heads) i 0) (each (from .0) (from .1))
           (complete (getD heads (from .0) 0) (each (from .0) (from .1))) (from .2)))
 
-      pub heads-few : length heads ≤ count (λ k. has closure (layerOf t k)) (rowsIn t)
-      heads-few =
-          once-few (λ k. has closure (layerOf t k)) (rowsIn t) heads (once-places heads differ)
-          (λ i h.
-          (let head = each i h in (head .inside, orderly .closed-over .whole .members (layerOf t (getD heads i 0)) .1 (head .closure-row))))
+  -- no more heads than closure rows
+  pub heads-few : (heads : List ℕ) → ((i : ℕ) → i < length heads → Head layers target t (getD heads i 0)) → Differ heads
+      → length heads ≤ count (λ k. has closure (layerOf t k)) (rowsIn t)
+  heads-few heads each differ =
+      once-few (λ k. has closure (layerOf t k)) (rowsIn t) heads (once-places heads differ)
+      (λ i h. (let head = each i h in (head .inside, orderly .closed-over .whole .members (layerOf t (getD heads i 0)) .1 (head .closure-row))))
