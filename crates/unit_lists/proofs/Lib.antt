@@ -6,3 +6,4 @@ pub mod Order
 pub mod Unique
 pub mod Rising
 pub mod Meant
+pub mod Written
