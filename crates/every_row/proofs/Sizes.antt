@@ -18,12 +18,14 @@ use Rattle.combinators.specs.Lists.{any, any-which, nth-getD, nth-inside, getD-
 use Rattle.combinators.specs.Members.{member, member-at, member-which, member-append}
 use Rattle.combinators.specs.Once.{Once, once-places, once-append, once-count}
 use Rattle.rows.specs.Table.{Table, rowsIn, layerOf}
-use Rattle.joining.specs.Meaning.{NoRow, BreaksOrder, UnitOf}
+use Rattle.rows.specs.Meaning.{NoRow, BreaksOrder}
+use Rattle.claims.specs.Meaning.{Head}
 use Rattle.spans.specs.Meaning.{ClosureRow}
-use Rattle.every_row.specs.Meaning.{Head, AssemblesOwn, InUnitOf, SharesRow, ComesBefore, HeadsInOrder, UnitsOf, no-unit, next-unit}
+use Rattle.heads.specs.Meaning.{AssemblesOwn, InUnitOf, SharesRow, UnitOf}
+use Rattle.unit_lists.specs.Meaning.{ComesBefore, HeadsInOrder, UnitsOf, no-unit, next-unit}
 use Rattle.every_row.specs.Statements.{Judged, total, EachOnce}
 use Rattle.every_row.proofs.Standing.{unit-rows, in-some-unit, one-head}
-use Rattle.every_row.proofs.Claims.{one-assembly}
+use Rattle.every_row.proofs.Claims.{head-row, one-assembly}
 use Rattle.every_row.proofs.Order.{total-order}
 
 -- ---- one unit
@@ -138,7 +140,7 @@ module _ (layers : Layers) (target closure : ℕ) (whole : WholeClosure layers t
       here =
           let w = u .closure-layers .all (s .layer) (s .in-closure) in
           let place : w .0 < length unit = subst (λ (n : ℕ). w .0 < n) (sym (unit-long layers t head unit beside u)) (w .1) in
-          let same = one-assembly layers target closure whole t ordered head (each 0 (omega arith) .closure-row) (u .choice) (s .choice) (u .assembles)
+          let same = one-assembly layers target closure whole t ordered head (head-row (each 0 (omega arith))) (u .choice) (s .choice) (u .assembles)
           (s .assembles) (s .layer) (s .in-closure) in
           subst (λ (r : ℕ). member r unit ≡ true)
           (unit-at layers t head unit beside u (w .0) place ∙ ap (u .choice) (w .2) ∙ same ∙ s .chosen) (member-at unit (w .0) place)
