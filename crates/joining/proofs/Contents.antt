@@ -3,8 +3,8 @@
 -- Assumes nothing.
 use Prim.Native.Nat.{ℕ, zero, suc, _<_}
 use mathlib.Core.Bool.{true}
-use mathlib.Core.List.{List, [], _∷_, _++_, map}
-use mathlib.Core.Path.{_≡_, refl, sym, _∙_, ap, ap₂, subst}
+use mathlib.Core.List.{List, map}
+use mathlib.Core.Path.{_≡_, refl, sym, _∙_, ap, subst}
 use native.Mathlib.Omega.{arith}
 use lib.IntN.{ℤ}
 use lib.ListN.{length, getD}
@@ -25,11 +25,12 @@ use Rattle.spans.proofs.Meant.{row-counts, counts-row}
 use Rattle.heads.specs.Units.{Frame, isHead, assemblyOf, unitOf, lagsOf, unitsIn}
 use Rattle.heads.specs.Orderly.{Orderly, Framed}
 use Rattle.heads.specs.Meaning.{AssemblesOwn}
-use Rattle.heads.proofs.Meant.{head-meant, head-only, unit-meant, unit-only}
+use Rattle.heads.proofs.Meant.{head-meant, head-only}
 use Rattle.heads.proofs.Apart.{Differ}
 use Rattle.unit_lists.specs.Sequence.{headsInOrder, unitRows, unitLags, unitSizes}
 use Rattle.unit_lists.specs.Meaning.{ComesBefore, HeadsInOrder, UnitsOf, no-unit, next-unit}
 use Rattle.unit_lists.proofs.Order.{never-itself}
+use Rattle.unit_lists.proofs.Meant.{units-meant, units-only}
 use Rattle.joining.specs.Joining.{closureRows, Lists, lists, roomOf, listsOver}
 use Rattle.joining.specs.Meaning.{TooSmall, Accepted}
 
@@ -78,28 +79,6 @@ module _ (layers : Layers) (target closure : ℕ) (t : Table) (orderly : Orderly
             let w = member-which k heads e in
             head-only layers target closure t orderly f framed k (subst (Head layers target t) (w .2) (o .each (w .0) (w .1)))
 
-    -- ---- the units of some heads: what is computed is right, and nothing else is
-
-    pub units-meant : ((k : ℕ) → Head layers target t k → assemblyOf t f k .complete ≡ true) → (heads : List ℕ)
-        → ((i : ℕ) → i < length heads → Head layers target t (getD heads i 0))
-        → UnitsOf layers t heads (map (λ head. length (unitOf t f head)) heads) (gather (unitOf t f) heads) (gather (lagsOf t f) heads)
-    units-meant complete [] each = no-unit
-    units-meant complete (head ∷ heads) each =
-        next-unit (unit-meant layers target closure t orderly f framed head (each 0 (omega arith)) (complete head (each 0 (omega arith))))
-        (units-meant complete heads (λ i h. each (suc i) (omega arith)))
-
-    pub units-only : {heads sizes rows : List ℕ} {lags : List ℤ} → ((i : ℕ) → i < length heads → Head layers target t (getD heads i 0))
-        → UnitsOf layers t heads sizes rows lags
-        → (sizes ≡ map (λ head. length (unitOf t f head)) heads) × (rows ≡ gather (unitOf t f) heads) × (lags ≡ gather (lagsOf t f) heads)
-    units-only each no-unit = (refl, refl, refl)
-    units-only each (next-unit {head = head} u us) =
-        let one = unit-only layers target closure t orderly f framed head (each 0 (omega arith)) u in
-        let more = units-only (λ i h. each (suc i) (omega arith)) us in (
-          ap₂ (λ (unit sizes : List ℕ). length unit ∷ sizes) (one .0) (more .0),
-          ap₂ (λ (a b : List ℕ). a ++ b) (one .0) (more .1),
-          ap₂ (λ (a b : List ℤ). a ++ b) (one .1) (more .2),
-        )
-
     -- ---- THE CONTENT
 
     module _ (before : Lists) where
@@ -118,7 +97,7 @@ module _ (layers : Layers) (target closure : ℕ) (t : Table) (orderly : Orderly
             numbers = unitRows t f;
             lags = unitLags t f;
             sizes = unitSizes t f;
-            units-of-heads = units-meant complete (headsInOrder t f) (o .each);
+            units-of-heads = units-meant layers target closure t orderly f framed complete (headsInOrder t f) (o .each);
             lists-hold = refl;
           }
 
@@ -126,7 +105,7 @@ module _ (layers : Layers) (target closure : ℕ) (t : Table) (orderly : Orderly
           → Accepted layers target t before units rows after → (units ≡ unitsIn t f) × (rows ≡ closureRows t closure) × (after ≡ listsOver t f before)
       accepted-only one a =
           let same = one (a .heads) (a .in-order) in
-          let content = units-only (a .in-order .each) (a .units-of-heads) in (
+          let content = units-only layers target closure t orderly f framed (a .in-order .each) (a .units-of-heads) in (
             a .number-of-units ∙ sym (units-counted (a .heads) (a .in-order)),
             a .number-of-rows ∙ closure-rows-only (a .closure-rows) (a .all-closure-rows),
             a .lists-hold

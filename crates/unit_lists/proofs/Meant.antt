@@ -1,14 +1,17 @@
--- The heads as they are computed are all heads in the order of their units (`heads-in-order`), and no other list is (`heads-only`).
+-- The heads as they are computed are all heads in the order of their units (`heads-in-order`), and no other list is (`heads-only`); and the sizes, the rows and
+-- the lags of the units of some heads are those that are computed (`units-meant`, `units-only`).
 -- Assumes nothing.
-use Prim.Native.Nat.{ℕ, _<_}
+use Prim.Native.Nat.{ℕ, suc, _<_}
 use mathlib.Core.Bool.{Bool, true, _&&_}
-use mathlib.Core.List.{List}
+use mathlib.Core.List.{List, [], _∷_, _++_, map}
 use mathlib.Core.Path.{_≡_, refl, sym, _∙_, ap₂, subst}
 use native.Mathlib.Omega.{arith}
 use borrow.Author.Tests.{eq-eqb}
 use lib.Dec.{eqb}
+use lib.IntN.{ℤ}
 use lib.ListN.{length, getD}
 use Rattle.closure.specs.declared.Layers.{Layers}
+use Rattle.combinators.specs.Lists.{gather}
 use Rattle.combinators.specs.Members.{member, member-at, member-which}
 use Rattle.combinators.specs.Those.{those, those-which}
 use Rattle.ordering.specs.Meaning.{ByKey, lower-key, given-before}
@@ -19,12 +22,12 @@ use Rattle.rows.specs.Table.{Table, rowsIn, layerOf}
 use Rattle.claims.specs.Meaning.{Head}
 use Rattle.spans.specs.Spans.{keyAt}
 use Rattle.spans.specs.Meaning.{ClosureRow}
-use Rattle.heads.specs.Units.{Frame, isHead}
+use Rattle.heads.specs.Units.{Frame, isHead, assemblyOf, unitOf, lagsOf}
 use Rattle.heads.specs.Orderly.{Orderly, Framed}
 use Rattle.heads.proofs.Gathered.{gathered-in}
-use Rattle.heads.proofs.Meant.{head-meant, head-only}
+use Rattle.heads.proofs.Meant.{head-meant, head-only, unit-meant, unit-only}
 use Rattle.unit_lists.specs.Sequence.{headsOfLayer, headsByLayer, headsInOrder}
-use Rattle.unit_lists.specs.Meaning.{ComesBefore, HeadsInOrder}
+use Rattle.unit_lists.specs.Meaning.{ComesBefore, HeadsInOrder, UnitsOf, no-unit, next-unit}
 use Rattle.unit_lists.proofs.ByLayer.{Heads, LayerThenRow, lower-layer, lower-row, by-layer, each-head-in-order}
 use Rattle.unit_lists.proofs.Order as order
 use Rattle.unit_lists.proofs.Order.{KeyBefore, key-before, never-itself, never-both}
@@ -78,3 +81,25 @@ module _ (layers : Layers) (target closure : ℕ) (t : Table) (orderly : Orderly
   heads-only heads o =
       in-order-one (ComesBefore layers target t) (never-itself layers target closure (orderly .closed-over .whole) t) (Head layers target t)
       (λ i j h l b c. never-both layers target closure (orderly .closed-over .whole) t i j b c) heads (headsInOrder t f) o heads-in-order
+
+  -- ---- the units of some heads: what is computed is right, and nothing else is
+
+  pub units-meant : ((k : ℕ) → Head layers target t k → assemblyOf t f k .complete ≡ true) → (heads : List ℕ)
+      → ((i : ℕ) → i < length heads → Head layers target t (getD heads i 0))
+      → UnitsOf layers t heads (map (λ head. length (unitOf t f head)) heads) (gather (unitOf t f) heads) (gather (lagsOf t f) heads)
+  units-meant complete [] each = no-unit
+  units-meant complete (head ∷ heads) each =
+      next-unit (unit-meant layers target closure t orderly f framed head (each 0 (omega arith)) (complete head (each 0 (omega arith))))
+      (units-meant complete heads (λ i h. each (suc i) (omega arith)))
+
+  pub units-only : {heads sizes rows : List ℕ} {lags : List ℤ} → ((i : ℕ) → i < length heads → Head layers target t (getD heads i 0))
+      → UnitsOf layers t heads sizes rows lags
+      → (sizes ≡ map (λ head. length (unitOf t f head)) heads) × (rows ≡ gather (unitOf t f) heads) × (lags ≡ gather (lagsOf t f) heads)
+  units-only each no-unit = (refl, refl, refl)
+  units-only each (next-unit {head = head} u us) =
+      let one = unit-only layers target closure t orderly f framed head (each 0 (omega arith)) u in
+      let more = units-only (λ i h. each (suc i) (omega arith)) us in (
+        ap₂ (λ (unit sizes : List ℕ). length unit ∷ sizes) (one .0) (more .0),
+        ap₂ (λ (a b : List ℕ). a ++ b) (one .0) (more .1),
+        ap₂ (λ (a b : List ℤ). a ++ b) (one .1) (more .2),
+      )
