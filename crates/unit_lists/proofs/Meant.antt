@@ -1,11 +1,10 @@
 -- The heads as they are computed are all heads in the order of their units (`heads-in-order`), and no other list is (`heads-only`); and the units of heads, their
 -- sizes, rows and lags one after another, are those that `UnitsOf` asks for (`units-meant`), and no others are (`units-only`).
 -- Assumes nothing.
-use Prim.Native.Nat.{ℕ, zero, suc, _≤_, _<_}
-use mathlib.Core.Bool.{Bool, true, _&&_, _||_, or-assoc, or-comm}
+use Prim.Native.Nat.{ℕ, zero, suc, _<_}
+use mathlib.Core.Bool.{Bool, true, _&&_}
 use mathlib.Core.List.{List, [], _∷_, _++_, map}
-use mathlib.Core.Path.{_≡_, refl, sym, _∙_, ap, ap₂, subst}
-use native.Mathlib.Decide.{decLe}
+use mathlib.Core.Path.{_≡_, refl, sym, _∙_, ap₂, subst}
 use native.Mathlib.Omega.{arith}
 use borrow.Author.Tests.{eq-eqb}
 use lib.Dec.{eqb}
@@ -15,10 +14,9 @@ use Rattle.closure.specs.declared.Layers.{Layers}
 use Rattle.combinators.specs.Lists.{gather}
 use Rattle.combinators.specs.Members.{member, member-at, member-which}
 use Rattle.combinators.specs.Those.{those, those-which}
-use Rattle.ordering.specs.Ordering.{insertedBy, orderedBy}
 use Rattle.ordering.specs.Meaning.{ByKey, lower-key, given-before}
-use Rattle.ordering.proofs.Laws.{goes-first, goes-behind}
 use Rattle.ordering.proofs.Meant.{ordered-meant}
+use Rattle.ordering.proofs.Stored.{member-ordered}
 use Rattle.unit_order.proofs.Each.{each-at, two-at}
 use Rattle.rows.specs.Table.{Table, rowsIn, layerOf}
 use Rattle.claims.specs.Meaning.{Head}
@@ -35,27 +33,6 @@ use Rattle.unit_lists.proofs.ByLayer.{LayerThenRow, lower-layer, lower-
 use Rattle.unit_lists.proofs.Order as order
 use Rattle.unit_lists.proofs.Order.{KeyBefore, key-before, never-itself, never-both}
 use Rattle.unit_lists.proofs.Unique.{in-order-one}
-
--- ---- rows put in order are the rows that were given
-
-module _ (key : ℕ → ℕ) where
-  member-inserted : (x row : ℕ) (rows : List ℕ) → member x (insertedBy key row rows) ≡ eqb x row || member x rows
-  member-inserted x row [] = refl
-  member-inserted x row (next ∷ rows) = go (decLe (key row) (key next)) (member-inserted x row rows)
-    where
-      go : Dec (key row ≤ key next) → member x (insertedBy key row rows) ≡ eqb x row || member x rows
-          → member x (insertedBy key row (next ∷ rows)) ≡ eqb x row || (eqb x next || member x rows)
-      go (yes h) ih = ap (member x) (goes-first key row next rows h)
-      go (no h) ih =
-          ap (member x) (goes-behind key row next rows (omega arith))
-          ∙ ap (λ (b : Bool). eqb x next || b) ih
-          ∙ sym (or-assoc (eqb x next) (eqb x row) (member x rows))
-          ∙ ap (λ (b : Bool). b || member x rows) (or-comm (eqb x next) (eqb x row))
-          ∙ or-assoc (eqb x row) (eqb x next) (member x rows)
-
-  pub member-ordered : (x : ℕ) (rows : List ℕ) → member x (orderedBy key rows) ≡ member x rows
-  member-ordered x [] = refl
-  member-ordered x (row ∷ rows) = member-inserted x row (orderedBy key rows) ∙ ap (λ (b : Bool). eqb x row || b) (member-ordered x rows)
 
 -- ---- by their keys, and where these are the same as they were given: by lower layer, then by row
 
