@@ -1,3 +1,9 @@
+pub mod Members
+pub mod Marking
+pub mod Tested
+pub mod Gathers
+pub mod Kept
+pub mod Claiming
 pub mod Frames
 pub mod Orderly
 pub mod Chosen
