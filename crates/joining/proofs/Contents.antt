@@ -1,11 +1,10 @@
 -- The content of an accepted answer both ways: the computed units, their order, their sizes, rows and lags are those that `Accepted` asks for (`accepted`), and no
 -- others are (`accepted-only`).
 -- Assumes nothing.
-use Prim.Native.Nat.{ℕ, zero, suc, _<_}
+use Prim.Native.Nat.{ℕ, _<_}
 use mathlib.Core.Bool.{true}
 use mathlib.Core.List.{List, map}
 use mathlib.Core.Path.{_≡_, refl, sym, _∙_, ap, subst}
-use native.Mathlib.Omega.{arith}
 use lib.IntN.{ℤ}
 use lib.ListN.{length, getD}
 use Rattle.buffers.specs.Buffers.{over}
@@ -24,22 +23,14 @@ use Rattle.spans.specs.Meaning.{ClosureRow}
 use Rattle.spans.proofs.Meant.{row-counts, counts-row}
 use Rattle.heads.specs.Units.{Frame, isHead, assemblyOf, unitOf, lagsOf, unitsIn}
 use Rattle.heads.specs.Orderly.{Orderly, Framed}
-use Rattle.heads.specs.Meaning.{AssemblesOwn}
 use Rattle.heads.proofs.Meant.{head-meant, head-only}
 use Rattle.heads.proofs.Apart.{Differ}
 use Rattle.unit_lists.specs.Sequence.{headsInOrder, unitRows, unitLags, unitSizes}
-use Rattle.unit_lists.specs.Meaning.{ComesBefore, HeadsInOrder, UnitsOf, no-unit, next-unit}
+use Rattle.unit_lists.specs.Meaning.{ComesBefore, HeadsInOrder}
 use Rattle.unit_lists.proofs.Order.{never-itself}
-use Rattle.unit_lists.proofs.Meant.{units-meant, units-only}
+use Rattle.unit_lists.proofs.Meant.{heads-in-order, heads-only, units-meant, units-only}
 use Rattle.joining.specs.Joining.{closureRows, Lists, lists, roomOf, listsOver}
 use Rattle.joining.specs.Meaning.{TooSmall, Accepted}
-
--- among the units of some heads is an assembly of each
-pub assembly-of : {layers : Layers} {t : Table} {heads sizes rows : List ℕ} {lags : List ℤ} → UnitsOf layers t heads sizes rows lags
-    → (i : ℕ) → i < length heads → (choice : ℕ → ℕ) × AssemblesOwn layers t (getD heads i 0) choice
-assembly-of no-unit i h = absurd (omega arith)
-assembly-of (next-unit u us) zero h = (u .choice, u .assembles)
-assembly-of (next-unit u us) (suc i) h = assembly-of us i (omega arith)
 
 module _ (layers : Layers) (target closure : ℕ) (t : Table) (orderly : Orderly layers target closure t) where
   -- ---- the closure rows of the table
@@ -82,10 +73,11 @@ module _ (layers : Layers) (target closure : ℕ) (t : Table) (orderly : Orderly
     -- ---- THE CONTENT
 
     module _ (before : Lists) where
-      pub accepted : HeadsInOrder layers target t (headsInOrder t f) → ((k : ℕ) → Head layers target t k → assemblyOf t f k .complete ≡ true)
+      pub accepted : ((k : ℕ) → Head layers target t k → assemblyOf t f k .complete ≡ true)
           → (TooSmall (closureRows t closure) (roomOf before) → ⊥)
           → Accepted layers target t before (unitsIn t f) (closureRows t closure) (listsOver t f before)
-      accepted o complete enough =
+      accepted complete enough =
+          let o = heads-in-order layers target closure t orderly f framed in
           record {
             heads = headsInOrder t f;
             in-order = o;
@@ -101,18 +93,27 @@ module _ (layers : Layers) (target closure : ℕ) (t : Table) (orderly : Orderly
             lists-hold = refl;
           }
 
-      pub accepted-only : ((heads : List ℕ) → HeadsInOrder layers target t heads → heads ≡ headsInOrder t f) → {units rows : ℕ} {after : Lists}
-          → Accepted layers target t before units rows after → (units ≡ unitsIn t f) × (rows ≡ closureRows t closure) × (after ≡ listsOver t f before)
-      accepted-only one a =
-          let same = one (a .heads) (a .in-order) in
+      pub content-only : {units rows : ℕ} {after : Lists} → (a : Accepted layers target t before units rows after)
+          → (a .sizes ≡ unitSizes t f) × (a .numbers ≡ unitRows t f) × (a .lags ≡ unitLags t f)
+      content-only a =
+          let same = heads-only layers target closure t orderly f framed (a .heads) (a .in-order) in
           let content = units-only layers target closure t orderly f framed (a .in-order .each) (a .units-of-heads) in (
+            content .0 ∙ ap (map (λ head. length (unitOf t f head))) same,
+            content .1 ∙ ap (gather (unitOf t f)) same,
+            content .2 ∙ ap (gather (lagsOf t f)) same,
+          )
+
+      pub accepted-only : {units rows : ℕ} {after : Lists} → Accepted layers target t before units rows after
+          → (units ≡ unitsIn t f) × (rows ≡ closureRows t closure) × (after ≡ listsOver t f before)
+      accepted-only a =
+          let content = content-only a in (
             a .number-of-units ∙ sym (units-counted (a .heads) (a .in-order)),
             a .number-of-rows ∙ closure-rows-only (a .closure-rows) (a .all-closure-rows),
             a .lists-hold
                 ∙ ap (λ (numbers : List ℕ). lists (over numbers (before .numbers)) (over (a .lags) (before .lags)) (over (a .sizes) (before .sizes)))
-                (content .1 ∙ ap (gather (unitOf t f)) same)
+                (content .1)
                 ∙ ap (λ (lags : List ℤ). lists (over (unitRows t f) (before .numbers)) (over lags (before .lags)) (over (a .sizes) (before .sizes)))
-                (content .2 ∙ ap (gather (lagsOf t f)) same)
+                (content .2)
                 ∙ ap (λ (sizes : List ℕ). lists (over (unitRows t f) (before .numbers)) (over (unitLags t f) (before .lags)) (over sizes (before .sizes)))
-                (content .0 ∙ ap (map (λ head. length (unitOf t f head))) same),
+                (content .0),
           )

@@ -1,7 +1,7 @@
 -- The heads as they are computed are all heads in the order of their units (`heads-in-order`), and no other list is (`heads-only`); and the sizes, the rows and
 -- the lags of the units of some heads are those that are computed (`units-meant`, `units-only`).
 -- Assumes nothing.
-use Prim.Native.Nat.{ℕ, suc, _<_}
+use Prim.Native.Nat.{ℕ, zero, suc, _<_}
 use mathlib.Core.Bool.{Bool, true, _&&_}
 use mathlib.Core.List.{List, [], _∷_, _++_, map}
 use mathlib.Core.Path.{_≡_, refl, sym, _∙_, ap₂, subst}
@@ -23,6 +23,7 @@ use Rattle.claims.specs.Meaning.{Head}
 use Rattle.spans.specs.Spans.{keyAt}
 use Rattle.spans.specs.Meaning.{ClosureRow}
 use Rattle.heads.specs.Units.{Frame, isHead, assemblyOf, unitOf, lagsOf}
+use Rattle.heads.specs.Meaning.{AssemblesOwn}
 use Rattle.heads.specs.Orderly.{Orderly, Framed}
 use Rattle.heads.proofs.Gathered.{gathered-in}
 use Rattle.heads.proofs.Meant.{head-meant, head-only, unit-meant, unit-only}
@@ -38,6 +39,13 @@ by-key : (t : Table) (closure j k : ℕ) → ByKey (keyAt t closure) (LayerThenR
 by-key t closure j k (lower-key h) = order.KeyBefore.lower-key h
 by-key t closure j k (given-before e (lower-layer h)) = order.KeyBefore.same-key e h
 by-key t closure j k (given-before e (lower-row l h)) = order.KeyBefore.same-layer e l h
+
+-- among the units of some heads is an assembly of each
+pub assembly-of : {layers : Layers} {t : Table} {heads sizes rows : List ℕ} {lags : List ℤ} → UnitsOf layers t heads sizes rows lags
+    → (i : ℕ) → i < length heads → (choice : ℕ → ℕ) × AssemblesOwn layers t (getD heads i 0) choice
+assembly-of no-unit i h = absurd (omega arith)
+assembly-of (next-unit u us) zero h = (u .choice, u .assembles)
+assembly-of (next-unit u us) (suc i) h = assembly-of us i (omega arith)
 
 module _ (layers : Layers) (target closure : ℕ) (t : Table) (orderly : Orderly layers target closure t) (f : Frame) (framed : Framed layers closure t f) where
   -- every head is among the heads by layer
