@@ -13,7 +13,7 @@ use Rattle.closure.specs.Meaning.{RestsOn, itself, by, WholeClosure}
 use Rattle.closure.proofs.Reached.{member-rests-on, rests-on-member}
 use Rattle.sets.specs.Sets.{has}
 use Rattle.rows.specs.Table.{Table, rowsIn, layerOf, ahead, passed, breaksOrder}
-use Rattle.assembling.specs.Assemblies.{Assembly, lowerOf, edgesOf, assembled}
+use Rattle.assembling.specs.Assemblies.{Assembly, edgesOf, assembled}
 use Rattle.assembling.proofs.Assembled.{untouched, begin-other}
 use Rattle.assembling.proofs.Own.{rests-further, own-closure}
 use Rattle.heads.specs.Orderly.{Orderly}

@@ -2,7 +2,7 @@
 -- `assembly-only`), 15 (`unpaired-meant`, `unpaired-only`), the unit of each with its lags (`unit-meant`, `unit-only`), and 16 (`shares-meant`, `shares-only`);
 -- and the first row of each number.
 -- Assumes nothing.
-use Prim.Native.Nat.{ℕ, zero, suc, _≤_, _<_}
+use Prim.Native.Nat.{ℕ, suc, _≤_, _<_}
 use mathlib.Core.Bool.{Bool, true, false, not, _&&_, true≢false}
 use mathlib.Core.List.{List, [], _∷_, map}
 use mathlib.Core.Path.{_≡_, refl, sym, _∙_, ap, ap₂, subst}
@@ -30,7 +30,7 @@ use Rattle.assembling.specs.Assemblies.{Assembly, edgesOf, membersOf, assembled
 use Rattle.claims.specs.Meaning.{Head}
 use Rattle.claims.specs.Claims as claims
 use Rattle.claims.proofs.Meant as claims-meant
-use Rattle.heads.specs.Units.{Frame, isHead, ownOf, assemblyOf, unitFrom, unitOf, lagsFrom, lagsOf, headsBelow, rowsBelow, unpaired, shares, firstUnpaired, firstShared}
+use Rattle.heads.specs.Units.{Frame, isHead, ownOf, assemblyOf, unitOf, lagsFrom, lagsOf, headsBelow, rowsBelow, unpaired, shares, firstUnpaired, firstShared}
 use Rattle.heads.specs.Orderly.{Orderly, Framed}
 use Rattle.heads.specs.Meaning.{Assembles, AssemblesOwn, NoAssembly, InUnitOf, SharesRow, LagsBeside, no-row, beside, UnitOf}
 use Rattle.heads.proofs.Assemblies.{head-found, head-only as only-found, head-no-other}

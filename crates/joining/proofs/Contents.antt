@@ -8,7 +8,6 @@ use mathlib.Core.Path.{_≡_, refl, sym, _∙_, ap, ap₂, subst}
 use native.Mathlib.Omega.{arith}
 use lib.IntN.{ℤ}
 use lib.ListN.{length, getD}
-use lib.Signed.{_<ℤ_}
 use Rattle.buffers.specs.Buffers.{over}
 use Rattle.closure.specs.declared.Layers.{Layers}
 use Rattle.combinators.specs.Ascending.{Ascending, those-ascending, ascending-one}
@@ -22,15 +21,15 @@ use Rattle.rows.specs.Table.{Table, rowsIn}
 use Rattle.claims.specs.Meaning.{Head}
 use Rattle.spans.specs.Spans.{isClosureRow}
 use Rattle.spans.specs.Meaning.{ClosureRow}
-use Rattle.spans.proofs.Keys.{less}
-use Rattle.spans.proofs.Meant.{row-counts, counts-row, distance-only}
+use Rattle.spans.proofs.Meant.{row-counts, counts-row}
 use Rattle.heads.specs.Units.{Frame, isHead, assemblyOf, unitOf, lagsOf, unitsIn}
 use Rattle.heads.specs.Orderly.{Orderly, Framed}
 use Rattle.heads.specs.Meaning.{AssemblesOwn}
 use Rattle.heads.proofs.Meant.{head-meant, head-only, unit-meant, unit-only}
 use Rattle.heads.proofs.Apart.{Differ}
 use Rattle.unit_lists.specs.Sequence.{headsInOrder, unitRows, unitLags, unitSizes}
-use Rattle.unit_lists.specs.Meaning.{ComesBefore, lower-distance, lower-layer, lower-row, HeadsInOrder, UnitsOf, no-unit, next-unit}
+use Rattle.unit_lists.specs.Meaning.{ComesBefore, HeadsInOrder, UnitsOf, no-unit, next-unit}
+use Rattle.unit_lists.proofs.Order.{never-itself}
 use Rattle.joining.specs.Joining.{closureRows, Lists, lists, roomOf, listsOver}
 use Rattle.joining.specs.Meaning.{TooSmall, Accepted}
 
@@ -57,16 +56,10 @@ module _ (layers : Layers) (target closure : ℕ) (t : Table) (orderly : Orderly
 
   -- ---- no head comes before itself, so that none stands twice in a list of heads in order
 
-  never-itself : (k : ℕ) → ComesBefore layers target t k k → ⊥
-  never-itself k (lower-distance {distance} {farther} d e h) =
-      let same = distance-only layers target closure (orderly .closed-over .whole) t k distance farther d e in
-      let below = less distance distance (subst (λ (z : ℤ). distance <ℤ z) (sym same) h) in
-      omega arith
-  never-itself k (lower-layer d e h) = omega arith
-  never-itself k (lower-row d e l h) = omega arith
-
   pub heads-differ : (heads : List ℕ) → HeadsInOrder layers target t heads → Differ heads
-  heads-differ heads o i j h l e = never-itself (getD heads i 0) (subst (ComesBefore layers target t (getD heads i 0)) (sym e) (o .in-order i j h l))
+  heads-differ heads o i j h l e =
+      never-itself layers target closure (orderly .closed-over .whole) t (getD heads i 0)
+      (subst (ComesBefore layers target t (getD heads i 0)) (sym e) (o .in-order i j h l))
 
   module _ (f : Frame) (framed : Framed layers closure t f) where
     -- as many units as heads

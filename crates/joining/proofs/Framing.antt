@@ -1,8 +1,8 @@
 -- The frame that joining makes over a closure and a table is one: `framed`; and what stands in a list of a value for each number.
 -- Assumes nothing.
 use Prim.Native.Nat.{ℕ, zero, suc, _<_}
-use mathlib.Core.Bool.{Bool, true, false, cond}
-use mathlib.Core.List.{List, [], _∷_, _++_}
+use mathlib.Core.Bool.{Bool, false, cond}
+use mathlib.Core.List.{[], _∷_, _++_}
 use mathlib.Core.Logic.{_⊎_, inl, inr}
 use mathlib.Core.Path.{_≡_, refl, sym, _∙_, ap}
 use native.Mathlib.Nat.{eq-or-lt-of-le, le-of-suc-le-suc}
@@ -12,7 +12,6 @@ use lib.Seq.{getD-at}
 use Rattle.closure.specs.declared.Layers.{Layers}
 use Rattle.closure.specs.Closures.{restedOn}
 use Rattle.closure.proofs.Meant.{below-64}
-use Rattle.sets.specs.Sets.{has}
 use Rattle.rows.specs.Table.{Table, rowsIn}
 use Rattle.claims.specs.Claims.{claimed}
 use Rattle.heads.specs.Orderly.{Closed, Framed}

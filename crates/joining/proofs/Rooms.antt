@@ -4,7 +4,7 @@
 use Prim.Native.Nat.{ℕ, _+_, _≤_}
 use mathlib.Core.Bool.{true}
 use mathlib.Core.List.{List, [], _∷_}
-use mathlib.Core.Path.{_≡_, refl, sym, _∙_, ap, ap₂, subst}
+use mathlib.Core.Path.{_≡_, refl, sym, _∙_, ap₂, subst}
 use lib.ListN.{length, length-append, length-map}
 use Rattle.clock.specs.Clock.{lagOf}
 use Rattle.closure.specs.declared.Layers.{Layers}
@@ -17,6 +17,7 @@ use Rattle.heads.proofs.Apart.{rows-few, heads-few}
 use Rattle.heads.proofs.Meant.{head-only, complete-at, all-paired, none-shared-meant}
 use Rattle.unit_lists.specs.Sequence.{headsInOrder, unitRows, unitLags, unitSizes}
 use Rattle.unit_lists.specs.Meaning.{HeadsInOrder}
+use Rattle.unit_lists.proofs.Meant.{heads-in-order}
 use Rattle.joining.specs.Joining.{closureRows}
 use Rattle.joining.proofs.Contents.{heads-differ}
 
@@ -35,20 +36,19 @@ module _ (layers : Layers) (target closure : ℕ) (t : Table) (orderly : Orderly
       complete-at layers target closure t orderly f framed k (head-only layers target closure t orderly f framed k head)
       (all-paired layers target closure t orderly f framed paired k (head .inside))
 
-  module _ (in-order : HeadsInOrder layers target t (headsInOrder t f)) (paired : rowsIn t ≤ firstUnpaired t f) (apart : rowsIn t ≤ firstShared t f) where
-    pub rows-fit : length (unitRows t f) ≤ closureRows t closure
-    rows-fit =
-        rows-few layers target closure t orderly f framed (each-complete paired) (none-shared-meant layers target closure t orderly f framed paired apart)
-        (headsInOrder t f) (in-order .each) (heads-differ layers target closure t orderly (headsInOrder t f) in-order)
+  abbrev in-order : HeadsInOrder layers target t (headsInOrder t f)
+  in-order = heads-in-order layers target closure t orderly f framed
 
-    pub lags-fit : length (unitLags t f) ≤ closureRows t closure
-    lags-fit = subst (λ (n : ℕ). n ≤ closureRows t closure) (sym (lags-long t f (headsInOrder t f))) rows-fit
+  pub rows-fit : rowsIn t ≤ firstUnpaired t f → rowsIn t ≤ firstShared t f → length (unitRows t f) ≤ closureRows t closure
+  rows-fit paired apart =
+      rows-few layers target closure t orderly f framed (each-complete paired) (none-shared-meant layers target closure t orderly f framed paired apart)
+      (headsInOrder t f) (in-order .each) (heads-differ layers target closure t orderly (headsInOrder t f) in-order)
 
-  module _ (in-order : HeadsInOrder layers target t (headsInOrder t f)) where
-    pub units-fit : length (headsInOrder t f) ≤ closureRows t closure
-    units-fit =
-        heads-few layers target closure t orderly f framed (headsInOrder t f) (in-order .each)
-        (heads-differ layers target closure t orderly (headsInOrder t f) in-order)
+  pub lags-fit : rowsIn t ≤ firstUnpaired t f → rowsIn t ≤ firstShared t f → length (unitLags t f) ≤ closureRows t closure
+  lags-fit paired apart = subst (λ (n : ℕ). n ≤ closureRows t closure) (sym (lags-long t f (headsInOrder t f))) (rows-fit paired apart)
 
-    pub sizes-fit : length (unitSizes t f) ≤ closureRows t closure
-    sizes-fit = subst (λ (n : ℕ). n ≤ closureRows t closure) (sym (length-map (headsInOrder t f) (λ head. length (unitOf t f head)))) units-fit
+  pub sizes-fit : length (unitSizes t f) ≤ closureRows t closure
+  sizes-fit =
+      subst (λ (n : ℕ). n ≤ closureRows t closure) (sym (length-map (headsInOrder t f) (λ head. length (unitOf t f head))))
+      (heads-few layers target closure t orderly f framed (headsInOrder t f) (in-order .each)
+      (heads-differ layers target closure t orderly (headsInOrder t f) in-order))

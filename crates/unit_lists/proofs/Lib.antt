@@ -1,0 +1,4 @@
+pub mod Order
+pub mod Unique
+pub mod Meant
+pub mod Rising
