@@ -8,6 +8,7 @@ use mathlib.Core.List.{List, map}
 use lib.Dec.{eqb}
 use lib.IntN.{ℤ}
 use lib.ListN.{length}
+use Rattle.buffers.specs.Buffers.{over}
 use Rattle.combinators.specs.Lists.{gather}
 use Rattle.combinators.specs.Those.{those}
 use Rattle.ordering.specs.Ordering.{orderedBy}
@@ -35,3 +36,17 @@ unitLags t f = gather (lagsOf t f) (headsInOrder t f)
 
 abbrev pub unitSizes : Table → Frame → List ℕ
 unitSizes t f = map (λ head. length (unitOf t f head)) (headsInOrder t f)
+
+-- The three lists: what stands in them.
+pub record Lists : Type 0 where
+  pub numbers : List ℕ
+  pub lags : List ℤ
+  pub sizes : List ℕ
+
+abbrev pub lists : List ℕ → List ℤ → List ℕ → Lists
+lists numbers lags sizes = record { numbers = numbers; lags = lags; sizes = sizes }
+
+-- What the lists hold: the units, and after them what stood there.
+abbrev pub listsOver : Table → Frame → Lists → Lists
+listsOver t f before =
+    lists (over (unitRows t f) (before .numbers)) (over (unitLags t f) (before .lags)) (over (unitSizes t f) (before .sizes))
