@@ -22,9 +22,10 @@ use Rattle.spans.specs.Spans.{wideSpan}
 use Rattle.heads.specs.declared.Judged.{Judged}
 use Rattle.heads.specs.Units.{Frame, unpaired, shares, firstUnpaired, firstShared, unitsIn}
 use Rattle.heads.specs.Judging.{Kept, Judges}
+use Rattle.unit_lists.specs.Sequence.{Lists}
 use Rattle.joining.specs.declared.answer.Joined.{Joined}
 use Rattle.joining.specs.declared.answer.Joined.the-variants.{Units, Refused}
-use Rattle.joining.specs.Joining.{tabulated, frameOf, closureRows, Room, tooSmall, unitsJoined, tableJoined, Lists, listsAfter}
+use Rattle.joining.specs.Joining.{tabulated, frameOf, closureRows, Room, tooSmall, unitsJoined, tableJoined, listsAfter}
 use Rattle.joining.specs.Steps.{framedLists}
 use Rattle.joining.proofs.Framing.{tabulated-long, tabulated-at}
 use Rattle.joining.proofs.Cases.{is-unpaired, is-shared, is-wide, is-no-room, are-units, IsOver, units-over, refused, is-over}

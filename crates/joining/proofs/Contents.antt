@@ -27,10 +27,10 @@ use Rattle.heads.specs.Orderly.{Orderly, Framed}
 use Rattle.heads.specs.Meaning.{AssemblesOwn}
 use Rattle.heads.proofs.Meant.{head-meant, head-only, unit-meant, unit-only}
 use Rattle.heads.proofs.Apart.{Differ}
-use Rattle.unit_lists.specs.Sequence.{headsInOrder, unitRows, unitLags, unitSizes}
+use Rattle.unit_lists.specs.Sequence.{headsInOrder, unitRows, unitLags, unitSizes, Lists, lists, listsOver}
 use Rattle.unit_lists.specs.Meaning.{ComesBefore, HeadsInOrder, UnitsOf, no-unit, next-unit}
 use Rattle.unit_lists.proofs.Order.{never-itself}
-use Rattle.joining.specs.Joining.{closureRows, Lists, lists, roomOf, listsOver}
+use Rattle.joining.specs.Joining.{closureRows, roomOf}
 use Rattle.joining.specs.Meaning.{TooSmall, Accepted}
 
 -- among the units of some heads is an assembly of each

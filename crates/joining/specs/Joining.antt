@@ -4,7 +4,6 @@ use Prim.Native.Nat.{ℕ, zero, suc, min}
 use mathlib.Core.Bool.{Bool, cond, _||_}
 use mathlib.Core.List.{List, [], _∷_, _++_}
 use lib.Dec.{ltb}
-use lib.IntN.{ℤ}
 use lib.ListN.{length}
 use Rattle.closure.specs.declared.Layers.{Layers}
 use Rattle.closure.specs.declared.Closure.{Closure}
@@ -21,10 +20,9 @@ use Rattle.assembling.specs.Assemblies.{edgesOf}
 use Rattle.claims.specs.Claims.{claimed}
 use Rattle.spans.specs.Spans.{isClosureRow, wideSpan}
 use Rattle.heads.specs.Units.{Frame, frame, firstUnpaired, firstShared, unitsIn}
-use Rattle.unit_lists.specs.Sequence.{unitRows, unitLags, unitSizes}
+use Rattle.unit_lists.specs.Sequence.{Lists, listsOver}
 use Rattle.joining.specs.declared.answer.Joined.{Joined}
 use Rattle.joining.specs.declared.answer.Joined.the-variants.{Units, Refused}
-use Rattle.buffers.specs.Buffers.{over}
 
 -- a value for each number below n
 abbrev pub tabulated : {A : Type 0} → (ℕ → A) → ℕ → List A
@@ -79,23 +77,11 @@ joinedIn most layers t room (NoClosure refusal) = Refused refusal
 abbrev pub joinedOf : ℕ → Layers → ℕ → Table → Room → Joined
 joinedOf most layers target t room = joinedIn most layers t room (closureOf layers target)
 
--- The three lists: what stands in them, and what room they have.
-pub record Lists : Type 0 where
-  pub numbers : List ℕ
-  pub lags : List ℤ
-  pub sizes : List ℕ
-
-abbrev pub lists : List ℕ → List ℤ → List ℕ → Lists
-lists numbers lags sizes = record { numbers = numbers; lags = lags; sizes = sizes }
-
+-- the room of the three lists of an answer
 abbrev pub roomOf : Lists → Room
 roomOf before = record { numbers = length (before .numbers); lags = length (before .lags); sizes = length (before .sizes) }
 
 -- What the lists hold: the units, and after them what stood there; after a refusal all is as it was.
-abbrev pub listsOver : Table → Frame → Lists → Lists
-listsOver t f before =
-    lists (over (unitRows t f) (before .numbers)) (over (unitLags t f) (before .lags)) (over (unitSizes t f) (before .sizes))
-
 abbrev pub listsAfter : Layers → Table → Joined → Lists → Lists
 listsAfter layers t (Units closure units rows) before = listsOver t (frameOf layers closure t) before
 listsAfter layers t (Refused refusal) before = before

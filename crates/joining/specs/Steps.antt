@@ -6,9 +6,9 @@ use Rattle.closure.specs.declared.Layers.{Layers}
 use Rattle.rows.specs.Table.{Table}
 use Rattle.heads.specs.Units.{Frame}
 use Rattle.heads.specs.Orderly.{Orderly, Framed}
+use Rattle.unit_lists.specs.Sequence.{Lists, listsOver}
 use Rattle.joining.specs.declared.answer.Joined.{Joined}
 use Rattle.joining.specs.declared.answer.Joined.the-variants.{Units, Refused}
-use Rattle.joining.specs.Joining.{Lists, listsOver}
 
 -- how many places the seven lists of the work space have
 abbrev pub spaces : ℕ → ℕ → ℕ → ℕ → ℕ → ℕ → ℕ → List ℕ

@@ -1,8 +1,9 @@
-pub mod Order
-pub mod Unique
-pub mod Meant
-pub mod Rising
 pub mod Laying
 pub mod Filling
 pub mod ByLayer
 pub mod Front
+pub mod Order
+pub mod Unique
+pub mod Rising
+pub mod Meant
+pub mod Written
