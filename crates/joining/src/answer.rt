@@ -70,7 +70,18 @@ fn join_framed(
 {
     let none = indices.len();
     let judged = heads::judge(
-        closure, indices, decodings, matches, starts, order, edges, own, claimed, used, kept, places,
+        closure,
+        indices,
+        decodings,
+        matches,
+        starts,
+        order,
+        edges,
+        own,
+        claimed,
+        used,
+        kept,
+        places,
     );
     if judged.unpaired < none {
         return Joined::Refused(Refusal::Unpaired(judged.unpaired));
@@ -86,7 +97,20 @@ fn join_framed(
         return Joined::Refused(Refusal::NoRoom);
     }
     write_units(
-        closure, indices, decodings, starts, order, keys, own, claimed, kept, places, heads, numbers, lags, sizes,
+        closure,
+        indices,
+        decodings,
+        starts,
+        order,
+        keys,
+        own,
+        claimed,
+        kept,
+        places,
+        heads,
+        numbers,
+        lags,
+        sizes,
     );
     Joined::Units {
         closure,
@@ -133,7 +157,14 @@ fn join_ordered(
     let pairs = edges.list;
     let own = own_sets(layers, closure);
     claims::mark_claimed(
-        layers, closure, indices, decodings, matches, &starts, order, claimed,
+        layers,
+        closure,
+        indices,
+        decodings,
+        matches,
+        &starts,
+        order,
+        claimed,
     );
     join_framed(
         closure,
@@ -191,7 +222,20 @@ pub fn join_table(
     let verdict = rows::judge(most, closure, indices, decodings, matches);
     match verdict {
         Verdict::InOrder => join_ordered(
-            layers, closure, indices, decodings, matches, order, keys, kept, places, heads, claimed, used, numbers, lags,
+            layers,
+            closure,
+            indices,
+            decodings,
+            matches,
+            order,
+            keys,
+            kept,
+            places,
+            heads,
+            claimed,
+            used,
+            numbers,
+            lags,
             sizes,
         ),
         Verdict::OutOfRange(row) => Joined::Refused(Refusal::OutOfRange(row)),
@@ -240,7 +284,22 @@ pub fn join_long(
     let found = closure::closure_of(layers, target);
     match found {
         Closure::Complete(set) => join_table(
-            most, layers, set, target, indices, decodings, matches, order, keys, kept, places, heads, claimed, used, numbers, lags,
+            most,
+            layers,
+            set,
+            target,
+            indices,
+            decodings,
+            matches,
+            order,
+            keys,
+            kept,
+            places,
+            heads,
+            claimed,
+            used,
+            numbers,
+            lags,
             sizes,
         ),
         Closure::Refused(refusal) => Joined::Refused(refusal),
