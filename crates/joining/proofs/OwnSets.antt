@@ -25,7 +25,7 @@ module _ (layers : Layers) (closure : ℕ) where
   filled-start =
       record {
         within = omega arith;
-        long = length-replicate 64 0;
+        long = length-replicate {A = ℕ} 64 0;
         done = λ k h. absurd (omega arith);
         rest = λ k h l. getD-replicate 64 k 0 0 l;
       }
