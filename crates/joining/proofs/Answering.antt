@@ -16,19 +16,32 @@ use Rattle.combinators.specs.Padding.{padTo}
 use Rattle.rows.specs.Table.{Table, rowsIn}
 use Rattle.vocabulary.specs.declared.refusal.Refusal.{Refusal}
 use Rattle.vocabulary.specs.declared.refusal.Refusal.the-variants.{Unpaired, UsedTwice, SpanTooWide, NoRoom}
+use Rattle.assembling.specs.Index.{Starts, Order, Ready}
 use Rattle.claims.specs.Claims.{claimed}
 use Rattle.claims.specs.Marks.{Stands}
 use Rattle.spans.specs.Spans.{wideSpan}
 use Rattle.heads.specs.declared.Judged.{Judged}
 use Rattle.heads.specs.Units.{Frame, unpaired, shares, firstUnpaired, firstShared, unitsIn}
-use Rattle.heads.specs.Judging.{Kept, Judges}
+use Rattle.heads.specs.Judging.{Whole, Kept, Judges}
+use Rattle.heads.proofs.Orderly.{ready}
+use Rattle.heads.proofs.Wholeness.{frame-whole}
 use Rattle.unit_lists.specs.Sequence.{Lists}
 use Rattle.joining.specs.declared.answer.Joined.{Joined}
 use Rattle.joining.specs.declared.answer.Joined.the-variants.{Units, Refused}
 use Rattle.joining.specs.Joining.{tabulated, frameOf, closureRows, Room, tooSmall, unitsJoined, tableJoined, listsAfter}
-use Rattle.joining.specs.Steps.{framedLists}
+use Rattle.joining.specs.Steps.{Joinable, framedLists}
 use Rattle.joining.proofs.Framing.{tabulated-long, tabulated-at}
 use Rattle.joining.proofs.Cases.{is-unpaired, is-shared, is-wide, is-no-room, are-units, IsOver, units-over, refused, is-over}
+
+-- ---- what a joinable frame has
+
+module _ (closure : ℕ) (t : Table) (f : Frame) (known : Joinable closure t f) where
+  pub index-ready : (starts order : List ℕ) → Starts (t .indices) starts → Order (t .indices) order → Ready t starts order (f .edges)
+  index-ready starts order s o =
+      subst (Ready t starts order) (sym (known .framed .edges-listed)) (ready (known .layers) (known .target) closure t (known .orderly) starts order s o)
+
+  pub whole-frame : Whole t f
+  whole-frame = frame-whole (known .layers) (known .target) closure t (known .orderly) f (known .framed)
 
 -- ---- 15, 16, 18, 17 and the units
 
