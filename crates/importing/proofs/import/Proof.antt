@@ -34,12 +34,12 @@ same-length-3 c = search needs
 
 returns : tie.Need-returns
 returns c =
-    let a = c .before .before .before .before .before .before .before .before .before .before .before .before .before .before .before .args in
+    let a = c .before .before .before .before .before .before .before .before .before .before .before .before .before .before .before .before .before .before .before .args in
     let t = table (a .indices .now) (a .decodings .now) (a .matches .now) in
     let before = lists (a .numbers .now) (a .lags .now) (a .sizes .now) in
-    let read = c .before .before .before .before .before .before .before .before .before .read-layers in
-    let joined = c .before .before .before .join in
-    let accepted = c .before .before .before .before .before .before .enum-told .given .1 in (
+    let read = c .before .before .before .before .before .before .before .before .before .before .before .before .read-layers in
+    let joined = c .before .before .before .before .before .join in
+    let accepted = c .before .before .before .before .before .before .before .before .before .enum-told .given .1 in (
       joined .ensures .0
           ∙ sym (ap (λ (o : Outcome). importFor o (read .result .layers) (a .target) t (roomOf before)) accepted)
           ∙ ap (λ (r : LayersRead). importFor (r .outcome) (r .layers) (a .target) t (roomOf before)) (read .ensures),
@@ -48,7 +48,7 @@ returns c =
 
 returns-2 : tie.Need-returns-2
 returns-2 c =
-    let a = c .before .before .before .before .before .before .before .before .before .before .args in
+    let a = c .before .before .before .before .before .before .before .before .before .before .before .args in
     let t = table (a .indices .now) (a .decodings .now) (a .matches .now) in
     let before = lists (a .numbers .now) (a .lags .now) (a .sizes .now) in
     let read = c .before .before .before .before .read-layers in (
