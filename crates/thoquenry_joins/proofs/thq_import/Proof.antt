@@ -2,6 +2,7 @@
 -- Assumes nothing.
 use mathlib.Core.Path.{sym, _∙_, refl, ap}
 use Rattle.rows.specs.Table.{table}
+use Rattle.unit_lists.specs.Sequence.{lists}
 use Rattle.c_answers.specs.declared.Asked.{Asked}
 use Rattle.thoquenry_joins.specs.Joins.{importAsked}
 use Rattle.thoquenry_joins.proofs.Joined.{left-as}
@@ -34,19 +35,24 @@ same-length-2 c = search needs
 same-length-3 : tie.Need-same-length-3
 same-length-3 c = search needs
 
+same-length-4 : tie.Need-same-length-4
+same-length-4 c = search needs
+
 returns : tie.Need-returns
 returns c =
-    let a = c .before .before .before .before .before .before .before .before .before .before .before .before .before .before .before .before .before .before .before .args in
+    let a = c .before .before .before .before .before .before .before .before .before .before .before .before .before .before .before .before .before .before .before .before .before .before .before .args in
     let t = table (a .indices .now) (a .decodings .now) (a .matches .now) in
-    left-as (ap (λ (k : Asked). importAsked k (a .bytes .now) (a .target) t (a .numbers .now) (a .lags .now) (a .summary .now))
-    (sym (c .before .before .before .before .before .before .before .before .before .before .asked .given .1) ∙ c .before .before .before .before .before .before .before .before .before .before .before .before .reading-of .ensures)) (c .before .before .before .before .before .import-under .ensures)
+    let before = lists (a .numbers .now) (a .lags .now) (a .sizes .now) in
+    left-as (ap (λ (k : Asked). importAsked k (a .bytes .now) (a .target) t before (a .summary .now))
+    (sym (c .before .before .before .before .before .before .before .before .before .before .before .before .before .asked .given .1) ∙ c .before .before .before .before .before .before .before .before .before .before .before .before .before .before .before .reading-of .ensures)) (c .before .before .before .before .before .before .before .import-under .ensures)
 
 returns-2 : tie.Need-returns-2
 returns-2 c =
-    let a = c .before .before .before .before .before .before .before .before .before .before .args in
+    let a = c .before .before .before .before .before .before .before .before .before .before .before .args in
     let t = table (a .indices .now) (a .decodings .now) (a .matches .now) in
-    left-as (ap (λ (k : Asked). importAsked k (a .bytes .now) (a .target) t (a .numbers .now) (a .lags .now) (a .summary .now))
-    (sym (c .before .enum-told .given .1) ∙ c .before .before .before .reading-of .ensures)) (c .not-a-call .ensures, (refl, (refl, refl)))
+    let before = lists (a .numbers .now) (a .lags .now) (a .sizes .now) in
+    left-as (ap (λ (k : Asked). importAsked k (a .bytes .now) (a .target) t before (a .summary .now))
+    (sym (c .before .enum-told .given .1) ∙ c .before .before .before .reading-of .ensures)) (c .not-a-call .ensures, (refl, refl))
 
 pub thq-import-spec : {M : Type 1} → statement M
 thq-import-spec =
@@ -60,5 +66,6 @@ thq-import-spec =
     same-length
     same-length-2
     same-length-3
+    same-length-4
     returns
     returns-2)

@@ -2,10 +2,10 @@
 -- Assumes nothing.
 use mathlib.Core.Path.{ap}
 use Rattle.closure.specs.declared.Layers.{Layers}
-use Rattle.rows.specs.Table.{table}
+use Rattle.rows.specs.Table.{table, mostRows}
+use Rattle.unit_lists.specs.Sequence.{lists}
 use Rattle.thoquenry_joins.specs.Joins.{joinOver}
 use Rattle.thoquenry_joins.proofs.Joined.{left-as}
-use native.Mathlib.Omega.{arith}
 use borrow.Author.Needs.{needs}
 use Rattle.thoquenry_joins.proofs.thq_join.Statement.{statement}
 use Rattle.thoquenry_joins.proofs.thq_join.Tie as tie
@@ -25,12 +25,15 @@ same-length-2 c = search needs
 same-length-3 : tie.Need-same-length-3
 same-length-3 c = search needs
 
+same-length-4 : tie.Need-same-length-4
+same-length-4 c = search needs
+
 returns : tie.Need-returns
 returns c =
-    let a = c .before .before .before .before .before .before .before .before .before .before .before .before .before .before .before .before .args in
+    let a = c .before .before .before .before .before .before .before .before .before .before .before .before .before .before .before .before .before .before .before .before .args in
     let t = table (a .indices .now) (a .decodings .now) (a .matches .now) in
-    left-as (ap (λ (l : Layers). joinOver l (a .target) t (a .numbers .now) (a .lags .now) (a .summary .now)) (c .before .before .before .before .before .before .before .before .before .layers-given .ensures))
-    (c .before .before .before .before .before .join-over .ensures)
+    let before = lists (a .numbers .now) (a .lags .now) (a .sizes .now) in
+    left-as (ap (λ (l : Layers). joinOver mostRows l (a .target) t before (a .summary .now)) (c .before .before .before .before .before .before .before .before .before .before .before .before .layers-given .ensures)) (c .before .before .before .before .before .before .before .join-over .ensures)
 
 pub thq-join-spec : {M : Type 1} → statement M
 thq-join-spec =
@@ -41,4 +44,5 @@ thq-join-spec =
     same-length
     same-length-2
     same-length-3
+    same-length-4
     returns)
