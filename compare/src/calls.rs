@@ -2,6 +2,7 @@
 //! leave their buffers in the call itself, so that two calls are equal when every buffer is, inputs included.
 
 use crate::memory::{Memory, Placing};
+use crate::random::Random;
 use plain::{
     Columns, Embedded, Entry, Extension, Hierarchy, Layers, Reading, Record, Refusal, Times,
     MOST_ROWS,
@@ -145,6 +146,72 @@ impl Call {
         };
         let implied = |entry: &Entry| entry.record == Some(Record::Implied);
         entries.map_or(false, |entries| entries.iter().any(implied))
+    }
+
+    /// The same call over a table that differs in rows of layers alone on which the target doesn't rest, where no row is out of range: other layers, other
+    /// times, none of them in the closure. Nothing where this one has no such row, or no closure.
+    pub fn with_other_rows(&self, random: &mut Random) -> Option<Call> {
+        let mut other = self.clone();
+        let (closure, rows) = match &mut other {
+            Call::Join {
+                present,
+                embedded,
+                target,
+                rows,
+                ..
+            }
+            | Call::JoinLong {
+                present,
+                embedded,
+                target,
+                rows,
+                ..
+            } => (plain::closure(&layers(*present, embedded), *target), rows),
+            Call::Import {
+                reading,
+                bytes,
+                target,
+                rows,
+                ..
+            } => {
+                let reading = reading_of(*reading).ok()?;
+                (plain::closure_of_loop(reading, bytes, *target), rows)
+            }
+            _ => return None,
+        };
+        let closure = closure.ok()?;
+        let is_time = |times: &[u64]| times.iter().all(|&time| time < 1 << 33);
+        let in_range = is_time(&rows.decodings) && is_time(&rows.matches);
+        if !in_range || rows.indices.iter().any(|&index| index > 63) {
+            return None;
+        }
+        let outside: Vec<u8> = (0..64).filter(|index| closure >> index & 1 == 0).collect();
+        let mut changed = false;
+        for row in 0..rows.indices.len() {
+            if closure >> rows.indices[row] & 1 == 0 {
+                changed = true;
+                rows.indices[row] = random.pick(&outside);
+                for column in [&mut rows.decodings, &mut rows.matches] {
+                    if let Some(time) = column.get_mut(row) {
+                        *time = random.next() % (1 << 33);
+                    }
+                }
+            }
+        }
+        changed.then_some(other)
+    }
+
+    /// The rows that it is over, if it joins any.
+    pub fn take_rows(&mut self, from: &Call) {
+        if let (
+            Call::Join { rows, .. } | Call::JoinLong { rows, .. } | Call::Import { rows, .. },
+            Call::Join { rows: others, .. }
+            | Call::JoinLong { rows: others, .. }
+            | Call::Import { rows: others, .. },
+        ) = (self, from)
+        {
+            rows.clone_from(others);
+        }
     }
 
     /// Makes the call to the library. An error where it has written beside a buffer.
