@@ -17,6 +17,7 @@
 #ifndef THOQUENRY_H
 #define THOQUENRY_H
 
+#include <stdbool.h>
 #include <stddef.h>
 #include <stdint.h>
 
@@ -69,13 +70,13 @@ enum thq_refusal {
     THQ_REFUSED_NO_SUCH_LAYER = 11,
     /* layer index {} is in the closure, and its layer is not in the loop */
     THQ_REFUSED_EMBEDDED_LAYER_ABSENT = 12,
-    /* row {} is out of range; or, at row 0, the row columns are of unequal length or there are more than 512 rows */
+    /* row {} is out of range; or, at row 0, the row columns are of unequal length or there are more than 512 rows, or than the work space has places */
     THQ_REFUSED_OUT_OF_RANGE = 13,
     /* row {} breaks the time order in its layer, which is in the closure */
     THQ_REFUSED_TIME_ORDER_BROKEN = 14,
-    /* row {} of the target layer has no assembly */
+    /* row {}, the head of a unit, has no assembly */
     THQ_REFUSED_UNPAIRED = 15,
-    /* row {} of the target layer would put a row into a second unit */
+    /* row {}, the head of a unit, would share a row with a head before it */
     THQ_REFUSED_USED_TWICE = 16,
     /* the output room is too small */
     THQ_REFUSED_NO_ROOM = 17,
@@ -216,24 +217,40 @@ uint64_t thq_write_times(uint64_t pts, uint64_t decoding, uint64_t match, uint64
  * `embedded` is the set of the indices that this layer names (a number that is not there is the empty set; those of `i` and above count
  * for nothing). Row k of the table is what stands at place k of `indices`, `decodings` and `matches`.
  *
- * `summary` receives three numbers: the set of the closure's layer indices, the number of units, and the number of closure rows in no
- * unit. `numbers` receives the row numbers of the units, in target row order, each in rising layer index; `lags` a lag beside each.
- * Counts the places written to each of the two.
- * Refusals: 11, 12; then 13 to 16; then 17 where one of the three lists is too short.
+ * A row of a layer that the target rests on is claimed if a row of such a layer that names its layer has a match time equal to its decoding
+ * time. Every such row that is not claimed heads a unit. `numbers` receives the row numbers of the units, each in rising layer index; `lags` a
+ * lag beside each, against the head; `sizes` the number of rows of each unit. The units come in order of the signed 33-bit distance of the
+ * head's decoding time from that of the first row of such a layer, then by lower layer of the head, then by row. Each row of such a layer
+ * stands in exactly one unit. `summary` receives two numbers: the set of the layer indices that the target rests on, and the number of units.
+ * Counts the rows of such layers, which is how many places of `numbers` and of `lags` are written; of `sizes` there is one for each unit.
+ * Refusals: 11, 12; then 13, at place 0 for more than 512 rows; then 14 to 16, and 18; then 17 where one of `numbers`, `lags` and `sizes` has
+ * fewer places than there are rows of such layers, or `summary` fewer than two.
  */
 uint64_t thq_join(uint64_t present, const uint64_t *embedded, size_t embedded_length, uint64_t target, const uint8_t *indices,
                   size_t indices_length, const uint64_t *decodings, size_t decodings_length, const uint64_t *matches,
                   size_t matches_length, uint64_t *numbers, size_t numbers_length, int64_t *lags, size_t lags_length,
-                  uint64_t *summary, size_t summary_length);
+                  uint64_t *sizes, size_t sizes_length, uint64_t *summary, size_t summary_length);
+
+/*
+ * Joins rows to units as thq_join does, of tables of any length: the caller lends work space. Each of `order`, `keys`, `kept`, `places`, `heads`,
+ * `claimed` and `used` needs a place for every row of the table, and 13 is given at place 0 for more rows than the shortest of them has. What
+ * they hold before is not looked at (a `bool` is 0 or 1), and what they hold after says nothing.
+ */
+uint64_t thq_join_long(uint64_t present, const uint64_t *embedded, size_t embedded_length, uint64_t target, const uint8_t *indices,
+                       size_t indices_length, const uint64_t *decodings, size_t decodings_length, const uint64_t *matches,
+                       size_t matches_length, size_t *order, size_t order_length, uint64_t *keys, size_t keys_length, size_t *kept,
+                       size_t kept_length, size_t *places, size_t places_length, size_t *heads, size_t heads_length, bool *claimed,
+                       size_t claimed_length, bool *used, size_t used_length, uint64_t *numbers, size_t numbers_length, int64_t *lags,
+                       size_t lags_length, uint64_t *sizes, size_t sizes_length, uint64_t *summary, size_t summary_length);
 
 /*
  * The whole import: the layers of a loop's bytes, and the rows joined over them. The lists are as in thq_join.
- * Refusals: 1 to 9, 11, 12; then 13 to 16; then 17 where one of the three lists is too short.
+ * Refusals: 1 to 9; then as thq_join.
  */
 uint64_t thq_import(uint64_t reading, const uint8_t *bytes, size_t bytes_length, uint64_t target, const uint8_t *indices,
                     size_t indices_length, const uint64_t *decodings, size_t decodings_length, const uint64_t *matches,
                     size_t matches_length, uint64_t *numbers, size_t numbers_length, int64_t *lags, size_t lags_length,
-                    uint64_t *summary, size_t summary_length);
+                    uint64_t *sizes, size_t sizes_length, uint64_t *summary, size_t summary_length);
 
 #ifdef __cplusplus
 }

@@ -54,7 +54,7 @@ def kind_of(text, kinds, where):
 
 def c_functions(text):
     """Name to (result, parameters), each parameter (name, kind), of a header's prototypes."""
-    kinds = {"uint8_t": "u8", "uint16_t": "u16", "uint64_t": "u64", "int64_t": "i64", "size_t": "usize"}
+    kinds = {"bool": "bool", "uint8_t": "u8", "uint16_t": "u16", "uint64_t": "u64", "int64_t": "i64", "size_t": "usize"}
     text = re.sub(r"/\*.*?\*/", "", text, flags=re.S)
     text = re.sub(r"^#.*$", "", text, flags=re.M)
     functions = {}
@@ -73,7 +73,7 @@ def c_functions(text):
 
 def rust_functions(text):
     """The same of the functions in Rust's `extern "C"` block."""
-    plain = ["u8", "u16", "u64", "i64", "usize"]
+    plain = ["bool", "u8", "u16", "u64", "i64", "usize"]
     kinds = {kind: kind for kind in plain + [f"*{way} {kind}" for way in ("const", "mut") for kind in plain]}
     text = re.sub(r"//.*", "", text)
     functions = {}
@@ -88,7 +88,7 @@ def rust_functions(text):
 
 def python_functions(text):
     """The same of the table DECLARATIONS; a pointer is '* u8'."""
-    kinds = {"c_uint8": "u8", "c_uint16": "u16", "c_uint64": "u64", "c_int64": "i64", "c_size_t": "usize", "c_char_p": "* u8"}
+    kinds = {"c_bool": "bool", "c_uint8": "u8", "c_uint16": "u16", "c_uint64": "u64", "c_int64": "i64", "c_size_t": "usize", "c_char_p": "* u8"}
 
     def kind(node):
         if isinstance(node, ast.Call) and node.func.id == "POINTER":
@@ -111,7 +111,7 @@ def python_functions(text):
 
 def rattle_functions(text):
     """The same of the functions that the source exports; a slice is a pointer and a length."""
-    plain = {kind: kind for kind in ("u8", "u16", "u64", "i64", "usize")}
+    plain = {kind: kind for kind in ("bool", "u8", "u16", "u64", "i64", "usize")}
     text = re.sub(r"//.*", "", text)
     exported = re.findall(r'#\[no_mangle\]\s*pub extern "C" fn (\w+)\s*\(([^()]*)\)\s*->\s*(\w+)', text)
     if len(exported) != len(re.findall(r'extern "C"', text)):

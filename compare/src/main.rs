@@ -19,6 +19,7 @@ mod tables;
 use calls::CALLS;
 use loops::Quality;
 use memory::{Memory, Placing};
+use random::Random;
 use std::process::ExitCode;
 
 const SEED: u64 = 1;
@@ -27,12 +28,16 @@ const COUNT: u64 = 140_000;
 /// The calls that read or write a loop.
 const CALLS_OF_LOOPS: [&str; 4] = ["read_loop", "write_loop", "closure", "import"];
 
+/// The calls that join rows.
+const CALLS_OF_ROWS: [&str; 3] = ["join", "join_long", "import"];
+
 /// What has been seen: for each call how often each number was answered, how its inputs were made, and in how many accepted loops there were
-/// two views without a hierarchy descriptor.
+/// two views without a hierarchy descriptor; and how often a table was joined again with other rows of other layers.
 struct Seen {
     numbers: [[u64; 256]; CALLS.len()],
     qualities: [[u64; Quality::NAMES.len()]; CALLS.len()],
     implied: [u64; CALLS.len()],
+    pairs: [u64; CALLS.len()],
 }
 
 fn main() -> ExitCode {
@@ -78,6 +83,7 @@ fn run(seed: u64, count: u64, guarded: bool) -> Result<Seen, String> {
         numbers: [[0; 256]; CALLS.len()],
         qualities: [[0; Quality::NAMES.len()]; CALLS.len()],
         implied: [0; CALLS.len()],
+        pairs: [0; CALLS.len()],
     };
     for number in 0..count {
         faults::note(seed, number);
@@ -107,6 +113,21 @@ fn run(seed: u64, count: u64, guarded: bool) -> Result<Seen, String> {
                 }
             }
             return Err(text);
+        }
+        // Rows of layers on which the target doesn't rest move nothing.
+        let mut random = Random::new(seed ^ 0x5EED, number);
+        if let Some(mut other) = call.with_other_rows(&mut random) {
+            let alike = other.library(&mut memory, placing);
+            let mut left = other.clone();
+            left.take_rows(&library);
+            if alike != Ok(expected) || left != library {
+                let mut text =
+                    format!("compare: OTHER ROWS MATTER at seed {seed}, case {number}: ");
+                text += &show::call(&call);
+                text += &show::call(&other);
+                return Err(text);
+            }
+            seen.pairs[call.kind()] += 1;
         }
         seen.numbers[call.kind()][calls::number(expected) as usize] += 1;
         seen.qualities[call.kind()][quality as usize] += 1;
@@ -161,6 +182,15 @@ fn summary(seed: u64, count: u64, seen: &Seen) -> ExitCode {
         false => String::new(),
     };
     line("two views", (0..CALLS.len()).map(cell).collect());
+    let joins = |call: usize| CALLS_OF_ROWS.contains(&CALLS[call].0);
+    let cell = |call: usize| match joins(call) {
+        true => seen.pairs[call].to_string(),
+        false => String::new(),
+    };
+    line("other rows", (0..CALLS.len()).map(cell).collect());
+    for call in (0..CALLS.len()).filter(|&call| joins(call) && seen.pairs[call] == 0) {
+        never.push(format!("{} never met other rows", CALLS[call].0));
+    }
     for call in (0..CALLS.len()).filter(|&call| of_loops(call) && seen.implied[call] == 0) {
         never.push(format!("{} never met two views", CALLS[call].0));
     }

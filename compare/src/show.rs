@@ -86,6 +86,23 @@ pub fn parts(call: &Call) -> Vec<(&'static str, String)> {
             parts.extend(joining(rows, lists));
             parts
         }
+        Call::JoinLong {
+            present,
+            embedded,
+            target,
+            rows,
+            work,
+            lists,
+        } => {
+            let mut parts = vec![
+                ("present", present.to_string()),
+                ("embedded", numbers(embedded)),
+                ("target", target.to_string()),
+                ("work space", numbers(work)),
+            ];
+            parts.extend(joining(rows, lists));
+            parts
+        }
         Call::Import {
             reading,
             bytes,
@@ -104,13 +121,14 @@ pub fn parts(call: &Call) -> Vec<(&'static str, String)> {
     }
 }
 
-fn joining(rows: &Columns, lists: &Lists) -> [(&'static str, String); 6] {
+fn joining(rows: &Columns, lists: &Lists) -> [(&'static str, String); 7] {
     [
         ("indices", numbers(&rows.indices)),
         ("decodings", numbers(&rows.decodings)),
         ("matches", numbers(&rows.matches)),
         ("numbers", numbers(&lists.numbers)),
         ("lags", numbers(&lists.lags)),
+        ("sizes", numbers(&lists.sizes)),
         ("summary", numbers(&lists.summary)),
     ]
 }

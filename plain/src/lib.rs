@@ -15,7 +15,7 @@ mod times;
 
 pub use closure::{closure, closure_of_loop, layers_of, layers_of_loop, Layers};
 pub use entries::{Embedded, Entry, Extension, Hierarchy, Record};
-pub use join::{import, join, join_by_search, Columns, Rows, Units};
+pub use join::{import, join, join_by_search, join_long, Columns, Lists, Rows, Units, MOST_ROWS};
 pub use loops::{read_loop, read_loop_with, write_loop, LONGEST_LOOP};
 pub use times::{distance, lag, read_times, write_times, Header, Times};
 

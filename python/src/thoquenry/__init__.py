@@ -8,7 +8,7 @@ this module stands in; or else the one that is installed. It is for x86-64 Linux
 """
 
 from array import array
-from ctypes import c_int64, c_uint8, c_uint16, c_uint64
+from ctypes import c_bool, c_int64, c_size_t, c_uint8, c_uint16, c_uint64
 from dataclasses import dataclass, field
 from enum import IntEnum
 from itertools import chain, islice
@@ -21,7 +21,7 @@ from ._refusals import Number, Refused
 
 __all__ = [
     "Component", "Entry", "Extension", "Header", "Hierarchy", "Implied", "Number", "Reading", "Refused", "Row", "Times", "Units",
-    "closure", "import_", "join", "read_loop", "read_times", "write_loop", "write_times",
+    "closure", "import_", "join", "join_long", "read_loop", "read_times", "write_loop", "write_times",
 ]
 __version__ = "0.4.0"
 
@@ -147,12 +147,11 @@ class Component:
 
 @dataclass(frozen=True)
 class Units:
-    """The rows of a table joined. The units come in target row order, each with one component for each layer of the closure, in rising
-    layer index; `left_out` counts the rows of closure layers in no unit."""
+    """The rows of a table joined. The units come in order of time, each with one component for each layer that its head rests on, in rising layer
+    index, so that the head comes last. Each row of a layer of the closure stands in exactly one."""
 
     closure: Tuple[int, ...]
     units: List[List[Component]] = field(default_factory=list)
-    left_out: int = 0
 
 
 def _number(value: int, bits: int) -> int:
@@ -300,31 +299,42 @@ def write_times(times: Times, with_tref: bool) -> bytes:
 
 
 def join(layers: Mapping[int, Iterable[int]], target: int, rows: Iterable[Row]) -> Units:
-    """Joins rows to units, over layers that the caller gives: for each layer index the indices that this layer names. Refusals: 11, 12;
-    then 13 to 16."""
-    embedded = _column("Q", c_uint64, [_set(layers.get(layer, ())) for layer in range(64)])
-    return _joined(_LIBRARY.thq_join, (_set(layers), *embedded, _number(target, 64)), rows)
+    """Joins rows to units, over layers that the caller gives: for each layer index the indices that this layer names. Every row of a layer that the
+    target rests on, and that no other row claims, heads a unit. Refusals: 11, 12; then 13, also for more than 512 rows; then 14 to 16, 18."""
+    return _joined(_LIBRARY.thq_join, (*_layers(layers), _number(target, 64)), list(islice(rows, _ROWS + 1)))
+
+
+def join_long(layers: Mapping[int, Iterable[int]], target: int, rows: Iterable[Row]) -> Units:
+    """Joins rows to units as `join` does, of a table of any length. Refusals: 11, 12; then 13 to 16, 18."""
+    table = list(rows)
+    kinds = (c_size_t, c_uint64, c_size_t, c_size_t, c_size_t, c_bool, c_bool)
+    work = [part for kind in kinds for part in _room(kind, len(table))]
+    return _joined(_LIBRARY.thq_join_long, (*_layers(layers), _number(target, 64)), table, work)
+
+
+def _layers(layers: Mapping[int, Iterable[int]]):
+    """The set of the layers, and what each names."""
+    return _set(layers), *_column("Q", c_uint64, [_set(layers.get(layer, ())) for layer in range(64)])
 
 
 def import_(reading: Reading, loop: bytes, target: int, rows: Iterable[Row]) -> Units:
-    """The whole import: the layers of a loop's bytes, and the rows joined over them. Refusals: 1 to 9, 11, 12; then 13 to 16."""
-    return _joined(_LIBRARY.thq_import, (_year(reading), *_loop(loop), _number(target, 64)), rows)
+    """The whole import: the layers of a loop's bytes, and the rows joined over them. Refusals: 1 to 9; then those of `join`."""
+    return _joined(_LIBRARY.thq_import, (_year(reading), *_loop(loop), _number(target, 64)), list(islice(rows, _ROWS + 1)))
 
 
-def _joined(function, first: tuple, rows: Iterable[Row]) -> Units:
-    """The units that a function of the library answers for what comes first among its parameters, and for these rows. A table that is too long
-    is refused for its length, so one row more than the most is enough to know."""
-    table = list(islice(rows, _ROWS + 1))
+def _joined(function, first: tuple, table: List[Row], work: Iterable = ()) -> Units:
+    """The units that a function of the library answers for what comes first among its parameters, for these rows, and with this work space. (A table that
+    is too long is refused for its length, so one row more than the most is enough to know.)"""
     columns = (
         *_column("B", c_uint8, [row.layer_index for row in table]),
         *_column("Q", c_uint64, [row.decoding for row in table]),
         *_column("Q", c_uint64, [row.matching for row in table]),
     )
-    numbers, room = _room(c_uint64, min(len(table), _ROWS))
+    numbers, room = _room(c_uint64, len(table))
     lags, _ = _room(c_int64, room)
-    summary, summary_room = _room(c_uint64, 3)
-    count = _accepted(function(*first, *columns, numbers, room, lags, room, summary, summary_room))
-    members = _indices(summary[0])
-    components = [Component(row, lag) for row, lag in zip(numbers[:count], lags[:count])]
-    units = [components[k:k + len(members)] for k in range(0, count, len(members))]
-    return Units(members, units, summary[2])
+    sizes, _ = _room(c_uint64, room)
+    summary, summary_room = _room(c_uint64, 2)
+    count = _accepted(function(*first, *columns, *work, numbers, room, lags, room, sizes, room, summary, summary_room))
+    members, units = summary
+    components = (Component(row, lag) for row, lag in zip(numbers[:count], lags[:count]))
+    return Units(_indices(members), [list(islice(components, size)) for size in sizes[:units]])

@@ -1,7 +1,7 @@
 """Finds and loads libthoquenry, and declares its functions."""
 
 import os
-from ctypes import CDLL, POINTER, c_char_p, c_int64, c_size_t, c_uint8, c_uint16, c_uint64
+from ctypes import CDLL, POINTER, c_bool, c_char_p, c_int64, c_size_t, c_uint8, c_uint16, c_uint64
 from pathlib import Path
 
 # The functions of include/thoquenry.h: for each its result and its parameters. Bytes that are only read are c_char_p, which takes a bytes object
@@ -40,6 +40,26 @@ DECLARATIONS = {
         ("matches", POINTER(c_uint64)), ("matches_length", c_size_t),
         ("numbers", POINTER(c_uint64)), ("numbers_length", c_size_t),
         ("lags", POINTER(c_int64)), ("lags_length", c_size_t),
+        ("sizes", POINTER(c_uint64)), ("sizes_length", c_size_t),
+        ("summary", POINTER(c_uint64)), ("summary_length", c_size_t),
+    ]),
+    "thq_join_long": (c_uint64, [
+        ("present", c_uint64),
+        ("embedded", POINTER(c_uint64)), ("embedded_length", c_size_t),
+        ("target", c_uint64),
+        ("indices", POINTER(c_uint8)), ("indices_length", c_size_t),
+        ("decodings", POINTER(c_uint64)), ("decodings_length", c_size_t),
+        ("matches", POINTER(c_uint64)), ("matches_length", c_size_t),
+        ("order", POINTER(c_size_t)), ("order_length", c_size_t),
+        ("keys", POINTER(c_uint64)), ("keys_length", c_size_t),
+        ("kept", POINTER(c_size_t)), ("kept_length", c_size_t),
+        ("places", POINTER(c_size_t)), ("places_length", c_size_t),
+        ("heads", POINTER(c_size_t)), ("heads_length", c_size_t),
+        ("claimed", POINTER(c_bool)), ("claimed_length", c_size_t),
+        ("used", POINTER(c_bool)), ("used_length", c_size_t),
+        ("numbers", POINTER(c_uint64)), ("numbers_length", c_size_t),
+        ("lags", POINTER(c_int64)), ("lags_length", c_size_t),
+        ("sizes", POINTER(c_uint64)), ("sizes_length", c_size_t),
         ("summary", POINTER(c_uint64)), ("summary_length", c_size_t),
     ]),
     "thq_import": (c_uint64, [
@@ -51,6 +71,7 @@ DECLARATIONS = {
         ("matches", POINTER(c_uint64)), ("matches_length", c_size_t),
         ("numbers", POINTER(c_uint64)), ("numbers_length", c_size_t),
         ("lags", POINTER(c_int64)), ("lags_length", c_size_t),
+        ("sizes", POINTER(c_uint64)), ("sizes_length", c_size_t),
         ("summary", POINTER(c_uint64)), ("summary_length", c_size_t),
     ]),
 }

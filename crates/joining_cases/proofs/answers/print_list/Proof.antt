@@ -1,10 +1,10 @@
--- `joining_cases::print_numbers` is safe and ends: the place stays within the list, and what is left of it falls.
+-- `joining_cases::print_list` is safe and ends: the place stays within the list, and what is left of it falls.
 -- Assumes nothing.
 use Prim.Native.Nat.{_≤_, _-_}
 use lib.ListN.{length}
 use borrow.Author.Needs.{needs}
-use Rattle.joining_cases.proofs.answers.print_numbers.Statement.{statement}
-use Rattle.joining_cases.proofs.answers.print_numbers.Tie as tie
+use Rattle.joining_cases.proofs.answers.print_list.Statement.{statement}
+use Rattle.joining_cases.proofs.answers.print_list.Tie as tie
 
 abbrev Inv-loop : tie.InvT-loop
 Inv-loop numbers i₀ i = i ≤ length numbers
@@ -42,8 +42,8 @@ loop-again c = search needs
 returns : tie.Need-returns Inv-loop μ-loop
 returns c = search needs
 
-pub print-numbers-spec : {M : Type 1} → statement M
-print-numbers-spec =
+pub print-list-spec : {M : Type 1} → statement M
+print-list-spec =
     tie.close
     (tie.spec
     Inv-loop
