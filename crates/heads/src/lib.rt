@@ -149,9 +149,6 @@ pub fn judge(
         × (length (now indices) ≤ length (now places)) ⌝ }
     ensures { λ r. ⌜ Judges (table (now (indices .entry)) (now (decodings .entry)) (now (matches .entry)))
         (frame closure (now (claimed .entry)) (now (own .entry)) (now (edges .entry))) r (now (kept .exit)) (now (places .exit)) ⌝ }
-    ensures room { λ _. ⌜ (length (now (used .exit)) ≡ length (now (used .entry)))
-        × (length (now (kept .exit)) ≡ length (now (kept .entry)))
-        × (length (now (places .exit)) ≡ length (now (places .entry))) ⌝ }
 {
     let none = indices.len();
     claims::clear(used, none);

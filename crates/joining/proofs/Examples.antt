@@ -10,10 +10,10 @@ use Rattle.closure.specs.declared.Layers.{Layers}
 use Rattle.vocabulary.specs.declared.refusal.Refusal.the-variants.{OutOfRange, TimeOrderBroken, Unpaired, UsedTwice, SpanTooWide, NoRoom, NoSuchLayer}
 use Rattle.rows.specs.Table.{Table, table, mostRows}
 use Rattle.assembling.specs.Assemblies.{edgesOf, membersOf}
-use Rattle.unit_lists.specs.Sequence.{headsByLayer}
+use Rattle.unit_lists.specs.Sequence.{headsByLayer, Lists, lists}
 use Rattle.joining.specs.declared.answer.Joined.{Joined}
 use Rattle.joining.specs.declared.answer.Joined.the-variants.{Units, Refused}
-use Rattle.joining.specs.Joining.{joinedOf, Lists, lists, listsAfter}
+use Rattle.joining.specs.Joining.{joinedOf, listsAfter}
 use Rattle.joining.specs.Meaning.{Answers}
 use Rattle.joining.proofs.Meant.{joined-meant}
 

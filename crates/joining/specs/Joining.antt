@@ -1,6 +1,6 @@
 -- THE ANSWER of joining: the units of all heads, or the refusal, 11 to 18, with its place; and what the three lists then hold.
 -- Assumes nothing.
-use Prim.Native.Nat.{ℕ, zero, suc}
+use Prim.Native.Nat.{ℕ, zero, suc, min}
 use mathlib.Core.Bool.{Bool, cond, _||_}
 use mathlib.Core.List.{List, [], _∷_, _++_}
 use lib.Dec.{ltb}
@@ -20,7 +20,7 @@ use Rattle.assembling.specs.Assemblies.{edgesOf}
 use Rattle.claims.specs.Claims.{claimed}
 use Rattle.spans.specs.Spans.{isClosureRow, wideSpan}
 use Rattle.heads.specs.Units.{Frame, frame, firstUnpaired, firstShared, unitsIn}
-pub use Rattle.unit_lists.specs.Sequence.{Lists, lists, listsOver}
+use Rattle.unit_lists.specs.Sequence.{Lists, listsOver}
 use Rattle.joining.specs.declared.answer.Joined.{Joined}
 use Rattle.joining.specs.declared.answer.Joined.the-variants.{Units, Refused}
 
@@ -77,7 +77,7 @@ joinedIn most layers t room (NoClosure refusal) = Refused refusal
 abbrev pub joinedOf : ℕ → Layers → ℕ → Table → Room → Joined
 joinedOf most layers target t room = joinedIn most layers t room (closureOf layers target)
 
--- what room the three lists have
+-- the room of the three lists of an answer
 abbrev pub roomOf : Lists → Room
 roomOf before = record { numbers = length (before .numbers); lags = length (before .lags); sizes = length (before .sizes) }
 
@@ -85,3 +85,11 @@ roomOf before = record { numbers = length (before .numbers); lags = length (befo
 abbrev pub listsAfter : Layers → Table → Joined → Lists → Lists
 listsAfter layers t (Units closure units rows) before = listsOver t (frameOf layers closure t) before
 listsAfter layers t (Refused refusal) before = before
+
+-- How many rows a table may have where a caller lends the work space: as many as the shortest of its lists has places, and no more than can be told as a place.
+abbrev pub longestTable : ℕ
+longestTable = 281474976710656
+
+abbrev pub mostLong : List ℕ → ℕ
+mostLong [] = longestTable
+mostLong (places ∷ others) = min places (mostLong others)

@@ -20,9 +20,10 @@ use Rattle.rows.specs.Meaning.{FirstRow, NoRow, WrongShape, RowOutOfRange, Brea
 use Rattle.spans.specs.Meaning.{ClosureRow, SpansTooFar}
 use Rattle.heads.specs.Meaning.{NoAssembly, SharesRow}
 use Rattle.unit_lists.specs.Meaning.{HeadsInOrder, UnitsOf}
+use Rattle.unit_lists.specs.Sequence.{Lists, lists}
 use Rattle.joining.specs.declared.answer.Joined.{Joined}
 use Rattle.joining.specs.declared.answer.Joined.the-variants.{Units, Refused}
-use Rattle.joining.specs.Joining.{Room, Lists, lists, roomOf}
+use Rattle.joining.specs.Joining.{Room, roomOf}
 
 -- 17: 'output room too small', where 'each output list, the sizes too, needs one place per closure row'
 pub data TooSmall (rows : ℕ) (room : Room) : Type 0 where

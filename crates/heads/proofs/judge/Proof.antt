@@ -48,6 +48,10 @@ head c = head-tested (tableAt c) (frameAt c) (c .before .before .before .before 
 layer-below : (c : tie.Then1 Inv-loop μ-loop) → layerOf (tableAt c) (c .before .before .before .before .before .loop .row) < 64
 layer-below c = head-layer (tableAt c) (frameAt c) (c .before .before .before .before .before .loop .row) (c .before .before .before .before .before .before .before .before .before .before .before .before .before .before .before .before .before .before .before .fits .closure .fits) (head c)
 
+-- no more units than rows so far
+few : (c : tie.Then1 Inv-loop μ-loop) → c .before .before .before .before .before .loop .units ≤ c .before .before .before .before .before .loop .row
+few c = omega (arith, c .before .before .before .before .before .loop .inv .0 .counted, count-short (isHead (tableAt c) (frameAt c)) (c .before .before .before .before .before .loop .row))
+
 -- where it has an assembly
 complete : (c : tie.Else2 Inv-loop μ-loop) → assemblyOf (tableAt (c .before .before .before .before)) (frameAt (c .before .before .before .before)) (c .before .before .before .before .before .before .before .before .before .loop .row) .complete ≡ true
 complete c = sym (c .before .assemble .ensures .0) ∙ not-false _ (c .if2 .left)
@@ -67,7 +71,7 @@ asked c =
 -- ---- the needs
 
 clear-requires : tie.Need-clear-requires Inv-loop μ-loop
-clear-requires c κs = c .before .before .before .before .before .before .before .before .before .before .pre .3
+clear-requires c κs = omega (arith, c .before .before .before .before .before .before .before .before .before .before .pre .3)
 
 loop-holds : tie.Need-loop-holds Inv-loop μ-loop
 loop-holds c =
@@ -99,11 +103,8 @@ same-length-3 c = c .before .before .before .before .before .before .before .bef
 
 returns : tie.Need-returns Inv-loop μ-loop
 returns c =
-    let loop = c .before .before .before .before .before .before .before .before .before .loop in (
-      stopped _ _ _ _ _ (c .before .before .before .before .before .before .before .before .loop-test .taken)
-          (no-assembly _ _ _ _ _ _ _ _ (loop .inv .0) (c .before .before .before .before .before .before .before .before .loop-test .taken) (head (c .before .before .before .before)) (sym (c .before .assemble .ensures .0) ∙ not-true _ (c .if2 .taken))),
-      (loop .inv .1 ∙ c .before .before .before .before .before .before .before .before .before .before .before .before .clear .ensures .as-long, loop .inv .2, loop .inv .3),
-    )
+    stopped _ _ _ _ _ (c .before .before .before .before .before .before .before .before .loop-test .taken)
+    (no-assembly _ _ _ _ _ _ _ _ (c .before .before .before .before .before .before .before .before .before .loop .inv .0) (c .before .before .before .before .before .before .before .before .loop-test .taken) (head (c .before .before .before .before)) (sym (c .before .assemble .ensures .0) ∙ not-true _ (c .if2 .taken)))
 
 mul-members : tie.Need-mul-members Inv-loop μ-loop
 mul-members c = omega (arith, layer-below (c .before .before .before .before))
@@ -136,12 +137,9 @@ same-length-6 c = c .before .before .before .before .before .before .before .bef
 
 returns-2 : tie.Need-returns-2 Inv-loop μ-loop
 returns-2 c =
-    let loop = c .before .before .before .before .before .before .before .before .before .before .before .before .before .before .before .loop in
-    let inside = c .before .before .before .before .before .before .before .before .before .before .before .before .before .before .loop-test .taken in (
-      stopped-sharing _ _ _ _ _ (c .first-unpaired .ensures) inside
-          (is-shared _ _ _ _ _ _ _ _ (loop .inv .0) inside (head (c .before .before .before .before .before .before .before .before .before .before)) (c .before .before .before .before .before .before .before .before .before .before .before .before .before .before .before .before .before .before .before .before .before .before .before .before .before .before .before .before .before .pre .1) (complete (c .before .before .before .before .before .before)) (sym (c .before .if3 .taken) ∙ asked (c .before .before))),
-      (loop .inv .1 ∙ c .before .before .before .before .before .before .before .before .before .before .before .before .before .before .before .before .before .before .clear .ensures .as-long, loop .inv .2, loop .inv .3),
-    )
+    let inside = c .before .before .before .before .before .before .before .before .before .before .before .before .before .before .loop-test .taken in
+    stopped-sharing _ _ _ _ _ (c .first-unpaired .ensures) inside
+    (is-shared _ _ _ _ _ _ _ _ (c .before .before .before .before .before .before .before .before .before .before .before .before .before .before .before .loop .inv .0) inside (head (c .before .before .before .before .before .before .before .before .before .before)) (c .before .before .before .before .before .before .before .before .before .before .before .before .before .before .before .before .before .before .before .before .before .before .before .before .before .before .before .before .before .pre .1) (complete (c .before .before .before .before .before .before)) (sym (c .before .if3 .taken) ∙ asked (c .before .before)))
 
 -- there is room for a unit that shares no row
 fits : (c : tie.Else3 Inv-loop μ-loop)
@@ -156,10 +154,10 @@ keep-requires c κs = (
 )
 
 mul-places : tie.Need-mul-places Inv-loop μ-loop
-mul-places c = omega (arith, c .before .before .before .before .before .before .before .before .before .before .before .before .before .before .before .before .before .before .before .before .before .loop-test .taken, c .before .before .before .before .before .before .before .before .before .before .before .before .before .before .before .before .before .before .before .before .before .before .before .before .before .before .before .before .before .before .before .before .before .before .before .before .good)
+mul-places c = omega (arith, c .before .before .before .before .before .before .before .before .before .before .before .before .before .before .before .before .before .before .before .before .before .loop-test .taken, few (c .before .before .before .before .before .before .before .before .before .before .before .before .before .before .before .before .before), c .before .before .before .before .before .before .before .before .before .before .before .before .before .before .before .before .before .before .before .before .before .before .before .before .before .before .before .before .before .before .before .before .before .before .before .before .good)
 
 slice-write-places : tie.Need-slice-write-places Inv-loop μ-loop
-slice-write-places c = omega (arith, c .before .before .before .before .before .before .before .before .before .before .before .before .before .before .before .before .before .before .before .before .before .loop-test .taken, c .before .before .before .before .before .before .before .before .before .before .before .before .before .before .before .before .before .before .before .before .before .before .loop .inv .0 .room-places)
+slice-write-places c = omega (arith, c .before .before .before .before .before .before .before .before .before .before .before .before .before .before .before .before .before .before .before .before .before .loop-test .taken, few (c .before .before .before .before .before .before .before .before .before .before .before .before .before .before .before .before .before), c .before .before .before .before .before .before .before .before .before .before .before .before .before .before .before .before .before .before .before .before .before .before .loop .inv .0 .room-places)
 
 size-requires : tie.Need-size-requires Inv-loop μ-loop
 size-requires c κs = search needs
@@ -169,7 +167,7 @@ add-place c = omega (arith, fits (c .before .before .before .before .before .bef
 
 add-units : tie.Need-add-units Inv-loop μ-loop
 add-units c =
-    omega (arith, c .before .before .before .before .before .before .before .before .before .before .before .before .before .before .before .before .before .before .before .before .before .before .before .loop .inv .0 .counted, count-short (isHead (tableAt (c .before .before .before .before .before .before .before .before .before .before .before .before .before .before .before .before .before .before)) (frameAt (c .before .before .before .before .before .before .before .before .before .before .before .before .before .before .before .before .before .before))) (c .before .before .before .before .before .before .before .before .before .before .before .before .before .before .before .before .before .before .before .before .before .before .before .loop .row), c .before .before .before .before .before .before .before .before .before .before .before .before .before .before .before .before .before .before .before .before .before .before .loop-test .taken, c .before .before .before .before .before .before .before .before .before .before .before .before .before .before .before .before .before .before .before .before .before .before .before .before .before .before .before .before .before .before .before .before .before .before .before .before .before .good)
+    omega (arith, few (c .before .before .before .before .before .before .before .before .before .before .before .before .before .before .before .before .before .before), c .before .before .before .before .before .before .before .before .before .before .before .before .before .before .before .before .before .before .before .before .before .before .loop-test .taken, c .before .before .before .before .before .before .before .before .before .before .before .before .before .before .before .before .before .before .before .before .before .before .before .before .before .before .before .before .before .before .before .before .before .before .before .before .before .good)
 
 add-row : tie.Need-add-row Inv-loop μ-loop
 add-row c = omega (arith, c .before .before .before .before .loop-test .taken)
@@ -222,10 +220,7 @@ same-length-9 : tie.Need-same-length-9 Inv-loop μ-loop
 same-length-9 c = c .before .loop .inv .3
 
 returns-3 : tie.Need-returns-3 Inv-loop μ-loop
-returns-3 c = (
-  walked-end _ _ _ _ _ (c .before .before .before .before .before .before .before .before .before .before .before .before .before .before .before .pre .1) _ _ _ (c .before .loop .inv .0) (c .loop-test .left) refl refl,
-  (c .before .loop .inv .1 ∙ c .before .before .before .before .clear .ensures .as-long, c .before .loop .inv .2, c .before .loop .inv .3),
-)
+returns-3 c = walked-end _ _ _ _ _ (c .before .before .before .before .before .before .before .before .before .before .before .before .before .before .before .pre .1) _ _ _ (c .before .loop .inv .0) (c .loop-test .left) refl refl
 
 pub judge-spec : {M : Type 1} → statement M
 judge-spec =
