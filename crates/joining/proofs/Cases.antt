@@ -51,56 +51,48 @@ module _ (room : Room) (rows : ℕ) where
 -- ---- 15, 16, 18, 17 and the units
 
 module _ (t : Table) (f : Frame) (room : Room) where
-  abbrev units : Joined
-  units = Units (f .closure) (unitsIn t f) (closureRows t (f .closure))
-
-  -- what is left of the definition past each test
-  abbrev pastSpan : Joined
-  pastSpan = cond (tooSmall room (closureRows t (f .closure))) (Refused NoRoom) units
-
-  abbrev pastShared : Joined
-  pastShared = cond (wideSpan t (f .closure)) (Refused SpanTooWide) pastSpan
-
-  abbrev pastUnpaired : Joined
-  pastUnpaired = cond (ltb (firstShared t f) (rowsIn t)) (Refused (UsedTwice (firstShared t f))) pastShared
-
   pub is-unpaired : (k : ℕ) → k ≡ firstUnpaired t f → k < rowsIn t → Refused (Unpaired k) ≡ unitsJoined t f room
   is-unpaired k e h =
       ap (λ (k : ℕ). Refused (Unpaired k)) e
-      ∙ taken (Refused (Unpaired (firstUnpaired t f))) pastUnpaired (ltb (firstUnpaired t f) (rowsIn t))
+      ∙ taken (Refused (Unpaired (firstUnpaired t f))) _ (ltb (firstUnpaired t f) (rowsIn t))
       (lt-ltb (firstUnpaired t f) (rowsIn t) (subst (λ (k : ℕ). k < rowsIn t) e h))
 
   module _ (paired : rowsIn t ≤ firstUnpaired t f) where
-    after-unpaired : pastUnpaired ≡ unitsJoined t f room
-    after-unpaired =
-        passed (Refused (Unpaired (firstUnpaired t f))) pastUnpaired (ltb (firstUnpaired t f) (rowsIn t)) (le-ltb (firstUnpaired t f) (rowsIn t) paired)
+    -- past 15
+    past-unpaired : (x y : Joined) → y ≡ cond (ltb (firstUnpaired t f) (rowsIn t)) x y
+    past-unpaired x y = passed x y (ltb (firstUnpaired t f) (rowsIn t)) (le-ltb (firstUnpaired t f) (rowsIn t) paired)
 
     pub is-shared : (k : ℕ) → k ≡ firstShared t f → k < rowsIn t → Refused (UsedTwice k) ≡ unitsJoined t f room
     is-shared k e h =
         ap (λ (k : ℕ). Refused (UsedTwice k)) e
-        ∙ taken (Refused (UsedTwice (firstShared t f))) pastShared (ltb (firstShared t f) (rowsIn t))
+        ∙ taken (Refused (UsedTwice (firstShared t f))) _ (ltb (firstShared t f) (rowsIn t))
         (lt-ltb (firstShared t f) (rowsIn t) (subst (λ (k : ℕ). k < rowsIn t) e h))
-        ∙ after-unpaired
+        ∙ past-unpaired _ _
 
     module _ (apart : rowsIn t ≤ firstShared t f) where
-      after-shared : pastShared ≡ unitsJoined t f room
-      after-shared =
-          passed (Refused (UsedTwice (firstShared t f))) pastShared (ltb (firstShared t f) (rowsIn t)) (le-ltb (firstShared t f) (rowsIn t) apart)
-          ∙ after-unpaired
+      -- past 16
+      past-shared : (x y : Joined) → y ≡ cond (ltb (firstShared t f) (rowsIn t)) x y
+      past-shared x y = passed x y (ltb (firstShared t f) (rowsIn t)) (le-ltb (firstShared t f) (rowsIn t) apart)
 
       pub is-wide : wideSpan t (f .closure) ≡ true → Refused SpanTooWide ≡ unitsJoined t f room
-      is-wide e = taken (Refused SpanTooWide) pastSpan (wideSpan t (f .closure)) e ∙ after-shared
+      is-wide e = taken (Refused SpanTooWide) _ (wideSpan t (f .closure)) e ∙ past-shared _ _ ∙ past-unpaired _ _
 
       module _ (narrow : wideSpan t (f .closure) ≡ false) where
-        after-span : pastSpan ≡ unitsJoined t f room
-        after-span = passed (Refused SpanTooWide) pastSpan (wideSpan t (f .closure)) narrow ∙ after-shared
+        -- past 18
+        past-span : (x y : Joined) → y ≡ cond (wideSpan t (f .closure)) x y
+        past-span x y = passed x y (wideSpan t (f .closure)) narrow
 
         pub is-no-room : tooSmall room (closureRows t (f .closure)) ≡ true → Refused NoRoom ≡ unitsJoined t f room
-        is-no-room e = taken (Refused NoRoom) units (tooSmall room (closureRows t (f .closure))) e ∙ after-span
+        is-no-room e =
+            taken (Refused NoRoom) _ (tooSmall room (closureRows t (f .closure))) e ∙ past-span _ _ ∙ past-shared _ _ ∙ past-unpaired _ _
 
         pub are-units : tooSmall room (closureRows t (f .closure)) ≡ false
             → Units (f .closure) (unitsIn t f) (closureRows t (f .closure)) ≡ unitsJoined t f room
-        are-units e = passed (Refused NoRoom) units (tooSmall room (closureRows t (f .closure))) e ∙ after-span
+        are-units e =
+            passed _ (Units (f .closure) (unitsIn t f) (closureRows t (f .closure))) (tooSmall room (closureRows t (f .closure))) e
+            ∙ past-span _ _
+            ∙ past-shared _ _
+            ∙ past-unpaired _ _
 
 -- ---- 13 and 14
 

@@ -1,11 +1,10 @@
 -- The content of an accepted answer both ways: the computed units, their order, their sizes, rows and lags are those that `Accepted` asks for (`accepted`), and no
 -- others are (`accepted-only`).
 -- Assumes nothing.
-use Prim.Native.Nat.{ℕ, zero, suc, _<_}
+use Prim.Native.Nat.{ℕ, _<_}
 use mathlib.Core.Bool.{true}
-use mathlib.Core.List.{List, [], _∷_, _++_, map}
-use mathlib.Core.Path.{_≡_, refl, sym, _∙_, ap, ap₂, subst}
-use native.Mathlib.Omega.{arith}
+use mathlib.Core.List.{List, map}
+use mathlib.Core.Path.{_≡_, refl, sym, _∙_, ap, subst}
 use lib.IntN.{ℤ}
 use lib.ListN.{length, getD}
 use Rattle.buffers.specs.Buffers.{over}
@@ -24,21 +23,14 @@ use Rattle.spans.specs.Meaning.{ClosureRow}
 use Rattle.spans.proofs.Meant.{row-counts, counts-row}
 use Rattle.heads.specs.Units.{Frame, isHead, assemblyOf, unitOf, lagsOf, unitsIn}
 use Rattle.heads.specs.Orderly.{Orderly, Framed}
-use Rattle.heads.specs.Meaning.{AssemblesOwn}
-use Rattle.heads.proofs.Meant.{head-meant, head-only, unit-meant, unit-only}
+use Rattle.heads.proofs.Meant.{head-meant, head-only}
 use Rattle.heads.proofs.Apart.{Differ}
-use Rattle.unit_lists.specs.Sequence.{headsInOrder, unitRows, unitLags, unitSizes, Lists, lists, listsOver}
-use Rattle.unit_lists.specs.Meaning.{ComesBefore, HeadsInOrder, UnitsOf, no-unit, next-unit}
+use Rattle.unit_lists.specs.Sequence.{headsInOrder, unitRows, unitLags, unitSizes}
+use Rattle.unit_lists.specs.Meaning.{ComesBefore, HeadsInOrder}
 use Rattle.unit_lists.proofs.Order.{never-itself}
-use Rattle.joining.specs.Joining.{closureRows, roomOf}
+use Rattle.unit_lists.proofs.Meant.{heads-in-order, heads-only, units-meant, units-only}
+use Rattle.joining.specs.Joining.{closureRows, Lists, lists, roomOf, listsOver}
 use Rattle.joining.specs.Meaning.{TooSmall, Accepted}
-
--- among the units of some heads is an assembly of each
-pub assembly-of : {layers : Layers} {t : Table} {heads sizes rows : List ℕ} {lags : List ℤ} → UnitsOf layers t heads sizes rows lags
-    → (i : ℕ) → i < length heads → (choice : ℕ → ℕ) × AssemblesOwn layers t (getD heads i 0) choice
-assembly-of no-unit i h = absurd (omega arith)
-assembly-of (next-unit u us) zero h = (u .choice, u .assembles)
-assembly-of (next-unit u us) (suc i) h = assembly-of us i (omega arith)
 
 module _ (layers : Layers) (target closure : ℕ) (t : Table) (orderly : Orderly layers target closure t) where
   -- ---- the closure rows of the table
@@ -78,35 +70,14 @@ module _ (layers : Layers) (target closure : ℕ) (t : Table) (orderly : Orderly
             let w = member-which k heads e in
             head-only layers target closure t orderly f framed k (subst (Head layers target t) (w .2) (o .each (w .0) (w .1)))
 
-    -- ---- the units of some heads: what is computed is right, and nothing else is
-
-    pub units-meant : ((k : ℕ) → Head layers target t k → assemblyOf t f k .complete ≡ true) → (heads : List ℕ)
-        → ((i : ℕ) → i < length heads → Head layers target t (getD heads i 0))
-        → UnitsOf layers t heads (map (λ head. length (unitOf t f head)) heads) (gather (unitOf t f) heads) (gather (lagsOf t f) heads)
-    units-meant complete [] each = no-unit
-    units-meant complete (head ∷ heads) each =
-        next-unit (unit-meant layers target closure t orderly f framed head (each 0 (omega arith)) (complete head (each 0 (omega arith))))
-        (units-meant complete heads (λ i h. each (suc i) (omega arith)))
-
-    pub units-only : {heads sizes rows : List ℕ} {lags : List ℤ} → ((i : ℕ) → i < length heads → Head layers target t (getD heads i 0))
-        → UnitsOf layers t heads sizes rows lags
-        → (sizes ≡ map (λ head. length (unitOf t f head)) heads) × (rows ≡ gather (unitOf t f) heads) × (lags ≡ gather (lagsOf t f) heads)
-    units-only each no-unit = (refl, refl, refl)
-    units-only each (next-unit {head = head} u us) =
-        let one = unit-only layers target closure t orderly f framed head (each 0 (omega arith)) u in
-        let more = units-only (λ i h. each (suc i) (omega arith)) us in (
-          ap₂ (λ (unit sizes : List ℕ). length unit ∷ sizes) (one .0) (more .0),
-          ap₂ (λ (a b : List ℕ). a ++ b) (one .0) (more .1),
-          ap₂ (λ (a b : List ℤ). a ++ b) (one .1) (more .2),
-        )
-
     -- ---- THE CONTENT
 
     module _ (before : Lists) where
-      pub accepted : HeadsInOrder layers target t (headsInOrder t f) → ((k : ℕ) → Head layers target t k → assemblyOf t f k .complete ≡ true)
+      pub accepted : ((k : ℕ) → Head layers target t k → assemblyOf t f k .complete ≡ true)
           → (TooSmall (closureRows t closure) (roomOf before) → ⊥)
           → Accepted layers target t before (unitsIn t f) (closureRows t closure) (listsOver t f before)
-      accepted o complete enough =
+      accepted complete enough =
+          let o = heads-in-order layers target closure t orderly f framed in
           record {
             heads = headsInOrder t f;
             in-order = o;
@@ -118,22 +89,31 @@ module _ (layers : Layers) (target closure : ℕ) (t : Table) (orderly : Orderly
             numbers = unitRows t f;
             lags = unitLags t f;
             sizes = unitSizes t f;
-            units-of-heads = units-meant complete (headsInOrder t f) (o .each);
+            units-of-heads = units-meant layers target closure t orderly f framed complete (headsInOrder t f) (o .each);
             lists-hold = refl;
           }
 
-      pub accepted-only : ((heads : List ℕ) → HeadsInOrder layers target t heads → heads ≡ headsInOrder t f) → {units rows : ℕ} {after : Lists}
-          → Accepted layers target t before units rows after → (units ≡ unitsIn t f) × (rows ≡ closureRows t closure) × (after ≡ listsOver t f before)
-      accepted-only one a =
-          let same = one (a .heads) (a .in-order) in
-          let content = units-only (a .in-order .each) (a .units-of-heads) in (
+      pub content-only : {units rows : ℕ} {after : Lists} → (a : Accepted layers target t before units rows after)
+          → (a .sizes ≡ unitSizes t f) × (a .numbers ≡ unitRows t f) × (a .lags ≡ unitLags t f)
+      content-only a =
+          let same = heads-only layers target closure t orderly f framed (a .heads) (a .in-order) in
+          let content = units-only layers target closure t orderly f framed (a .in-order .each) (a .units-of-heads) in (
+            content .0 ∙ ap (map (λ head. length (unitOf t f head))) same,
+            content .1 ∙ ap (gather (unitOf t f)) same,
+            content .2 ∙ ap (gather (lagsOf t f)) same,
+          )
+
+      pub accepted-only : {units rows : ℕ} {after : Lists} → Accepted layers target t before units rows after
+          → (units ≡ unitsIn t f) × (rows ≡ closureRows t closure) × (after ≡ listsOver t f before)
+      accepted-only a =
+          let content = content-only a in (
             a .number-of-units ∙ sym (units-counted (a .heads) (a .in-order)),
             a .number-of-rows ∙ closure-rows-only (a .closure-rows) (a .all-closure-rows),
             a .lists-hold
                 ∙ ap (λ (numbers : List ℕ). lists (over numbers (before .numbers)) (over (a .lags) (before .lags)) (over (a .sizes) (before .sizes)))
-                (content .1 ∙ ap (gather (unitOf t f)) same)
+                (content .1)
                 ∙ ap (λ (lags : List ℤ). lists (over (unitRows t f) (before .numbers)) (over lags (before .lags)) (over (a .sizes) (before .sizes)))
-                (content .2 ∙ ap (gather (lagsOf t f)) same)
+                (content .2)
                 ∙ ap (λ (sizes : List ℕ). lists (over (unitRows t f) (before .numbers)) (over (unitLags t f) (before .lags)) (over sizes (before .sizes)))
-                (content .0 ∙ ap (map (λ head. length (unitOf t f head))) same),
+                (content .0),
           )

@@ -33,15 +33,14 @@ use Rattle.heads.specs.Orderly.{Closed, Orderly, Framed}
 use Rattle.heads.specs.Meaning.{AssemblesOwn, NoAssembly, SharesRow}
 use Rattle.heads.proofs.Orderly.{closed, orderly-by, orderly-of}
 use Rattle.heads.proofs.Meant.{first-unpaired-meant, first-unpaired-only, none-unpaired-meant, none-unpaired-only, first-shared-meant, first-shared-only, none-shared-meant, none-shared-only, one-assembly}
-use Rattle.unit_lists.proofs.Meant.{heads-in-order, heads-only}
-use Rattle.unit_lists.specs.Sequence.{Lists}
+use Rattle.unit_lists.proofs.Meant.{assembly-of}
 use Rattle.joining.specs.declared.answer.Joined.{Joined}
 use Rattle.joining.specs.declared.answer.Joined.the-variants.{Units, Refused}
-use Rattle.joining.specs.Joining.{frameOf, closureRows, tooSmall, unitsJoined, tableJoined, joinedIn, joinedOf, roomOf, listsAfter}
+use Rattle.joining.specs.Joining.{frameOf, closureRows, tooSmall, unitsJoined, tableJoined, joinedIn, joinedOf, Lists, roomOf, listsAfter}
 use Rattle.joining.specs.Meaning.{TooSmall, Accepted, AnswersOver, wrong-shape, out-of-range, order-broken, no-assembly, in-two-units, too-far-apart, no-room, joined, Answers, no-closure, over-closure}
 use Rattle.joining.proofs.Framing.{framed}
 use Rattle.joining.proofs.Cases.{room-meant, room-only, is-unpaired, is-shared, is-wide, is-no-room, are-units, bad-shape, is-outside, is-broken, after-order}
-use Rattle.joining.proofs.Contents.{closure-rows-ascending, closure-rows-only, accepted, accepted-only, assembly-of}
+use Rattle.joining.proofs.Contents.{closure-rows-ascending, closure-rows-only, accepted, accepted-only}
 use Rattle.joining.proofs.Rooms.{each-complete}
 
 -- ---- THE TABLE OVER A CLOSURE
@@ -80,7 +79,7 @@ module _ (most : ℕ) (layers : Layers) (target closure : ℕ) (whole : Closed l
           subst RightOver (are-units t f (roomOf before) paired apart narrow e)
           (joined o (none-shared-meant layers target closure t ordered f over-frame paired apart)
           (λ s. true≢false (sym (span-only layers target closure (whole .whole) t s) ∙ narrow))
-          (accepted layers target closure t ordered f over-frame before (heads-in-order layers target closure t ordered f over-frame)
+          (accepted layers target closure t ordered f over-frame before
           (each-complete layers target closure t ordered f over-frame paired)
           (λ s. true≢false (sym (room-only (roomOf before) (closureRows t closure) s) ∙ e))))
 
@@ -148,7 +147,7 @@ module _ (most : ℕ) (layers : Layers) (target closure : ℕ) (whole : Closed l
       let ordered = orderly-of layers target closure whole most t o in
       let paired = none-unpaired-only layers target closure t ordered f over-frame has-assembly in
       let apart = none-shared-only layers target closure t ordered f over-frame paired s in
-      let one = accepted-only layers target closure t ordered f over-frame before (heads-only layers target closure t ordered f over-frame) a in
+      let one = accepted-only layers target closure t ordered f over-frame before a in
       record {
         is-answer = ap₂ (Units closure) (one .0) (one .1)
             ∙ are-units t f (roomOf before) paired apart (narrow-span n)

@@ -1,16 +1,16 @@
 -- The heads that are laid by an index of the rows are the heads of the table, layer after layer; each of them is one, and they come by layer and then by row. And
 -- the index, the keys and the marks are what putting them in order asks.
 -- Assumes nothing.
-use Prim.Native.Nat.{ℕ, zero, suc, _+_, _-_, _≤_, _<_}
+use Prim.Native.Nat.{ℕ, zero, suc, _+_, _≤_, _<_}
 use mathlib.Core.Bool.{Bool, true, false, not, cond, _&&_}
 use mathlib.Core.List.{List, [], _∷_, _++_, append-nil}
 use mathlib.Core.Path.{_≡_, refl, sym, _∙_, ap, ap₂, subst}
 use native.Mathlib.Omega.{arith}
-use borrow.Author.Tests.{eq-eqb, eqb-true}
-use lib.Dec.{eqb}
+use borrow.Author.Tests.{eqb-true}
+use lib.Dec.{eqb, leb}
 use lib.ListN.{length, getD}
 use lib.Seq.{slice, slice-empty, length-slice, ext-getD}
-use Rattle.combinators.specs.Bools.{both-left, both-right, same-test, both-ways}
+use Rattle.combinators.specs.Bools.{both-left, both-right, same-test, both-ways, false-unless}
 use Rattle.combinators.specs.Lists.{gather, gather-append}
 use Rattle.combinators.specs.Those.{those, those-alike, those-at, those-rise}
 use Rattle.sets.specs.Sets.{has}
@@ -18,16 +18,15 @@ use Rattle.ordering.specs.Meaning.{Each, EachTwo}
 use Rattle.ordering.specs.Meaning as meaning
 use Rattle.ordering.specs.Ordering.{insertedBy, orderedBy}
 use Rattle.ordering.specs.Runs.{keyIn}
-use Rattle.ordering.proofs.Laws.{goes-first, goes-behind}
 use Rattle.ordering.proofs.Meant.{each-in-order}
 use Rattle.ordering.proofs.Stored.{row-of-part}
 use Rattle.rows.specs.Table.{Table, rowsIn, layerOf}
-use Rattle.assembling.specs.Index.{isOf, rowsOf, startOf, Within, Sorted}
+use Rattle.assembling.specs.Index.{isOf, rowsOf, Within, Sorted}
 use Rattle.assembling.proofs.Placing.{start-rises, place-among, start-past-all}
 use Rattle.assembling.proofs.Searching.{end-is, end-inside, place-holds, places-rise}
 use Rattle.spans.specs.Spans.{keyAt}
-use Rattle.unit_order.specs.Laying.{unmarked, endOf, headsAt, headsFirst, Parts, Orderable}
-use Rattle.unit_order.proofs.Each.{each-places, each-append, two-places}
+use Rattle.unit_order.specs.Laying.{unmarked, headsAt, headsFirst, Orderable}
+use Rattle.unit_order.proofs.Each.{each-at, each-places, each-append, two-places}
 use Rattle.heads.specs.Units.{Frame, isHead}
 use Rattle.unit_lists.specs.Sequence.{headsOfLayer, headsByLayer, headsInOrder}
 use Rattle.unit_lists.specs.Writing.{KeysRise}
@@ -80,8 +79,8 @@ module _ (key other : ℕ → ℕ) where
   inserted-alike : (row : ℕ) (rows : List ℕ) → key row ≡ other row → Each (λ k. key k ≡ other k) rows → insertedBy key row rows ≡ insertedBy other row rows
   inserted-alike row [] p meaning.Each.none = refl
   inserted-alike row (next ∷ rows) p (meaning.Each.and q each) =
-      ap₂ (λ (m n : ℕ). cond (lib.Dec.leb m n) (row ∷ next ∷ rows) (next ∷ insertedBy key row rows)) p q
-      ∙ ap (λ (l : List ℕ). cond (lib.Dec.leb (other row) (other next)) (row ∷ next ∷ rows) (next ∷ l)) (inserted-alike row rows p each)
+      ap₂ (λ (m n : ℕ). cond (leb m n) (row ∷ next ∷ rows) (next ∷ insertedBy key row rows)) p q
+      ∙ ap (λ (l : List ℕ). cond (leb (other row) (other next)) (row ∷ next ∷ rows) (next ∷ l)) (inserted-alike row rows p each)
 
   pub ordered-alike : (rows : List ℕ) → Each (λ k. key k ≡ other k) rows → orderedBy key rows ≡ orderedBy other rows
   ordered-alike [] meaning.Each.none = refl
@@ -135,8 +134,8 @@ module _ (t : Table) (f : Frame) where
   layer-rows : (layer : ℕ) → EachTwo (LayerThenRow t) (headsOfLayer t f layer)
   layer-rows layer =
       two-places (headsOfLayer t f layer)
-      (λ i j h l. (let v = Rattle.unit_order.proofs.Each.each-at (layer-own layer) i (omega arith) in
-      let w = Rattle.unit_order.proofs.Each.each-at (layer-own layer) j l in
+      (λ i j h l. (let v = each-at (layer-own layer) i (omega arith) in
+      let w = each-at (layer-own layer) j l in
       lower-row (v ∙ sym w) (those-rise (ofLayer layer) (rowsIn t) i j h l)))
 
   abbrev upTo : ℕ → List ℕ
@@ -223,7 +222,7 @@ module _ (t : Table) (f : Frame) where
                 (both-right (isHead t f k) (eqb (layerOf t k) layer) e)))
         go false m =
             ap (unmarked (f .claimed)) (slice-empty (getD starts layer 0) order)
-            ∙ sym (none-pass (ofLayer layer) (rowsIn t) (λ k h. Rattle.combinators.specs.Bools.false-unless (ofLayer layer k) (other k)))
+            ∙ sym (none-pass (ofLayer layer) (rowsIn t) (λ k h. false-unless (ofLayer layer k) (other k)))
           where
             other : (k : ℕ) → ofLayer layer k ≡ true → ⊥
             other k e =

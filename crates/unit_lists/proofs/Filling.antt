@@ -7,17 +7,16 @@ use native.Mathlib.Nat.{zero-add}
 use native.Mathlib.Numerals.{add-one}
 use native.Mathlib.Omega.{arith}
 use lib.IntN.{ℤ}
-use lib.ListN.{length, getD, set, take, length-append, length-map, length-set}
+use lib.ListN.{length, getD, set, take, length-append, length-map}
 use lib.Seq.{sets, slice, length-sets, length-slice, take-all, take-suc, length-take-le}
-use Rattle.buffers.specs.Buffers.{over}
 use Rattle.buffers.proofs.Laws.{sets-append, sets-over}
 use Rattle.clock.specs.Clock.{lagOf}
-use Rattle.combinators.specs.Lists.{gather, gather-append, gather-next}
+use Rattle.combinators.specs.Lists.{gather, gather-next}
 use Rattle.ordering.proofs.Stored.{row-of-part}
 use Rattle.sets.specs.Sets.{size}
-use Rattle.rows.specs.Table.{Table, rowsIn, decodingOf}
+use Rattle.rows.specs.Table.{Table, decodingOf}
 use Rattle.heads.specs.Units.{Frame, ownOf, lagsFrom}
-use Rattle.unit_lists.specs.Sequence.{Lists, lists}
+use Rattle.unit_lists.specs.Sequence.{lists}
 use Rattle.unit_lists.specs.Writing.{keptUnit, keptLags, listsKept, Between, Fillable}
 
 -- ---- what is gathered from the first of a list

@@ -1,24 +1,23 @@
 -- The heads in order stand at the front of the list that was lent for them, and their units can be written.
 -- Assumes nothing.
-use Prim.Native.Nat.{ℕ, _+_, _≤_, _<_}
+use Prim.Native.Nat.{ℕ, _≤_, _<_}
 use mathlib.Core.List.{List, []}
-use mathlib.Core.Path.{_≡_, refl, sym, _∙_, ap, ap₂, subst}
+use mathlib.Core.Path.{_≡_, sym, _∙_, ap, ap₂, subst}
 use native.Mathlib.Omega.{arith}
-use lib.ListN.{length, getD, take, drop, length-append, length-drop}
+use lib.ListN.{length, getD, take, drop}
 use lib.Seq.{length-take-le, take-append-seam}
 use Rattle.buffers.specs.Buffers.{over}
 use Rattle.buffers.proofs.Laws.{over-length}
-use Rattle.combinators.specs.Lists.{gather}
 use Rattle.ordering.specs.Ordering.{orderedBy}
 use Rattle.ordering.specs.Runs.{keyIn}
 use Rattle.ordering.proofs.Stored.{length-ordered}
-use Rattle.rows.specs.Table.{Table, rowsIn}
+use Rattle.rows.specs.Table.{Table}
 use Rattle.unit_order.specs.Laying.{headsFirst, Orderable}
 use Rattle.unit_order.proofs.Bounds.{first-short}
 use Rattle.unit_order.proofs.Each.{each-at}
 use Rattle.heads.specs.Units.{Frame, frame}
 use Rattle.unit_lists.specs.Sequence.{headsInOrder}
-use Rattle.unit_lists.specs.Writing.{keptUnit, Fillable, Writable}
+use Rattle.unit_lists.specs.Writing.{Fillable, Writable}
 use Rattle.unit_lists.proofs.ByLayer.{Heads, each-head-in-order, orderable, laid-in-order}
 
 module _ (t : Table) (f : Frame) (starts order keys kept places heads₀ : List ℕ) (numbers lags sizes : ℕ)

@@ -1,11 +1,12 @@
 -- What was kept of the heads is what writing asks, and the lists that are then written are those of the units: `writable` and `written`. The code has no match times and no
 -- edges at hand there, and the heads and their order do not depend on them.
 -- Assumes nothing.
-use Prim.Native.Nat.{ℕ, _+_, _≤_, _<_}
-use mathlib.Core.Bool.{true, false}
+use Prim.Native.Nat.{ℕ, _+_, _≤_}
+use mathlib.Core.Bool.{false}
 use mathlib.Core.List.{List, [], _∷_, _++_, map}
 use mathlib.Core.Path.{_≡_, refl, sym, _∙_, ap, ap₂, subst}
 use native.Mathlib.Omega.{arith}
+use lib.IntN.{ℤ}
 use lib.ListN.{length, getD, length-map}
 use lib.Seq.{slice}
 use Rattle.buffers.specs.Buffers.{over}
@@ -20,11 +21,11 @@ use Rattle.rows.specs.Table.{Table, table, rowsIn, decodingOf}
 use Rattle.assembling.specs.Index.{Starts, Order}
 use Rattle.spans.specs.Spans.{startOf, keyOf, keysOf, wideSpan}
 use Rattle.spans.proofs.Measuring.{key-laid}
-use Rattle.heads.specs.Units.{Frame, frame, isHead, ownOf, unitOf, lagsOf, lagsFrom}
+use Rattle.heads.specs.Units.{Frame, frame, ownOf, unitOf, lagsOf, lagsFrom}
 use Rattle.heads.specs.Judging.{Kept}
 use Rattle.heads.specs.Orderly.{Orderly}
 use Rattle.heads.proofs.Kept.{unit-size}
-use Rattle.unit_lists.specs.Sequence.{headsByLayer, headsInOrder, unitRows, unitLags, unitSizes, Lists, lists, listsOver}
+use Rattle.unit_lists.specs.Sequence.{headsByLayer, headsInOrder, unitRows, unitSizes, Lists, lists, listsOver}
 use Rattle.unit_lists.specs.Writing.{keptUnit, keptLags, listsKept, Writable}
 use Rattle.unit_lists.proofs.ByLayer.{Heads, each-head-in-order}
 use Rattle.unit_lists.proofs.Rising.{keys-climb}
@@ -71,7 +72,7 @@ module _ (t : Table) (f : Frame) where
         ∙ three same-rows (gather-on (keptLags bare bareFrame kept places) (lagsOf t f) (each-head-in-order t f) same-lags)
         (map-on (λ head. size (ownOf t f head)) (λ head. length (unitOf t f head)) (each-head-in-order t f) (λ k head. sym (unit-size t f k)))
       where
-        three : {a b : List ℕ} {c d : List lib.IntN.ℤ} {e g : List ℕ} → a ≡ b → c ≡ d → e ≡ g
+        three : {a b : List ℕ} {c d : List ℤ} {e g : List ℕ} → a ≡ b → c ≡ d → e ≡ g
             → lists (over a (before .numbers)) (over c (before .lags)) (over e (before .sizes))
             ≡ lists (over b (before .numbers)) (over d (before .lags)) (over g (before .sizes))
         three p q r = rw (p, q, r)

@@ -3,7 +3,7 @@
 -- they were given. And what the three lists then hold.
 -- Assumes nothing.
 use Prim.Native.Nat.{ℕ}
-use mathlib.Core.Bool.{Bool, _&&_, true}
+use mathlib.Core.Bool.{_&&_, true}
 use mathlib.Core.List.{List, map}
 use lib.Dec.{eqb}
 use lib.IntN.{ℤ}

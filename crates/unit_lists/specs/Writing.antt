@@ -1,7 +1,7 @@
 -- The units written out of the rows that were kept of them: what this asks, and what the three lists then hold. That these are the units of the heads is shown in
 -- proofs/Written.antt.
 -- Assumes nothing.
-use Prim.Native.Nat.{ℕ, _+_, _-_, _≤_, _<_}
+use Prim.Native.Nat.{ℕ, _+_, _≤_, _<_}
 use mathlib.Core.Bool.{true}
 use mathlib.Core.List.{List, map}
 use mathlib.Core.Path.{_≡_}

@@ -1,8 +1,7 @@
 -- `unit_lists::write_heads` meets its contract. The invariant, the units of the heads so far written, and each turn are in Filling. The measure is the number
 -- of heads left. Assumes nothing.
-use Prim.Native.Nat.{ℕ, _+_, _≤_, _<_, _-_}
+use Prim.Native.Nat.{_-_}
 use mathlib.Core.List.{[]}
-use mathlib.Core.Path.{_≡_, refl, sym, _∙_}
 use native.Mathlib.Omega.{arith}
 use borrow.Author.Needs.{needs}
 use lib.ListN.{length, getD}
@@ -11,10 +10,6 @@ use Rattle.heads.specs.Units.{frame}
 use Rattle.unit_lists.proofs.Filling.{Filled, filled-start, filled-more, filled-end, long-numbers, long-lags, long-sizes, unit-rows, room-numbers, room-lags, room-sizes}
 use Rattle.unit_lists.proofs.write_heads.Statement.{statement}
 use Rattle.unit_lists.proofs.write_heads.Tie as tie
-use Rattle.unit_lists.proofs.write_heads.Reads as reads
-use Rattle.unit_lists.proofs.write_heads.Lts as lts
-use Rattle.sets.proofs.size.Reads as size-reads
-use Rattle.unit_lists.proofs.write_unit.Reads as write-unit-reads
 
 abbrev Inv-loop : tie.InvT-loop
 Inv-loop indices decodings own kept places heads numbers₀ lags₀ sizes₀ at₀ unit₀ numbers lags sizes at unit =

@@ -1,20 +1,16 @@
 -- `unit_lists::write_unit` meets its contract. The invariant, what is left of the unit stored from here on, and each turn are in Laying. The measure is
 -- the number of rows left. Assumes nothing.
-use Prim.Native.Nat.{ℕ, _+_, _≤_, _<_, _-_}
+use Prim.Native.Nat.{_-_}
 use mathlib.Core.List.{[]}
-use mathlib.Core.Path.{_≡_, refl, sym, _∙_}
+use mathlib.Core.Path.{_∙_}
 use native.Mathlib.Omega.{arith}
 use borrow.Author.Needs.{needs}
-use lib.ListN.{length, getD}
 use mir.Syntax.{w64}
 use mir.ValLaws.{toZ-ofZ}
 use Rattle.rows.specs.Table.{table}
 use Rattle.unit_lists.proofs.Laying.{Laying, laying-start, laying-more, laid-numbers, laid-lags}
 use Rattle.unit_lists.proofs.write_unit.Statement.{statement}
 use Rattle.unit_lists.proofs.write_unit.Tie as tie
-use Rattle.unit_lists.proofs.write_unit.Reads as reads
-use Rattle.unit_lists.proofs.write_unit.Lts as lts
-use Rattle.clock.proofs.lag.Reads as lag-reads
 
 abbrev Inv-loop : tie.InvT-loop
 Inv-loop kept decodings time first end at numbers₀ lags₀ from₀ next₀ numbers lags from next =

@@ -10,10 +10,6 @@ use Rattle.unit_lists.proofs.Front.{to-order, front-short, front-long, 
 use borrow.Author.Needs.{needs}
 use Rattle.unit_lists.proofs.write_units.Statement.{statement}
 use Rattle.unit_lists.proofs.write_units.Tie as tie
-use Rattle.unit_lists.proofs.write_units.Reads as reads
-use Rattle.unit_lists.proofs.write_units.Lts as lts
-use Rattle.unit_lists.proofs.write_heads.Reads as write-heads-reads
-use Rattle.unit_order.proofs.order_heads.Reads as order-heads-reads
 
 order-heads-requires : tie.Need-order-heads-requires
 order-heads-requires c κs =
