@@ -16,19 +16,34 @@ use Rattle.combinators.specs.Padding.{padTo}
 use Rattle.rows.specs.Table.{Table, rowsIn}
 use Rattle.vocabulary.specs.declared.refusal.Refusal.{Refusal}
 use Rattle.vocabulary.specs.declared.refusal.Refusal.the-variants.{Unpaired, UsedTwice, SpanTooWide, NoRoom}
+use Rattle.assembling.specs.Assemblies.{edgesOf}
+use Rattle.assembling.specs.Index.{Starts, Order, Ready}
 use Rattle.claims.specs.Claims.{claimed}
 use Rattle.claims.specs.Marks.{Stands}
 use Rattle.spans.specs.Spans.{wideSpan}
 use Rattle.heads.specs.declared.Judged.{Judged}
-use Rattle.heads.specs.Units.{Frame, unpaired, shares, firstUnpaired, firstShared, unitsIn}
-use Rattle.heads.specs.Judging.{Kept, Judges}
+use Rattle.heads.specs.Units.{Frame, frame, unpaired, shares, firstUnpaired, firstShared, unitsIn}
+use Rattle.heads.specs.Judging.{Whole, Kept, Judges}
+use Rattle.heads.specs.Orderly.{Orderly, Framed}
+use Rattle.heads.proofs.Orderly.{ready}
+use Rattle.heads.proofs.Wholeness.{frame-whole}
 use Rattle.unit_lists.specs.Sequence.{Lists}
 use Rattle.joining.specs.declared.answer.Joined.{Joined}
 use Rattle.joining.specs.declared.answer.Joined.the-variants.{Units, Refused}
-use Rattle.joining.specs.Joining.{tabulated, frameOf, closureRows, Room, tooSmall, unitsJoined, tableJoined, listsAfter}
-use Rattle.joining.specs.Steps.{framedLists}
-use Rattle.joining.proofs.Framing.{tabulated-long, tabulated-at}
+use Rattle.joining.specs.Joining.{tabulated, ownSet, frameOf, closureRows, Room, tooSmall, unitsJoined, tableJoined, listsAfter}
+use Rattle.joining.specs.Steps.{Joinable, framedLists}
+use Rattle.joining.proofs.Framing.{tabulated-long, tabulated-at, framed}
 use Rattle.joining.proofs.Cases.{is-unpaired, is-shared, is-wide, is-no-room, are-units, IsOver, units-over, refused, is-over}
+
+-- ---- what a joinable frame has
+
+module _ (closure : ℕ) (t : Table) (f : Frame) (known : Joinable closure t f) where
+  pub index-ready : (starts order : List ℕ) → Starts (t .indices) starts → Order (t .indices) order → Ready t starts order (f .edges)
+  index-ready starts order s o =
+      subst (Ready t starts order) (sym (known .framed .edges-listed)) (ready (known .layers) (known .target) closure t (known .orderly) starts order s o)
+
+  pub whole-frame : Whole t f
+  whole-frame = frame-whole (known .layers) (known .target) closure t (known .orderly) f (known .framed)
 
 -- ---- 15, 16, 18, 17 and the units
 
@@ -95,6 +110,9 @@ pub part-fits : (size count : ℕ) (l array : List ℕ) → count ≡ length l �
 part-fits size count l array e a =
     omega (arith, e, ap length a ∙ length-append l (replicate (size - length l) 0))
 
+pub part-held : (rows : ℕ) (marks : List Bool) → rows ≤ length marks → rows ≤ length (take rows marks)
+part-held rows marks fits = omega (arith, length-take-le rows marks fits)
+
 -- the marks of the rows alone
 pub marks-are : (layers : Layers) (closure : ℕ) (t : Table) (before marks : List Bool) → Stands (rowsIn t) (claimed layers closure t) before marks
     → rowsIn t ≤ length marks → take (rowsIn t) marks ≡ tabulated (claimed layers closure t) (rowsIn t)
@@ -103,6 +121,20 @@ marks-are layers closure t before marks stands fits =
     (length-take-le (rowsIn t) marks fits ∙ sym (tabulated-long (claimed layers closure t) (rowsIn t)))
     (λ k h. (let l : k < rowsIn t = omega (arith, length-take-le (rowsIn t) marks fits) in
     getD-take (rowsIn t) marks k false l ∙ stands .at k l ∙ sym (tabulated-at (claimed layers closure t) false (rowsIn t) k l)))
+
+-- and all of it together is the frame of the closure over the table
+pub frame-is : (layers : Layers) (closure : ℕ) (t : Table) (marks : List Bool) (own edges : List ℕ) → marks ≡ tabulated (claimed layers closure t) (rowsIn t)
+    → own ≡ tabulated (ownSet layers closure) 64 → edges ≡ edgesOf layers closure → frame closure marks own edges ≡ frameOf layers closure t
+frame-is layers closure t marks own edges p q r = rw (p, q, r)
+
+pub joinable : (layers : Layers) (target closure : ℕ) (t : Table) → Orderly layers target closure t → (f : Frame) → f ≡ frameOf layers closure t → Joinable closure t f
+joinable layers target closure t orderly f same =
+    record {
+      layers = layers;
+      target = target;
+      orderly = orderly;
+      framed = subst (Framed layers closure t) (sym same) (framed layers target closure t (orderly .closed-over));
+    }
 
 -- ---- units over the frame of a closure are answered with that closure, so that the lists are the frame's
 

@@ -1,44 +1,40 @@
 -- A work space holds as many rows as its shortest list has places, and so any smaller number.
 -- Assumes nothing.
-use Prim.Native.Nat.{ℕ, _≤_, min}
+use Prim.Native.Nat.{ℕ, zero, suc, _≤_, _<_, min}
 use mathlib.Core.List.{List, [], _∷_}
 use mathlib.Core.Path.{_≡_}
-use native.Mathlib.Nat.{le-refl}
+use native.Mathlib.Nat.{not-suc-le-zero}
 use native.Mathlib.Omega.{arith}
+use lib.ListN.{length, getD}
 use Rattle.joining.specs.Joining.{mostLong}
 use Rattle.joining.specs.Steps.{spaces, Holds}
 
-first-held : (places : ℕ) (others : List ℕ) (rows : ℕ) → rows ≤ mostLong (places ∷ others) → rows ≤ places
-first-held places others rows h = go (mostLong others) h
+-- the least is at most any of them
+held-at : (l : List ℕ) (i : ℕ) → i < length l → mostLong l ≤ getD l i 0
+held-at [] i h = absurd (not-suc-le-zero h)
+held-at (places ∷ others) zero h = first (mostLong others)
   where
-    go : (most : ℕ) → rows ≤ min places most → rows ≤ places
-    go most h = omega arith
-
-others-held : (places : ℕ) (others : List ℕ) (rows : ℕ) → rows ≤ mostLong (places ∷ others) → rows ≤ mostLong others
-others-held places others rows h = go (mostLong others) h
+    first : (most : ℕ) → min places most ≤ places
+    first most = omega arith
+held-at (places ∷ others) (suc i) h = later (mostLong others) (held-at others i (omega arith))
   where
-    go : (most : ℕ) → rows ≤ min places most → rows ≤ most
-    go most h = omega arith
+    later : (most : ℕ) → most ≤ getD others i 0 → min places most ≤ getD others i 0
+    later most l = omega arith
 
 module _ (order keys kept places heads claimed used : ℕ) where
-  pub most-held : Holds (mostLong (spaces order keys kept places heads claimed used)) order keys kept places heads claimed used
-  most-held =
-      let most = mostLong (spaces order keys kept places heads claimed used) in
-      let one = others-held order _ most (le-refl most) in
-      let two = others-held keys _ most one in
-      let three = others-held kept _ most two in
-      let four = others-held places _ most three in
-      let five = others-held heads _ most four in
-      let six = others-held claimed _ most five in
-      record {
-        for-order = first-held order _ most (le-refl most);
-        for-keys = first-held keys _ most one;
-        for-kept = first-held kept _ most two;
-        for-places = first-held places _ most three;
-        for-heads = first-held heads _ most four;
-        for-claimed = first-held claimed _ most five;
-        for-used = first-held used _ most six;
-      }
+  pub most-held : (most : ℕ) → most ≡ mostLong (spaces order keys kept places heads claimed used) → Holds most order keys kept places heads claimed used
+  most-held most e =
+      let all = spaces order keys kept places heads claimed used in
+      rw e
+      (record {
+        for-order = held-at all 0 (omega arith);
+        for-keys = held-at all 1 (omega arith);
+        for-kept = held-at all 2 (omega arith);
+        for-places = held-at all 3 (omega arith);
+        for-heads = held-at all 4 (omega arith);
+        for-claimed = held-at all 5 (omega arith);
+        for-used = held-at all 6 (omega arith);
+      })
 
   pub fewer-held : (most rows : ℕ) → Holds most order keys kept places heads claimed used → rows ≤ most → Holds rows order keys kept places heads claimed used
   fewer-held most rows known h =

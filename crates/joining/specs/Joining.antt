@@ -20,7 +20,7 @@ use Rattle.assembling.specs.Assemblies.{edgesOf}
 use Rattle.claims.specs.Claims.{claimed}
 use Rattle.spans.specs.Spans.{isClosureRow, wideSpan}
 use Rattle.heads.specs.Units.{Frame, frame, firstUnpaired, firstShared, unitsIn}
-use Rattle.unit_lists.specs.Sequence.{Lists, listsOver}
+pub use Rattle.unit_lists.specs.Sequence.{Lists, lists, listsOver}
 use Rattle.joining.specs.declared.answer.Joined.{Joined}
 use Rattle.joining.specs.declared.answer.Joined.the-variants.{Units, Refused}
 
@@ -77,7 +77,7 @@ joinedIn most layers t room (NoClosure refusal) = Refused refusal
 abbrev pub joinedOf : ℕ → Layers → ℕ → Table → Room → Joined
 joinedOf most layers target t room = joinedIn most layers t room (closureOf layers target)
 
--- the room of the three lists of an answer
+-- what room the three lists have
 abbrev pub roomOf : Lists → Room
 roomOf before = record { numbers = length (before .numbers); lags = length (before .lags); sizes = length (before .sizes) }
 

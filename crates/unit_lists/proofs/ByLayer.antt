@@ -162,10 +162,6 @@ module _ (t : Table) (f : Frame) where
   unfolding headsByLayer
   by-layer = first-rows 64
 
-  -- and in order too each is a head
-  pub each-head-in-order : Each (Heads t f 64) (headsInOrder t f)
-  each-head-in-order = each-in-order (keyAt t (f .closure)) (Heads t f 64) (headsByLayer t f) each-head
-
   -- ---- the index
 
   module _ (starts order : List ℕ) (sorted : Sorted (t .indices) (t .decodings) starts order) where
@@ -273,3 +269,7 @@ module _ (t : Table) (f : Frame) where
     laid-in-order keys keyed =
         ap (orderedBy (keyIn keys)) laid-heads
         ∙ ordered-alike (keyIn keys) (keyAt t (f .closure)) (headsByLayer t f) (each-more (λ k h. keyed k (h .row)) each-head)
+
+  -- and in order too each is a head
+  pub each-head-in-order : Each (Heads t f 64) (headsInOrder t f)
+  each-head-in-order = each-in-order (keyAt t (f .closure)) (Heads t f 64) (headsByLayer t f) each-head

@@ -10,7 +10,6 @@ use lib.IntN.{ℤ}
 use lib.ListN.{length, getD, set, take, length-append, length-map}
 use lib.Seq.{sets, slice, length-sets, length-slice, take-all, take-suc, length-take-le}
 use Rattle.buffers.proofs.Laws.{sets-append, sets-over}
-use Rattle.clock.specs.Clock.{lagOf}
 use Rattle.combinators.specs.Lists.{gather, gather-next}
 use Rattle.ordering.proofs.Stored.{row-of-part}
 use Rattle.sets.specs.Sets.{size}
@@ -49,7 +48,7 @@ module _ (t : Table) (f : Frame) (kept places heads numbers₀ : List ℕ) (lags
   units n = gather unit (take n heads)
 
   lags-many : (l : List ℕ) → length (gather beside-unit l) ≡ length (gather unit l)
-  lags-many l = as-many unit beside-unit (λ head. length-map (unit head) (λ row. lagOf (decodingOf t row) (decodingOf t head))) l
+  lags-many l = as-many unit beside-unit (λ head. length-map (unit head) _) l
 
   -- the units so far are written one after another, and the next has its place after them
   pub record Filled (n at : ℕ) (numbers : List ℕ) (lags : List ℤ) (sizes : List ℕ) : Type 0 where

@@ -16,8 +16,8 @@ use Rattle.unit_order.specs.Laying.{headsFirst, Orderable}
 use Rattle.unit_order.proofs.Bounds.{first-short}
 use Rattle.unit_order.proofs.Each.{each-at}
 use Rattle.heads.specs.Units.{Frame, frame}
-use Rattle.unit_lists.specs.Sequence.{headsInOrder}
-use Rattle.unit_lists.specs.Writing.{Fillable, Writable}
+use Rattle.unit_lists.specs.Sequence.{headsInOrder, Lists}
+use Rattle.unit_lists.specs.Writing.{listsKept, Fillable, Writable}
 use Rattle.unit_lists.proofs.ByLayer.{Heads, each-head-in-order, orderable, laid-in-order}
 
 module _ (t : Table) (f : Frame) (starts order keys kept places heads₀ : List ℕ) (numbers lags sizes : ℕ)
@@ -73,3 +73,8 @@ module _ (t : Table) (f : Frame) (starts order keys kept places heads₀ : List 
       where
         at : (i : ℕ) → i < length (headsInOrder t f) → Heads t f 64 (getD (headsInOrder t f) i 0)
         at i h = each-at (each-head-in-order t f) i h
+
+    -- and so the lists then hold the units of the heads in order
+    pub all-written : (before lists-after : Lists) → lists-after ≡ listsKept t (frame 0 [] (f .own) []) kept places (take count after) before
+        → lists-after ≡ listsKept t f kept places (headsInOrder t f) before
+    all-written before lists-after e = e ∙ ap (λ (heads : List ℕ). listsKept t f kept places heads before) front

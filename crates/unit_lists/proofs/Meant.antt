@@ -1,5 +1,5 @@
--- The heads as they are computed are all heads in the order of their units (`heads-in-order`), and no other list is (`heads-only`); and the sizes, the rows and
--- the lags of the units of some heads are those that are computed (`units-meant`, `units-only`).
+-- The heads as they are computed are all heads in the order of their units (`heads-in-order`), and no other list is (`heads-only`); and the units of heads, their
+-- sizes, rows and lags one after another, are those that `UnitsOf` asks for (`units-meant`), and no others are (`units-only`).
 -- Assumes nothing.
 use Prim.Native.Nat.{ℕ, zero, suc, _<_}
 use mathlib.Core.Bool.{Bool, true, _&&_}
@@ -29,12 +29,13 @@ use Rattle.heads.proofs.Gathered.{gathered-in}
 use Rattle.heads.proofs.Meant.{head-meant, head-only, unit-meant, unit-only}
 use Rattle.unit_lists.specs.Sequence.{headsOfLayer, headsByLayer, headsInOrder}
 use Rattle.unit_lists.specs.Meaning.{ComesBefore, HeadsInOrder, UnitsOf, no-unit, next-unit}
-use Rattle.unit_lists.proofs.ByLayer.{Heads, LayerThenRow, lower-layer, lower-row, by-layer, each-head-in-order}
+use Rattle.unit_lists.proofs.ByLayer.{LayerThenRow, lower-layer, lower-row, by-layer, each-head-in-order}
 use Rattle.unit_lists.proofs.Order as order
 use Rattle.unit_lists.proofs.Order.{KeyBefore, key-before, never-itself, never-both}
 use Rattle.unit_lists.proofs.Unique.{in-order-one}
 
--- heads that were given by layer and then by row, put in the order of their keys
+-- ---- by their keys, and where these are the same as they were given: by lower layer, then by row
+
 by-key : (t : Table) (closure j k : ℕ) → ByKey (keyAt t closure) (LayerThenRow t) j k → KeyBefore t closure j k
 by-key t closure j k (lower-key h) = order.KeyBefore.lower-key h
 by-key t closure j k (given-before e (lower-layer h)) = order.KeyBefore.same-key e h
@@ -48,7 +49,8 @@ assembly-of (next-unit u us) zero h = (u .choice, u .assembles)
 assembly-of (next-unit u us) (suc i) h = assembly-of us i (omega arith)
 
 module _ (layers : Layers) (target closure : ℕ) (t : Table) (orderly : Orderly layers target closure t) (f : Frame) (framed : Framed layers closure t f) where
-  -- every head is among the heads by layer
+  -- ---- every head is among the heads by layer
+
   by-layer-only : (k : ℕ) → Head layers target t k → member k (headsByLayer t f) ≡ true
   unfolding headsByLayer
   by-layer-only k head =
@@ -82,15 +84,15 @@ module _ (layers : Layers) (target closure : ℕ) (t : Table) (orderly : Orderly
     where
       each : (i : ℕ) → i < length (headsInOrder t f) → Head layers target t (getD (headsInOrder t f) i 0)
       each i h =
-          let head : Heads t f 64 (getD (headsInOrder t f) i 0) = each-at (each-head-in-order t f) i h in
-          head-meant layers target closure t orderly f framed (getD (headsInOrder t f) i 0) (head .row) (head .is-head)
+          let w = each-at (each-head-in-order t f) i h in
+          head-meant layers target closure t orderly f framed (getD (headsInOrder t f) i 0) (w .row) (w .is-head)
 
   pub heads-only : (heads : List ℕ) → HeadsInOrder layers target t heads → heads ≡ headsInOrder t f
   heads-only heads o =
       in-order-one (ComesBefore layers target t) (never-itself layers target closure (orderly .closed-over .whole) t) (Head layers target t)
       (λ i j h l b c. never-both layers target closure (orderly .closed-over .whole) t i j b c) heads (headsInOrder t f) o heads-in-order
 
-  -- ---- the units of some heads: what is computed is right, and nothing else is
+  -- ---- THE UNITS of some heads, one after another: what is computed is right, and nothing else is
 
   pub units-meant : ((k : ℕ) → Head layers target t k → assemblyOf t f k .complete ≡ true) → (heads : List ℕ)
       → ((i : ℕ) → i < length heads → Head layers target t (getD heads i 0))

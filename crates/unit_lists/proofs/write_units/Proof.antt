@@ -1,12 +1,10 @@
 -- `unit_lists::write_units` meets its contract: the heads in order stand at the front of the list that was lent for them (Front), and their units are written.
 -- Assumes nothing.
-use mathlib.Core.List.{List, []}
-use mathlib.Core.Path.{_∙_, ap}
+use mathlib.Core.List.{[]}
 use Rattle.rows.specs.Table.{table}
 use Rattle.heads.specs.Units.{frame}
 use Rattle.unit_lists.specs.Sequence.{lists}
-use Rattle.unit_lists.specs.Writing.{listsKept}
-use Rattle.unit_lists.proofs.Front.{to-order, front-short, front-long, front, fillable}
+use Rattle.unit_lists.proofs.Front.{to-order, front-short, front-long, fillable, all-written}
 use borrow.Author.Needs.{needs}
 use Rattle.unit_lists.proofs.write_units.Statement.{statement}
 use Rattle.unit_lists.proofs.write_units.Tie as tie
@@ -25,7 +23,8 @@ slice-reshare-prefix-write-heads c =
     let a = begin .args in
     let t = table (a .indices .now) (a .decodings .now) [] in
     let f = frame (a .closure) (a .claimed .now) (a .own .now) [] in
-    front-short t f _ (a .order .now) _ (a .kept .now) (a .places .now) (a .heads .now) _ _ _ (begin .pre) _ _ (c .before .before .before .before .order-heads .ensures .0) (c .before .before .before .before .order-heads .ensures .1 .0)
+    let ordered = c .before .before .before .before .order-heads .ensures in
+    front-short t f _ (a .order .now) _ (a .kept .now) (a .places .now) (a .heads .now) _ _ _ (begin .pre) _ _ (ordered .0) (ordered .1 .0)
 
 slice-aggregate-write-heads : tie.Need-slice-aggregate-write-heads
 slice-aggregate-write-heads c =
@@ -33,7 +32,8 @@ slice-aggregate-write-heads c =
     let a = begin .args in
     let t = table (a .indices .now) (a .decodings .now) [] in
     let f = frame (a .closure) (a .claimed .now) (a .own .now) [] in
-    front-long t f _ (a .order .now) _ (a .kept .now) (a .places .now) (a .heads .now) _ _ _ (begin .pre) _ _ (c .before .before .before .before .before .order-heads .ensures .0) (c .before .before .before .before .before .order-heads .ensures .1 .0)
+    let ordered = c .before .before .before .before .before .order-heads .ensures in
+    front-long t f _ (a .order .now) _ (a .kept .now) (a .places .now) (a .heads .now) _ _ _ (begin .pre) _ _ (ordered .0) (ordered .1 .0)
 
 write-heads-requires : tie.Need-write-heads-requires
 write-heads-requires c κs =
@@ -41,7 +41,8 @@ write-heads-requires c κs =
     let a = begin .args in
     let t = table (a .indices .now) (a .decodings .now) [] in
     let f = frame (a .closure) (a .claimed .now) (a .own .now) [] in
-    fillable t f _ (a .order .now) _ (a .kept .now) (a .places .now) (a .heads .now) _ _ _ (begin .pre) _ _ (c .before .before .before .before .before .before .before .before .order-heads .ensures .0) (c .before .before .before .before .before .before .before .before .order-heads .ensures .1 .0)
+    let ordered = c .before .before .before .before .before .before .before .before .order-heads .ensures in
+    fillable t f _ (a .order .now) _ (a .kept .now) (a .places .now) (a .heads .now) _ _ _ (begin .pre) _ _ (ordered .0) (ordered .1 .0)
 
 same-length : tie.Need-same-length
 same-length c = search needs
@@ -64,9 +65,9 @@ returns c =
     let a = begin .args in
     let t = table (a .indices .now) (a .decodings .now) [] in
     let f = frame (a .closure) (a .claimed .now) (a .own .now) [] in
-    c .before .before .before .before .before .write-heads .ensures
-    ∙ ap (λ (heads : List _). listsKept t f (a .kept .now) (a .places .now) heads (lists (a .numbers .now) (a .lags .now) (a .sizes .now)))
-    (front t f _ (a .order .now) _ (a .kept .now) (a .places .now) (a .heads .now) _ _ _ (begin .pre) _ _ (c .before .before .before .before .before .before .before .before .before .before .before .before .before .before .order-heads .ensures .0) (c .before .before .before .before .before .before .before .before .before .before .before .before .before .before .order-heads .ensures .1 .0))
+    let ordered = c .before .before .before .before .before .before .before .before .before .before .before .before .before .before .order-heads .ensures in
+    all-written t f _ (a .order .now) _ (a .kept .now) (a .places .now) (a .heads .now) _ _ _ (begin .pre) _ _ (ordered .0) (ordered .1 .0)
+    (lists (a .numbers .now) (a .lags .now) (a .sizes .now)) _ (c .before .before .before .before .before .write-heads .ensures)
 
 pub write-units-spec : {M : Type 1} → statement M
 write-units-spec =
