@@ -26,7 +26,7 @@ use Rattle.rows.specs.Table.{Table}
 use Rattle.loop_layers.specs.Closures.{entriesRead}
 use Rattle.loop_layers.specs.Layers.{layersOf}
 use Rattle.loop_layers.proofs.Meant.{layers-meant, layers-only, entries-read, loop-answer-meant, loop-answer-only}
-use Rattle.joining.specs.Joining.{Lists}
+use Rattle.unit_lists.specs.Sequence.{Lists}
 use Rattle.importing.specs.Importing.{importedLists}
 use Rattle.importing.proofs.Meant.{import-meant, import-only}
 use Rattle.agreement.specs.Meaning.{Accepts, Every2009, Otherwise, Answer, Gives, NoSet, no-such-layer, embedded-layer-absent, Refuses2009, Agrees}

@@ -25,7 +25,8 @@ use Rattle.loop_layers.specs.Layers.{layersOf}
 use Rattle.joining.specs.declared.answer.Joined.{Joined}
 use Rattle.joining.specs.declared.answer.Joined.the-variants.{Refused}
 use Rattle.rows.specs.Table.{Table, mostRows}
-use Rattle.joining.specs.Joining.{Lists, roomOf, joinedIn, joinedOf, listsAfter}
+use Rattle.unit_lists.specs.Sequence.{Lists}
+use Rattle.joining.specs.Joining.{roomOf, joinedIn, joinedOf, listsAfter}
 use Rattle.importing.specs.Importing.{importFor, importOf, importedLists}
 use Rattle.agreement.specs.Meaning.{Every2009, Otherwise, another-type, no-complete-set, Answer, answerOf, NoSet}
 use Rattle.agreement.specs.Entries.{IsAccepted, entriesIn, accepted-in-2009}

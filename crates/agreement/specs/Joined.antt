@@ -22,7 +22,8 @@ use Rattle.claims.specs.Claims.{embeds, claimed}
 use Rattle.heads.specs.Units.{Frame, frame}
 use Rattle.joining.specs.declared.answer.Joined.{Joined}
 use Rattle.joining.specs.declared.answer.Joined.the-variants.{Units, Refused}
-use Rattle.joining.specs.Joining.{tabulated, ownSet, frameOf, Room, Lists, unitsJoined, joinedBy, joinedIn, joinedOf, listsOver, listsAfter}
+use Rattle.unit_lists.specs.Sequence.{Lists, listsOver}
+use Rattle.joining.specs.Joining.{tabulated, ownSet, frameOf, Room, unitsJoined, joinedBy, joinedIn, joinedOf, listsAfter}
 use Rattle.joining.proofs.Cases.{IsOver, units-over, refused, is-over}
 
 module _ (few all : Layers) (closure : ℕ)

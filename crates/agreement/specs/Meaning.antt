@@ -28,7 +28,7 @@ use Rattle.loop_layers.specs.Meaning as LoopClosure
 use Rattle.joining.specs.declared.answer.Joined.{Joined}
 use Rattle.joining.specs.declared.answer.Joined.the-variants.{Refused}
 use Rattle.rows.specs.Table.{Table}
-use Rattle.joining.specs.Joining.{Lists}
+use Rattle.unit_lists.specs.Sequence.{Lists}
 use Rattle.importing.specs.Meaning as Import
 
 -- 'any loop that the 2015 reading accepts': a reading accepts the bytes, answers these entries, and they have these layers.

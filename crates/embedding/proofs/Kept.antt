@@ -11,7 +11,7 @@ use Rattle.loop_writer.specs.declared.writer.Written.the-variants.{Bytes}
 use Rattle.loop_writer.specs.Meaning as Writer
 use Rattle.loop_layers.specs.Meaning as LoopClosure
 use Rattle.rows.specs.Table.{Table}
-use Rattle.joining.specs.Joining.{Lists}
+use Rattle.unit_lists.specs.Sequence.{Lists}
 use Rattle.importing.specs.Meaning as Import
 use Rattle.agreement.specs.Meaning.{Answer, Gives}
 use Rattle.embedding.specs.Before.{accepted}

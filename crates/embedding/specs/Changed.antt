@@ -19,7 +19,7 @@ use Rattle.closure.specs.declared.Layers.{Layers}
 use Rattle.closure.specs.Meaning as Target
 use Rattle.loop_layers.specs.Meaning.{LayersOf}
 use Rattle.rows.specs.Table.{Table, mostRows}
-use Rattle.joining.specs.Joining.{Lists}
+use Rattle.unit_lists.specs.Sequence.{Lists}
 use Rattle.joining.specs.Meaning as Joining
 use Rattle.agreement.specs.Meaning.{Answer, Gives}
 use Rattle.embedding.specs.Before.{MoreThan8, Told, refused, accepted}

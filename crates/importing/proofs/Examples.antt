@@ -10,8 +10,8 @@ use Rattle.es_loop.specs.Examples.{loopA}
 use Rattle.joining.specs.declared.answer.Joined.the-variants.{Units, Refused}
 use Rattle.rows.specs.Table.{Table, table}
 use Rattle.assembling.specs.Assemblies.{edgesOf, membersOf}
-use Rattle.unit_lists.specs.Sequence.{headsByLayer}
-use Rattle.joining.specs.Joining.{Room, lists}
+use Rattle.unit_lists.specs.Sequence.{headsByLayer, lists}
+use Rattle.joining.specs.Joining.{Room}
 use Rattle.importing.specs.Importing.{importOf, importedLists}
 
 abbrev room : ℕ → ℕ → ℕ → Room

@@ -18,7 +18,8 @@ use Rattle.loop_layers.specs.Meaning.{LayersOf}
 use Rattle.loop_layers.proofs.Meant.{layers-meant, layers-only, entries-read}
 use Rattle.joining.specs.declared.answer.Joined.{Joined}
 use Rattle.rows.specs.Table.{Table, mostRows}
-use Rattle.joining.specs.Joining.{Lists, roomOf, joinedOf, listsAfter}
+use Rattle.unit_lists.specs.Sequence.{Lists}
+use Rattle.joining.specs.Joining.{roomOf, joinedOf, listsAfter}
 use Rattle.joining.proofs.Meant.{joined-meant, joined-only}
 use Rattle.importing.specs.Importing.{layersRead, importIn, importOf, importedLists}
 use Rattle.importing.specs.Meaning.{Answers, loop-refused, loop-accepted}

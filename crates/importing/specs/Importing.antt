@@ -15,7 +15,8 @@ use Rattle.loop_layers.specs.Closures.{entriesRead}
 use Rattle.joining.specs.declared.answer.Joined.{Joined}
 use Rattle.joining.specs.declared.answer.Joined.the-variants.{Refused}
 use Rattle.rows.specs.Table.{Table, mostRows}
-use Rattle.joining.specs.Joining.{Room, Lists, joinedOf, listsAfter}
+use Rattle.unit_lists.specs.Sequence.{Lists}
+use Rattle.joining.specs.Joining.{Room, joinedOf, listsAfter}
 
 -- the layers of the entries that were read
 abbrev pub layersRead : LoopRead → Layers

@@ -15,7 +15,7 @@ use Rattle.loop_layers.specs.Meaning.{LayersOf}
 use Rattle.joining.specs.declared.answer.Joined.{Joined}
 use Rattle.joining.specs.declared.answer.Joined.the-variants.{Refused}
 use Rattle.rows.specs.Table.{Table, mostRows}
-use Rattle.joining.specs.Joining.{Lists}
+use Rattle.unit_lists.specs.Sequence.{Lists}
 use Rattle.joining.specs.Meaning as Joining
 
 -- THE ANSWER to the bytes of a loop, a target, a row table and three lists, with what the lists hold after it: 'the answer is the closure with

@@ -3,7 +3,8 @@
 // proofs/Meant.antt the proof that the two are one.
 ghost use mathlib.Core.Path.{_≡_};
 ghost use Rattle.rows.specs.Table.{table};
-ghost use Rattle.joining.specs.Joining.{lists, roomOf};
+ghost use Rattle.unit_lists.specs.Sequence.{lists};
+ghost use Rattle.joining.specs.Joining.{roomOf};
 ghost use Rattle.importing.specs.Importing.{importOf, importedLists};
 use es_loop::Outcome;
 use joining::Joined;

@@ -25,11 +25,11 @@ use Rattle.heads.specs.Units.{Frame, isHead, assemblyOf, unitOf, lagsOf, unitsI
 use Rattle.heads.specs.Orderly.{Orderly, Framed}
 use Rattle.heads.proofs.Meant.{head-meant, head-only}
 use Rattle.heads.proofs.Apart.{Differ}
-use Rattle.unit_lists.specs.Sequence.{headsInOrder, unitRows, unitLags, unitSizes}
+use Rattle.unit_lists.specs.Sequence.{headsInOrder, unitRows, unitLags, unitSizes, Lists, lists, listsOver}
 use Rattle.unit_lists.specs.Meaning.{ComesBefore, HeadsInOrder}
 use Rattle.unit_lists.proofs.Order.{never-itself}
 use Rattle.unit_lists.proofs.Meant.{heads-in-order, heads-only, units-meant, units-only}
-use Rattle.joining.specs.Joining.{closureRows, Lists, lists, roomOf, listsOver}
+use Rattle.joining.specs.Joining.{closureRows, roomOf}
 use Rattle.joining.specs.Meaning.{TooSmall, Accepted}
 
 module _ (layers : Layers) (target closure : ℕ) (t : Table) (orderly : Orderly layers target closure t) where

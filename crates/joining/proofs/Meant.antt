@@ -36,7 +36,8 @@ use Rattle.heads.proofs.Meant.{first-unpaired-meant, first-unpaired-only, none-
 use Rattle.unit_lists.proofs.Meant.{assembly-of}
 use Rattle.joining.specs.declared.answer.Joined.{Joined}
 use Rattle.joining.specs.declared.answer.Joined.the-variants.{Units, Refused}
-use Rattle.joining.specs.Joining.{frameOf, closureRows, tooSmall, unitsJoined, tableJoined, joinedIn, joinedOf, Lists, roomOf, listsAfter}
+use Rattle.unit_lists.specs.Sequence.{Lists}
+use Rattle.joining.specs.Joining.{frameOf, closureRows, tooSmall, unitsJoined, tableJoined, joinedIn, joinedOf, roomOf, listsAfter}
 use Rattle.joining.specs.Meaning.{TooSmall, Accepted, AnswersOver, wrong-shape, out-of-range, order-broken, no-assembly, in-two-units, too-far-apart, no-room, joined, Answers, no-closure, over-closure}
 use Rattle.joining.proofs.Framing.{framed}
 use Rattle.joining.proofs.Cases.{room-meant, room-only, is-unpaired, is-shared, is-wide, is-no-room, are-units, bad-shape, is-outside, is-broken, after-order}

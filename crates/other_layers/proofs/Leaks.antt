@@ -12,7 +12,7 @@ use Rattle.loop_layers.specs.Meaning.{LayersOf}
 use Rattle.rows.specs.Table.{Table}
 use Rattle.rows.specs.Meaning.{InOrder}
 use Rattle.joining.specs.declared.answer.Joined.{Joined}
-use Rattle.joining.specs.Joining.{Lists}
+use Rattle.unit_lists.specs.Sequence.{Lists}
 use Rattle.joining.specs.Meaning as Joining
 use Rattle.importing.specs.Meaning as Import
 use Rattle.other_layers.specs.Meaning.{DifferOutside, SameJoining, SameImport}

@@ -19,7 +19,7 @@ use Rattle.rows.specs.Table.{Table, rowsIn, layerOf, decodingOf, matchOf}
 use Rattle.rows.specs.Meaning.{NoRow, RowOutOfRange}
 use Rattle.spans.specs.Meaning.{ClosureRow}
 use Rattle.joining.specs.declared.answer.Joined.{Joined}
-use Rattle.joining.specs.Joining.{Lists}
+use Rattle.unit_lists.specs.Sequence.{Lists}
 use Rattle.joining.specs.Meaning as Joining
 use Rattle.importing.specs.Meaning as Import
 

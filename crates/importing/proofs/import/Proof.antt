@@ -6,7 +6,8 @@ use borrow.Author.Needs.{needs}
 use Rattle.es_loop.specs.declared.reader.Outcome.{Outcome}
 use Rattle.loop_layers.specs.declared.layer_sets.LayersRead.{LayersRead}
 use Rattle.rows.specs.Table.{table}
-use Rattle.joining.specs.Joining.{lists, roomOf, listsAfter}
+use Rattle.unit_lists.specs.Sequence.{lists}
+use Rattle.joining.specs.Joining.{roomOf, listsAfter}
 use Rattle.importing.specs.Importing.{importFor}
 use Rattle.importing.proofs.import.Statement.{statement}
 use Rattle.importing.proofs.import.Tie as tie
