@@ -9,6 +9,7 @@ pub mod Demand1
 pub mod Demand2
 pub mod Demand3
 pub mod Embedding
+pub mod EveryRow
 pub mod OtherLayers
 pub mod Starred
 pub mod Pins
