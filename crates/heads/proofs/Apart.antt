@@ -24,7 +24,7 @@ use Rattle.claims.specs.Meaning.{Head}
 use Rattle.heads.specs.Units.{Frame, ownOf, assemblyOf, unitOf}
 use Rattle.heads.specs.Orderly.{Orderly, Framed}
 use Rattle.heads.specs.Meaning.{SharesRow}
-use Rattle.heads.proofs.Gathered.{gathered-from}
+use Rattle.heads.proofs.Gathers.{gathered-from}
 use Rattle.heads.proofs.Meant.{assembly-meant, own-members, stands-meant, unit-row, unit-long, unit-at}
 
 -- what passes one test passes another: no more do

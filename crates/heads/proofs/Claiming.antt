@@ -1,8 +1,8 @@
 -- The walk over the heads: what is known after some rows of the table, and what another row adds.
 -- Assumes nothing.
 use Prim.Native.Nat.{ℕ, suc, _+_, _≤_, _<_}
-use mathlib.Core.Path.{_≡_, refl, sym, _∙_, ap, ap₂, subst}
-use mathlib.Core.Bool.{Bool, true, false, _&&_, _||_, or-true, or-false}
+use mathlib.Core.Path.{_≡_, refl, sym, _∙_, ap, subst}
+use mathlib.Core.Bool.{Bool, true, false, _&&_, _||_, or-true, or-false, true≢false}
 use mathlib.Core.List.{List, [], _∷_, _++_, append-nil}
 use native.Mathlib.Omega.{arith}
 use native.Mathlib.Decide.{ℕ-discrete}
@@ -22,7 +22,7 @@ use Rattle.heads.specs.Units.{Frame, isHead, ownOf, assemblyOf, unitOf, 
 use Rattle.heads.specs.Judging.{Placed, Whole, marked, Kept, Judges}
 use Rattle.heads.proofs.Gathers.{gathered-more, gathered-same}
 use Rattle.heads.proofs.Tested.{is-unpaired, no-head}
-use Rattle.heads.proofs.Kept.{unit-size, unit-small, kept-unit, kept-inside, complete-at, rows-fit}
+use Rattle.heads.proofs.Kept.{unit-small, kept-unit, kept-inside, complete-at, rows-fit}
 
 -- ---- the marks: below a limit they stand at the members of a list and nowhere else
 
@@ -101,7 +101,7 @@ module _ (t : Table) (f : Frame) (k units place : ℕ) (used : List Bool) (kept 
         next = known .next ∙ ap length same;
         rows = known .rows ∙ same;
         marks = subst (λ (l : List ℕ). MarkedAt (rowsIn t) l used) same (known .marks);
-        noted = below-more _ _ (known .noted) (λ head. absurd (mathlib.Core.Bool.true≢false (sym head ∙ m)));
+        noted = below-more _ _ (known .noted) (λ head. absurd (true≢false (sym head ∙ m)));
         room = known .room;
         room-places = known .room-places;
       }

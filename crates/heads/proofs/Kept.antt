@@ -2,15 +2,15 @@
 -- places than there are rows (`rows-fit`); each unit is found again at its place (`kept-unit`); and an assembly leaves no row behind once its
 -- members are cleared (`cleared-again`).
 -- Assumes nothing.
-use Prim.Native.Nat.{ℕ, zero, suc, _+_, _-_, _^_, _≤_, _<_}
-use mathlib.Core.Path.{_≡_, refl, sym, _∙_, ap, ap₂, subst}
+use Prim.Native.Nat.{ℕ, zero, suc, _+_, _-_, _≤_, _<_}
+use mathlib.Core.Path.{_≡_, refl, sym, _∙_, ap, subst}
 use mathlib.Core.Bool.{Bool, true, false, not, cond, _&&_}
-use mathlib.Core.List.{List, [], _++_}
+use mathlib.Core.List.{List, _++_}
 use native.Mathlib.Omega.{arith}
 use native.Mathlib.Numerals.{add-one}
 use borrow.Author.Tests.{not-false}
 use lib.ListN.{length, getD, set, take, drop, length-append, length-replicate, getD-replicate}
-use lib.Seq.{slice, take-take, take-at, drop-at, ext-getD, length-take-le}
+use lib.Seq.{slice, take-take, take-at, drop-at, ext-getD}
 use Rattle.combinators.specs.Lists.{any}
 use Rattle.combinators.specs.Members.{member}
 use Rattle.combinators.specs.Once.{Once, Small, small-append, once-append, once-short}

@@ -34,7 +34,7 @@ use Rattle.heads.specs.Units.{Frame, isHead, ownOf, assemblyOf, unitOf, 
 use Rattle.heads.specs.Orderly.{Orderly, Framed}
 use Rattle.heads.specs.Meaning.{Assembles, AssemblesOwn, NoAssembly, InUnitOf, SharesRow, LagsBeside, no-row, beside, UnitOf}
 use Rattle.heads.proofs.Assemblies.{head-found, head-only as only-found, head-no-other}
-use Rattle.heads.proofs.Gathered.{gathered-from, gathered-in}
+use Rattle.heads.proofs.Gathers.{gathered-from, gathered-in}
 
 -- ---- a lag beside each row, as it is computed, and no other
 

@@ -1,7 +1,7 @@
 -- The members of a set in rising order: which they are, how many, and how a loop takes them from the lowest on (`members-next`, `members-none`).
 -- Assumes nothing.
-use Prim.Native.Nat.{ℕ, zero, suc, _+_, _^_, _≤_, _<_}
-use mathlib.Core.Bool.{Bool, true, false, not, _&&_}
+use Prim.Native.Nat.{ℕ, zero, suc, _+_, _^_, _<_}
+use mathlib.Core.Bool.{true, false, not, _&&_}
 use mathlib.Core.List.{List, [], _∷_}
 use mathlib.Core.Path.{_≡_, sym, ap, subst, _∙_}
 use native.Mathlib.Decide.{decLt, ℕ-discrete}
@@ -14,8 +14,8 @@ use Rattle.combinators.specs.Bools.{both-left, both-right, both-ways, same-test
 use Rattle.combinators.specs.Ascending.{Ascending, those-ascending, ascending-one}
 use Rattle.combinators.specs.Members.{member, member-at, member-which}
 use Rattle.combinators.specs.Those.{length-those}
-use Rattle.sets.specs.Sets.{has, lowest, size}
-use Rattle.sets.proofs.Laws.{has-none, has-within, has-without, has-below, lowest-member, lowest-least, without-within}
+use Rattle.sets.specs.Sets.{has, below, lowest, size}
+use Rattle.sets.proofs.Laws.{has-none, has-within, lowest-member, lowest-least, without-within}
 use Rattle.assembling.specs.Assemblies.{membersOf}
 use Rattle.assembling.proofs.Skipping.{has-later}
 use Rattle.heads.specs.Judging.{above}
@@ -65,7 +65,7 @@ above-past s k j e = past s k j e .1
 
 module _ (s : ℕ) (within : s < 2 ^ 64) (some : s ≡ 0 → ⊥) where
   pub above-within : (k : ℕ) → above s k < 2 ^ 64
-  above-within k = without-within 64 s (Rattle.sets.specs.Sets.below s (k + 1)) within
+  above-within k = without-within 64 s (below s (k + 1)) within
 
   rest : Ascending (λ j. has (above s (lowest s)) j ≡ true) (membersOf (above s (lowest s)))
   rest = members-ascending (above s (lowest s)) (above-within (lowest s))

@@ -1,8 +1,8 @@
 -- Units: one for each head, and what is judged of them together in table order: refusals 15 and 16.
 -- Assumes nothing.
-use Prim.Native.Nat.{ℕ, zero, suc}
+use Prim.Native.Nat.{ℕ}
 use mathlib.Core.Bool.{Bool, false, not, _&&_}
-use mathlib.Core.List.{List, [], _∷_, _++_, map}
+use mathlib.Core.List.{List, map}
 use lib.IntN.{ℤ}
 use lib.ListN.{getD}
 use Rattle.clock.specs.Clock.{lagOf}

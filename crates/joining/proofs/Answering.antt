@@ -7,14 +7,13 @@ use mathlib.Core.Path.{_≡_, refl, sym, _∙_, ap, ap₂, subst}
 use native.Mathlib.Omega.{arith}
 use borrow.Author.Tests.{ltb-false}
 use lib.Dec.{ltb}
-use lib.ListN.{length, getD, take, replicate, length-append}
+use lib.ListN.{length, take, replicate, length-append}
 use lib.Seq.{getD-take, take-append-seam, ext-getD, length-take-le}
 use Rattle.closure.specs.declared.Layers.{Layers}
 use Rattle.combinators.specs.Below.{seek-first}
 use Rattle.combinators.specs.Bools.{neither-left, neither-right}
 use Rattle.combinators.specs.Padding.{padTo}
 use Rattle.rows.specs.Table.{Table, rowsIn}
-use Rattle.vocabulary.specs.declared.refusal.Refusal.{Refusal}
 use Rattle.vocabulary.specs.declared.refusal.Refusal.the-variants.{Unpaired, UsedTwice, SpanTooWide, NoRoom}
 use Rattle.assembling.specs.Assemblies.{edgesOf}
 use Rattle.assembling.specs.Index.{Starts, Order, Ready}
@@ -22,7 +21,7 @@ use Rattle.claims.specs.Claims.{claimed}
 use Rattle.claims.specs.Marks.{Stands}
 use Rattle.spans.specs.Spans.{wideSpan}
 use Rattle.heads.specs.declared.Judged.{Judged}
-use Rattle.heads.specs.Units.{Frame, frame, unpaired, shares, firstUnpaired, firstShared, unitsIn}
+use Rattle.heads.specs.Units.{Frame, frame, unpaired, shares, firstUnpaired, firstShared}
 use Rattle.heads.specs.Judging.{Whole, Kept, Judges}
 use Rattle.heads.specs.Orderly.{Orderly, Framed}
 use Rattle.heads.proofs.Orderly.{ready}

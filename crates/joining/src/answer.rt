@@ -1,6 +1,6 @@
 // Joining in two steps, the closure of the target and then the table over it: the units, the room, and the lists.
 ghost use mathlib.Core.Path.{_≡_};
-ghost use Prim.Native.Nat.{ℕ, _≤_};
+ghost use Prim.Native.Nat.{ℕ};
 ghost use lib.ListN.{length};
 ghost use Rattle.rows.specs.Table.{table, mostRows};
 ghost use Rattle.assembling.specs.Index.{Starts, Order};

@@ -25,7 +25,7 @@ use Rattle.spans.specs.Meaning.{ClosureRow}
 use Rattle.heads.specs.Units.{Frame, isHead, assemblyOf, unitOf, lagsOf}
 use Rattle.heads.specs.Meaning.{AssemblesOwn}
 use Rattle.heads.specs.Orderly.{Orderly, Framed}
-use Rattle.heads.proofs.Gathered.{gathered-in}
+use Rattle.heads.proofs.Gathers.{gathered-in}
 use Rattle.heads.proofs.Meant.{head-meant, head-only, unit-meant, unit-only}
 use Rattle.unit_lists.specs.Sequence.{headsOfLayer, headsByLayer, headsInOrder}
 use Rattle.unit_lists.specs.Meaning.{ComesBefore, HeadsInOrder, UnitsOf, no-unit, next-unit}

@@ -1,10 +1,9 @@
 -- `heads::any_used` meets its contract. The invariant: what is left of the unit has a used row exactly where the whole unit has
 -- (Marking). The measure is the number of members left. Assumes nothing.
 use Prim.Native.Nat.{_<_}
-use mathlib.Core.Path.{_≡_, refl, sym, _∙_}
 use native.Mathlib.Omega.{arith}
 use borrow.Author.Needs.{needs}
-use lib.ListN.{length, getD}
+use lib.ListN.{length}
 use Rattle.assembling.specs.Assemblies.{membersOf}
 use Rattle.heads.proofs.Marking.{Looking, looking-start, looking-end, used-here, unused-here, here-looked, small-layer, less-left}
 use Rattle.heads.proofs.any_used.Statement.{statement}

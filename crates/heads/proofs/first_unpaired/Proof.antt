@@ -1,7 +1,7 @@
 -- `heads::first_unpaired` meets its contract. The invariant: none of the rows so far is a head without an assembly. The measure is
 -- the number of rows left. Assumes nothing.
 use Prim.Native.Nat.{ℕ, _-_, _<_}
-use mathlib.Core.Bool.{Bool, true, false}
+use mathlib.Core.Bool.{true, false}
 use mathlib.Core.List.{[]}
 use mathlib.Core.Logic.{⊎-elim}
 use mathlib.Core.Path.{_≡_, refl, sym, _∙_}

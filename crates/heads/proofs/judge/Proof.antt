@@ -1,7 +1,7 @@
 -- `heads::judge` meets its contract. The invariant, what is known after some rows, and each turn are in Claiming. The measure is the
 -- number of rows left. Assumes nothing.
 use Prim.Native.Nat.{ℕ, _+_, _-_, _≤_, _<_}
-use mathlib.Core.Bool.{Bool, true, false}
+use mathlib.Core.Bool.{true, false}
 use mathlib.Core.List.{List}
 use mathlib.Core.Logic.{⊎-elim}
 use mathlib.Core.Path.{_≡_, refl, sym, _∙_, ap, subst}
@@ -18,7 +18,7 @@ use Rattle.heads.specs.Units.{Frame, frame, isHead, ownOf, assemblyOf, u
 use Rattle.heads.specs.Judging.{Placed, cleared, marked}
 use Rattle.heads.proofs.Tested.{head-tested, head-layer}
 use Rattle.heads.proofs.Kept.{unit-length, unit-size, cleared-again}
-use Rattle.heads.proofs.Claiming.{Walked, walked-start, walked-other, no-assembly, chosen, paired-on, is-shared, unit-fits, unit-room, length-marked, walked-head, stopped, stopped-sharing, walked-end}
+use Rattle.heads.proofs.Claiming.{Walked, walked-start, walked-other, no-assembly, chosen, paired-on, is-shared, unit-fits, length-marked, walked-head, stopped, stopped-sharing, walked-end}
 use Rattle.heads.proofs.judge.Statement.{statement}
 use Rattle.heads.proofs.judge.Tie as tie
 

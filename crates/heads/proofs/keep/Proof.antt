@@ -1,10 +1,9 @@
 -- `heads::keep` meets its contract. The invariant, what is left of the unit marked and kept from here on, and each turn are in Marking.
 -- The measure is the number of members left. Assumes nothing.
-use Prim.Native.Nat.{_+_, _≤_, _<_}
-use mathlib.Core.Path.{_≡_, refl, sym, _∙_, ap}
+use Prim.Native.Nat.{_<_}
 use native.Mathlib.Omega.{arith}
 use borrow.Author.Needs.{needs}
-use lib.ListN.{length, getD}
+use lib.ListN.{length}
 use Rattle.assembling.specs.Assemblies.{membersOf}
 use Rattle.heads.proofs.Marking.{Keeping, keeping-start, keeping-more, row-before, here-own, place-inside, all-cleared, all-marked, all-kept, small-layer, less-left}
 use Rattle.heads.proofs.keep.Statement.{statement}

@@ -2,17 +2,16 @@
 -- as long as it was. Assumes nothing.
 use Prim.Native.Nat.{_≤_}
 use mathlib.Core.Bool.{false}
-use mathlib.Core.Path.{_≡_, refl, sym, _∙_}
+use mathlib.Core.Path.{_≡_, refl, sym, _∙_, ap}
 use native.Mathlib.Omega.{arith}
 use borrow.Author.Needs.{needs}
 use lib.ListN.{length}
 use Rattle.rows.specs.Table.{Table, table}
 use Rattle.spans.specs.Spans.{wideSpan}
 use Rattle.heads.specs.Units.{Frame, frame}
-use Rattle.heads.specs.Judging.{Kept}
-use Rattle.unit_lists.specs.Sequence.{Lists, lists}
+use Rattle.unit_lists.specs.Sequence.{unitRows, unitSizes, Lists, lists}
 use Rattle.unit_lists.proofs.Written.{writable, written}
-use Rattle.joining.specs.Joining.{Room, closureRows, roomOf}
+use Rattle.joining.specs.Joining.{closureRows, tooSmall, roomOf}
 use Rattle.joining.proofs.Rooms.{rows-fit, sizes-fit}
 use Rattle.joining.proofs.Answering.{index-ready, whole-frame, unpaired-answer, shared-answer, wide-answer, room-answer, units-answer, paired-first, apart-first, held, Enough, enough}
 use Rattle.joining.proofs.answer.join_framed.Statement.{statement}
@@ -34,7 +33,7 @@ narrow : (c : tie.Else3) → wideSpan (tableIn (c .before .before .before .befor
 narrow c = sym (c .before .before .before .measure .ensures .1) ∙ c .if3 .left
 
 room-there : (c : tie.Else4) → Enough (roomOf (before (c .before .before .before .before .before .before .before .before .before .before .before .before .before .before .before .before .before .before))) (closureRows (tableIn (c .before .before .before .before .before .before .before .before .before .before .before .before .before .before .before .before .before .before)) (c .before .before .before .before .before .before .before .before .before .before .before .before .before .before .before .before .before .before .before .before .before .before .before .before .before .before .before .before .before .before .before .before .before .before .before .before .args .closure))
-room-there c = enough (roomOf (before (c .before .before .before .before .before .before .before .before .before .before .before .before .before .before .before .before .before .before))) _ (sym (c .before .too-small .ensures ∙ mathlib.Core.Path.ap (Rattle.joining.specs.Joining.tooSmall (roomOf (before (c .before .before .before .before .before .before .before .before .before .before .before .before .before .before .before .before .before .before)))) (c .before .before .closure-rows .ensures)) ∙ c .if4 .left)
+room-there c = enough (roomOf (before (c .before .before .before .before .before .before .before .before .before .before .before .before .before .before .before .before .before .before))) _ (sym (c .before .too-small .ensures ∙ ap (tooSmall (roomOf (before (c .before .before .before .before .before .before .before .before .before .before .before .before .before .before .before .before .before .before)))) (c .before .before .closure-rows .ensures)) ∙ c .if4 .left)
 
 -- ---- the needs
 
@@ -140,9 +139,9 @@ write-units-requires c κs =
     let paired = paired-first t f room _ _ _ found (c .before .before .before .before .before .before .before .before .before .before .before .before .before .before .before .before .before .before .if1 .left) in
     let apart = apart-first t f room _ _ _ found (c .before .before .before .before .before .before .before .before .before .before .before .before .before .before .before .before .before .before .if1 .left) (c .before .before .before .before .before .before .before .before .before .before .before .before .before .before .before .before .if2 .left) in
     let places = room-there (c .before .before .before .before .before .before .before .before) in
-    let few : length (Rattle.unit_lists.specs.Sequence.unitRows t f) ≤ closureRows t (c .before .before .before .before .before .before .before .before .before .before .before .before .before .before .before .before .before .before .before .before .before .before .before .before .before .before .before .before .before .before .before .before .before .before .before .before .before .before .before .before .before .before .before .before .args .closure) =
+    let few : length (unitRows t f) ≤ closureRows t (c .before .before .before .before .before .before .before .before .before .before .before .before .before .before .before .before .before .before .before .before .before .before .before .before .before .before .before .before .before .before .before .before .before .before .before .before .before .before .before .before .before .before .before .before .args .closure) =
     rows-fit (known .layers) (known .target) (c .before .before .before .before .before .before .before .before .before .before .before .before .before .before .before .before .before .before .before .before .before .before .before .before .before .before .before .before .before .before .before .before .before .before .before .before .before .before .before .before .before .before .before .before .args .closure) t (known .orderly) f (known .framed) paired apart in
-    let few-sizes : length (Rattle.unit_lists.specs.Sequence.unitSizes t f) ≤ closureRows t (c .before .before .before .before .before .before .before .before .before .before .before .before .before .before .before .before .before .before .before .before .before .before .before .before .before .before .before .before .before .before .before .before .before .before .before .before .before .before .before .before .before .before .before .before .args .closure) =
+    let few-sizes : length (unitSizes t f) ≤ closureRows t (c .before .before .before .before .before .before .before .before .before .before .before .before .before .before .before .before .before .before .before .before .before .before .before .before .before .before .before .before .before .before .before .before .before .before .before .before .before .before .before .before .before .before .before .before .args .closure) =
     sizes-fit (known .layers) (known .target) (c .before .before .before .before .before .before .before .before .before .before .before .before .before .before .before .before .before .before .before .before .before .before .before .before .before .before .before .before .before .before .before .before .before .before .before .before .before .before .before .before .before .before .before .before .args .closure) t (known .orderly) f (known .framed) in
     writable t f _ _ (held t f room _ _ _ found (c .before .before .before .before .before .before .before .before .before .before .before .before .before .before .before .before .before .before .if1 .left) (c .before .before .before .before .before .before .before .before .before .before .before .before .before .before .before .before .if2 .left)) (known .layers) (known .target) (known .orderly) (narrow (c .before .before .before .before .before .before .before .before .before .before .before)) _ _ (c .before .before .before .before .before .before .before .before .before .before .before .before .before .before .before .before .before .before .before .before .before .before .before .before .before .before .before .before .before .before .before .before .before .before .before .before .before .before .before .before .before .before .before .before .pre .1) (c .before .before .before .before .before .before .before .before .before .before .before .before .before .before .before .before .before .before .before .before .before .before .before .before .before .before .before .before .before .before .before .before .before .before .before .before .before .before .before .before .before .before .before .before .pre .2) _ _
     (c .before .before .before .before .before .before .before .before .before .before .before .before .before .before .before .before .before .before .before .before .before .before .before .before .before .before .before .before .before .before .before .before .before .before .before .before .before .before .before .before .before .before .before .before .pre .3 .for-keys) (c .before .before .before .before .before .before .before .before .before .before .before .before .before .before .measure .ensures .0) (c .before .before .before .before .before .before .before .before .before .before .before .before .before .before .before .before .before .before .before .before .before .before .before .before .before .before .before .before .before .before .before .before .before .before .before .before .before .before .before .before .before .before .before .before .pre .3 .for-claimed) _ _ _ _ (c .before .before .before .before .before .before .before .before .before .before .before .before .before .before .before .before .before .before .before .before .before .before .before .before .before .before .before .before .before .before .before .before .before .before .before .before .before .before .before .before .before .before .before .before .pre .3 .for-heads) (omega (arith, few, places .for-numbers)) (omega (arith, few, places .for-lags))

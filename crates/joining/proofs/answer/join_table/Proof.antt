@@ -1,8 +1,7 @@
 -- `joining::answer::join_table` meets its contract: each arm is a case of the definition by the verdict on the table.
 -- Assumes nothing.
-use mathlib.Core.Path.{_≡_, refl, sym, _∙_, ap}
+use mathlib.Core.Path.{refl, sym, _∙_, ap}
 use borrow.Author.Needs.{needs}
-use lib.ListN.{length}
 use Rattle.rows.specs.Table.{Table, table}
 use Rattle.rows.proofs.Verdicts.{sound, shape-short}
 use Rattle.heads.proofs.Orderly.{orderly-by}
