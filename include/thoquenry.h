@@ -28,10 +28,10 @@ extern "C" {
 /*
  * The version of this header, and the same as one number: 10,000 times the first part, 100 times the second, and the third. While the first
  * part is 0, a change by which a program that was built before would misread an answer raises the second, and after that the first; the
- * shared object's name goes with it (libthoquenry.so.0.4).
+ * shared object's name goes with it (libthoquenry.so.0.5).
  */
-#define THQ_VERSION "0.4.0"
-#define THQ_VERSION_NUMBER 400
+#define THQ_VERSION "0.5.0"
+#define THQ_VERSION_NUMBER 500
 
 /* The version of the library that is linked, as such a number. */
 uint64_t thq_version(void);

@@ -23,7 +23,7 @@ __all__ = [
     "Component", "Entry", "Extension", "Header", "Hierarchy", "Implied", "Number", "Reading", "Refused", "Row", "Times", "Units",
     "closure", "import_", "join", "join_long", "read_loop", "read_times", "write_loop", "write_times",
 ]
-__version__ = "0.4.0"
+__version__ = "0.5.0"
 
 _LIBRARY = load()
 

@@ -78,8 +78,8 @@ DECLARATIONS = {
 
 # The name under which programs ask for the shared object, and the versions that have it: 10,000 times the first part of the version and 100
 # times the second.
-_SONAME = "libthoquenry.so.0.4"
-_FITTING = range(400, 500)
+_SONAME = "libthoquenry.so.0.5"
+_FITTING = range(500, 600)
 
 _REMEDY = f"""Build it with scripts/build-library in a clone of its repository, install it there with scripts/install (or its Debian package), so
 that the system finds {_SONAME}, or name the file by the environment's THOQUENRY_SO."""

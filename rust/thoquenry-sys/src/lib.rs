@@ -11,7 +11,7 @@
 compile_error!("libthoquenry is for x86-64 Linux");
 
 /// The version of the header that these are the declarations of; [`thq_version`] gives the library's.
-pub const THQ_VERSION_NUMBER: u64 = 400;
+pub const THQ_VERSION_NUMBER: u64 = 500;
 
 /// The readings.
 pub const THQ_2009: u64 = 2009;
