@@ -1,2 +1,5 @@
 pub mod Kept
 pub mod Walk
+pub mod Named
+pub mod Places
+pub mod Meant
