@@ -44,11 +44,11 @@ use Rattle.stereo_set.specs.declared.set.StereoRead.{StereoRead}
 use Rattle.stereo_set.specs.Views.{indexIn, isBaseLayer, isSecondLayer, isLayerView, layersAmong}
 use Rattle.stereo_set.specs.Set.{refusedSet, acceptedSet, rangesJudged, foundJudged, describedSet, arranged, setOf}
 use Rattle.stereo_set.specs.Reading.{infoOf, viewOf, viewsOf, stereoBy, stereoRead}
-use Rattle.stereo_set.specs.Meaning.{Accepts, answered, LayerAt, LayerOf, TwoLayers, Answers, loop-refused, not-the-two, wrong-extension, wrong-ranges, a-set}
-use Rattle.stereo_set.proofs.Named.{base-names, second-names}
-use Rattle.stereo_set.proofs.Places.{LayerPlace, OnePlace, TwoPlaces, ThreePlaces, Placed, no-place, one-place, two-places, more-places, placed}
+use Rattle.stereo_set.specs.Meaning.{Accepts, answered, InfoAt, StereoLayers, Answers, loop-refused, not-the-two, wrong-extension, wrong-ranges, a-set}
+use Rattle.stereo_set.specs.Two.{LayerAt, LayerOf, TwoLayers}
+use Rattle.stereo_set.proofs.Judged.{Fine, entriesIn, judged-by, SetCase, no-set, the-set, set-case}
 
--- ---- a layer as it is looked at, and as it is meant
+-- ---- the layers of a loop's entries, as they are looked at and as they are answered
 
 module _ (items : List Item) where
   abbrev streams : List Stream
@@ -57,240 +57,109 @@ module _ (items : List Item) where
   abbrev pair : Bool
   pair = pairOf (map (streamOf Edition2015) items)
 
-  -- what is looked at of a layer
-  abbrev seenAs : Entry → List ℕ → View
-  seenAs e info = record { entry = e; found = extensionIn info }
-
-  entry-there : {k : ℕ} {x : Item} → Nth items k x → Nth (answered items) k (entryOf (markedStream pair (streamOf Edition2015 x)))
-  entry-there n = nth-map entryOf (nth-map (markedStream pair) (nth-map (streamOf Edition2015) n))
-
-  layer-place : {k : ℕ} {e : Entry} {info : List ℕ} → LayerAt items k e info → LayerPlace (viewsOf items) k (seenAs e info)
-  layer-place {k} {e} {info} l =
-      let item : Item = whole (l .head) info in
-      let same : entryOf (markedStream pair (streamOf Edition2015 item)) ≡ e = nth-one (entry-there (l .item)) (l .entry) in
-      record {
-        stands = subst (λ (x : Entry). Nth (viewsOf items) k (seenAs x info)) same (nth-map (viewOf pair) (l .item));
-        layer = l .layer;
-      }
-
-  record PlaceLayer (k : ℕ) (v : View) : Type 0 where
-    pub info : List ℕ
-    pub found : v .found ≡ extensionIn info
-    pub layer : LayerAt items k (v .entry) info
-
-  place-layer : {k : ℕ} {v : View} → LayerPlace (viewsOf items) k v → PlaceLayer k v
-  place-layer {k} {v} p = go (nth-of-map (viewOf pair) items (p .stands))
+  -- the entries that are looked at are those that are answered
+  same-entries : entriesIn (viewsOf items) ≡ answered items
+  same-entries = go items
     where
-      by-item : (x : Item) → Nth items k x → viewOf pair x ≡ v → PlaceLayer k v
-      by-item broken n e = apart (ap isLayerView e ∙ p .layer)
-      by-item (whole head info) n e =
+      go : (l : List Item) → map (λ (v : View). v .entry) (map (viewOf pair) l) ≡ map entryOf (map (markedStream pair) (map (streamOf Edition2015) l))
+      go [] = refl
+      go (x ∷ xs) = ap (λ (es : List Entry). entryOf (markedStream pair (streamOf Edition2015 x)) ∷ es) (go xs)
+
+  -- where no number applies, none is refused with 6 or 9
+  fine-there : ((n k : ℕ) → n < 10 → k < length streams → applies streams n k ≡ false) → (k : ℕ) (e : Entry) → Nth (entriesIn (viewsOf items)) k e → Fine e
+  fine-there none k e n = go (nth-of-map entryOf streams (subst (λ (l : List Entry). Nth l k e) same-entries n))
+    where
+      go : (s : Stream) × Nth streams k s × (entryOf s ≡ e) → Fine e
+      go (s, at, is) =
+          let same : entryOf (streamAt streams k) ≡ e = ap entryOf (nth-getD noStream at) ∙ is in
           record {
-            info = info;
-            found = sym (ap (λ (w : View). w .found) e);
-            layer = record {
-              head = head;
-              item = n;
-              entry = subst (λ (w : View). Nth (answered items) k (w .entry)) e (entry-there n);
-              layer = p .layer;
-            };
+            given = givenAt streams k;
+            six = sym (ap (λ (x : Entry). typeNotAllowed (givenAt streams k) (x .«stream_type») (x .«record»)) same) ∙ none 6 k (omega arith) (nth-inside at);
+            nine = sym (ap (λ (x : Entry). wrongEmbedded (x .«stream_type») (x .«record») (x .embedded)) same) ∙ none 9 k (omega arith) (nth-inside at);
           }
 
-      go : (x : Item) × Nth items k x × (viewOf pair x ≡ v) → PlaceLayer k v
-      go (x, n, e) = by-item x n e
+  -- a layer that is looked at, with its descriptor bytes
+  record Looked (k : ℕ) (v : View) : Type 0 where
+    pub info : List ℕ
+    pub at-place : InfoAt items k info
+    pub found : v .found ≡ extensionIn info
 
-  -- ---- the two layers are the only layers
+  looked : {k : ℕ} {v : View} → Nth (viewsOf items) k v → isLayer (v .entry .«record») ≡ true → Looked k v
+  looked {k} {v} n layer = go (nth-of-map (viewOf pair) items n)
+    where
+      by-item : (x : Item) → Nth items k x → viewOf pair x ≡ v → Looked k v
+      by-item broken at e = apart (ap (λ (w : View). isLayer (w .entry .«record»)) e ∙ layer)
+      by-item (whole head info) at e =
+          record { info = info; at-place = record { head = head; item = at }; found = sym (ap (λ (w : View). w .found) e) }
 
-  module _ {base second : Entry} {baseInfo secondInfo : List ℕ} (two : TwoLayers items base second baseInfo secondInfo) where
-    abbrev at-base : LayerPlace (viewsOf items) (two .base-place) (seenAs base baseInfo)
-    at-base = layer-place (two .is-base .stands)
+      go : (x : Item) × Nth items k x × (viewOf pair x ≡ v) → Looked k v
+      go (x, at, e) = by-item x at e
 
-    abbrev at-second : LayerPlace (viewsOf items) (two .second-place) (seenAs second secondInfo)
-    at-second = layer-place (two .is-second .stands)
+  two-answered : {base second : Entry} → TwoLayers (entriesIn (viewsOf items)) base second → TwoLayers (answered items) base second
+  two-answered {base} {second} two = subst (λ (l : List Entry). TwoLayers l base second) same-entries two
 
-    places-differ : two .base-place ≡ two .second-place → ⊥
-    places-differ e =
-        let same : base ≡ second =
-        nth-one (subst (λ (k : ℕ). Nth (answered items) k base) e (two .is-base .stands .entry)) (two .is-second .stands .entry) in
-        let types : _≡_ {A = ℕ} 0x1B 0x20 = sym (two .is-base .type) ∙ ap (λ (x : Entry). x .«stream_type») same ∙ two .is-second .type in
-        omega arith
+  two-looked : {base second : Entry} → TwoLayers (answered items) base second → TwoLayers (entriesIn (viewsOf items)) base second
+  two-looked {base} {second} two = subst (λ (l : List Entry). TwoLayers l base second) (sym same-entries) two
 
-    no-other-place : (i : ℕ) (v : View) → LayerPlace (viewsOf items) i v → (i ≡ two .base-place) ⊎ (i ≡ two .second-place)
-    no-other-place i v p = let l = place-layer p in two .no-other i (v .entry) (l .info) (l .layer)
+  -- THE SET IS JUDGED by the two layers that are meant.
+  pub judged-by-two : {base second : Entry} {baseInfo secondInfo : List ℕ} → StereoLayers items base second baseInfo secondInfo
+      → setOf (layersAmong (viewsOf items)) ≡ foundJudged base (extensionIn baseInfo) second (extensionIn secondInfo)
+  judged-by-two {base} {second} {baseInfo} {secondInfo} s =
+      let two = s .two in
+      let a : View = viewOf pair (whole (s .base-info .head) baseInfo) in
+      let b : View = viewOf pair (whole (s .second-info .head) secondInfo) in
+      let is-base : a .entry ≡ base = nth-one (there (s .base-info .item)) (two .is-base .stands .entry) in
+      let is-second : b .entry ≡ second = nth-one (there (s .second-info .item)) (two .is-second .stands .entry) in
+      by two (nth-map (viewOf pair) (s .base-info .item)) (nth-map (viewOf pair) (s .second-info .item))
+      ∙ ap (λ (e : Entry). foundJudged e (extensionIn baseInfo) (b .entry) (extensionIn secondInfo)) is-base
+      ∙ ap (λ (e : Entry). foundJudged base (extensionIn baseInfo) e (extensionIn secondInfo)) is-second
+    where
+      there : {k : ℕ} {x : Item} → Nth items k x → Nth (answered items) k (entryOf (markedStream pair (streamOf Edition2015 x)))
+      there n = nth-map entryOf (nth-map (markedStream pair) (nth-map (streamOf Edition2015) n))
 
-    base-test : isBaseLayer base ≡ true
-    base-test = rw (two .is-base .type) (eq-eqb (indexOf 0x1B (base .«record»)) 0 (sym (ap (λ (t : ℕ). indexOf t (base .«record»)) (two .is-base .type)) ∙ two .is-base .indexed))
+      -- the same places in what is looked at
+      by : (two : TwoLayers (answered items) base second) {a b : View} → Nth (viewsOf items) (two .base-place) a → Nth (viewsOf items) (two .second-place) b
+          → setOf (layersAmong (viewsOf items)) ≡ describedSet a b
+      by two {a} {b} n m = judged-by (viewsOf items) (moved two) n m
+        where
+          moved : TwoLayers (answered items) base second → TwoLayers (entriesIn (viewsOf items)) base second
+          moved t =
+              record {
+                base-place = t .base-place;
+                second-place = t .second-place;
+                is-base = subst (λ (l : List Entry). LayerOf l (t .base-place) 0x1B 0 [] base) (sym same-entries) (t .is-base);
+                is-second = subst (λ (l : List Entry). LayerOf l (t .second-place) 0x20 1 (0 ∷ []) second) (sym same-entries) (t .is-second);
+                no-other = λ k e l. t .no-other k e (subst (λ (es : List Entry). LayerAt es k e) same-entries l);
+              }
 
-    second-test : isSecondLayer second ≡ true
-    second-test = rw (two .is-second .type) (eq-eqb (indexOf 0x20 (second .«record»)) 1 (sym (ap (λ (t : ℕ). indexOf t (second .«record»)) (two .is-second .type)) ∙ two .is-second .indexed))
+  -- what the layers of a loop that is accepted come to
+  pub data LoopCase : StereoRead → Type 0 where
+    no-set-there : ((base second : Entry) → TwoLayers (answered items) base second → ⊥) → LoopCase (refusedSet NotStereoSet)
+    a-set-there : {base second : Entry} {baseInfo secondInfo : List ℕ} → StereoLayers items base second baseInfo secondInfo
+        → LoopCase (foundJudged base (extensionIn baseInfo) second (extensionIn secondInfo))
 
-    -- the second is no base
-    second-not-base : isBaseLayer second ≡ false
-    second-not-base = rw (two .is-second .type)
-
-    one-view : {i j : ℕ} {v w : View} → LayerPlace (viewsOf items) i v → LayerPlace (viewsOf items) j w → i ≡ j → v ≡ w
-    one-view {v = v} a b e = nth-one (subst (λ (k : ℕ). Nth (viewsOf items) k v) e (a .stands)) (b .stands)
-
-    -- SO THAT THE SET IS JUDGED BY THEM.
-    pub judged-by : setOf (layersAmong (viewsOf items)) ≡ foundJudged base (extensionIn baseInfo) second (extensionIn secondInfo)
-    judged-by = go (layersAmong (viewsOf items)) (placed (viewsOf items))
-      where
-        answer : StereoRead
-        answer = foundJudged base (extensionIn baseInfo) second (extensionIn secondInfo)
-
-        base-first : arranged (seenAs base baseInfo) (seenAs second secondInfo) ≡ answer
-        base-first = rw (base-test, second-test)
-
-        second-first : arranged (seenAs second secondInfo) (seenAs base baseInfo) ≡ answer
-        second-first = rw (second-not-base, base-test, second-test)
-
-        both : {a b : View} → TwoPlaces (viewsOf items) a b → arranged a b ≡ answer
-        both {a} {b} t = by (no-other-place (t .first) a (t .at-first)) (no-other-place (t .second) b (t .at-second))
-          where
-            by : (t .first ≡ two .base-place) ⊎ (t .first ≡ two .second-place) → (t .second ≡ two .base-place) ⊎ (t .second ≡ two .second-place)
-                → arranged a b ≡ answer
-            by (inl p) (inl q) = absurd (let h = t .order in omega arith)
-            by (inl p) (inr q) =
-                ap (λ (v : View). arranged v b) (one-view (t .at-first) at-base p) ∙ ap (arranged (seenAs base baseInfo)) (one-view (t .at-second) at-second q) ∙ base-first
-            by (inr p) (inl q) =
-                ap (λ (v : View). arranged v b) (one-view (t .at-first) at-second p) ∙ ap (arranged (seenAs second secondInfo)) (one-view (t .at-second) at-base q) ∙ second-first
-            by (inr p) (inr q) = absurd (let h = t .order in omega arith)
-
-        never : ThreePlaces (viewsOf items) → ⊥
-        never t =
-            by (no-other-place (t .first) (t .a) (t .at-first)) (no-other-place (t .second) (t .b) (t .at-second)) (no-other-place (t .third) (t .c) (t .at-third))
-            (t .order) (t .later)
-          where
-            by : {i j k m n : ℕ} → (i ≡ m) ⊎ (i ≡ n) → (j ≡ m) ⊎ (j ≡ n) → (k ≡ m) ⊎ (k ≡ n) → i < j → j < k → ⊥
-            by (inl p) (inl q) r h l = omega arith
-            by (inl p) (inr q) (inl r) h l = omega arith
-            by (inl p) (inr q) (inr r) h l = omega arith
-            by (inr p) (inl q) (inl r) h l = omega arith
-            by (inr p) (inl q) (inr r) h l = omega arith
-            by (inr p) (inr q) r h l = omega arith
-
-        go : (ls : List View) → Placed (viewsOf items) ls → setOf ls ≡ answer
-        go [] (no-place f) = absurd (f (two .base-place) (seenAs base baseInfo) at-base)
-        go (a ∷ []) (one-place o) =
-            absurd (places-differ (o .only (two .base-place) (seenAs base baseInfo) at-base ∙ sym (o .only (two .second-place) (seenAs second secondInfo) at-second)))
-        go (a ∷ b ∷ []) (two-places t) = both t
-        go (a ∷ b ∷ c ∷ others) (more-places t) = absurd (never t)
-
-  -- ---- what the layers of a loop that is accepted come to
-
-  pub data SetCase : StereoRead → Type 0 where
-    no-set : ((base second : Entry) (baseInfo secondInfo : List ℕ) → TwoLayers items base second baseInfo secondInfo → ⊥) → SetCase (refusedSet NotStereoSet)
-    the-set : {base second : Entry} {baseInfo secondInfo : List ℕ} → TwoLayers items base second baseInfo secondInfo
-        → SetCase (foundJudged base (extensionIn baseInfo) second (extensionIn secondInfo))
-
-  module _ (none : (n k : ℕ) → n < 10 → k < length streams → applies streams n k ≡ false) where
-    -- what is answered at a place is not refused there
-    record Fine (e : Entry) : Type 0 where
-      pub given : Bool
-      pub six : typeNotAllowed given (e .«stream_type») (e .«record») ≡ false
-      pub nine : wrongEmbedded (e .«stream_type») (e .«record») (e .embedded) ≡ false
-
-    fine : {k : ℕ} {e : Entry} → Nth (answered items) k e → Fine e
-    fine {k} {e} n = go (nth-of-map entryOf streams n)
-      where
-        go : (s : Stream) × Nth streams k s × (entryOf s ≡ e) → Fine e
-        go (s, at, is) =
-            let same : entryOf (streamAt streams k) ≡ e = ap entryOf (nth-getD noStream at) ∙ is in
-            record {
-              given = givenAt streams k;
-              six = sym (ap (λ (x : Entry). typeNotAllowed (givenAt streams k) (x .«stream_type») (x .«record»)) same) ∙ none 6 k (omega arith) (nth-inside at);
-              nine = sym (ap (λ (x : Entry). wrongEmbedded (x .«stream_type») (x .«record») (x .embedded)) same) ∙ none 9 k (omega arith) (nth-inside at);
-            }
-
-    -- a layer of this type and index names these layers
-    layer-of : (t index : ℕ) (names : List ℕ)
-        → ((f : Bool) (x : Entry) → isLayer (x .«record») ≡ true → indexOf t (x .«record») ≡ index → typeNotAllowed f t (x .«record») ≡ false
-        → wrongEmbedded t (x .«record») (x .embedded) ≡ false → named t (x .«record») (x .embedded) ≡ names)
-        → {k : ℕ} {v : View} (p : PlaceLayer k v) → eqb (v .entry .«stream_type») t && eqb (indexIn (v .entry)) index ≡ true
-        → LayerOf items k t index names (v .entry) (p .info)
-    layer-of t index names named-so {k} {v} p e =
-        let x : Entry = v .entry in
-        let is-type : x .«stream_type» ≡ t = eqb-true (x .«stream_type») t (both-left (eqb (x .«stream_type») t) (eqb (indexIn x) index) e) in
-        let is-index : indexIn x ≡ index = eqb-true (indexIn x) index (both-right (eqb (x .«stream_type») t) (eqb (indexIn x) index) e) in
-        let f = fine (p .layer .entry) in
-        record {
-          stands = p .layer;
-          type = is-type;
-          indexed = is-index;
-          rests-on = ap (λ (u : ℕ). named u (x .«record») (x .embedded)) is-type
-              ∙ named-so (f .given) x (p .layer .layer) (sym (ap (λ (u : ℕ). indexOf u (x .«record»)) is-type) ∙ is-index)
-              (sym (ap (λ (u : ℕ). typeNotAllowed (f .given) u (x .«record»)) is-type) ∙ f .six)
-              (sym (ap (λ (u : ℕ). wrongEmbedded u (x .«record») (x .embedded)) is-type) ∙ f .nine);
-        }
-
-    -- two layers of these types and indices, and no other
-    the-two : {j k : ℕ} {v w : View} (p : PlaceLayer j v) (q : PlaceLayer k w) → isBaseLayer (v .entry) ≡ true → isSecondLayer (w .entry) ≡ true
-        → ((i : ℕ) (u : View) → LayerPlace (viewsOf items) i u → (i ≡ j) ⊎ (i ≡ k)) → TwoLayers items (v .entry) (w .entry) (p .info) (q .info)
-    the-two {j} {k} p q b s only =
-        record {
-          base-place = j;
-          second-place = k;
-          is-base = layer-of 0x1B 0 [] (λ f x l i six nine. base-names f (x .embedded) (x .«record») l i six nine) p b;
-          is-second = layer-of 0x20 1 (0 ∷ []) (λ f x l i six nine. second-names f (x .embedded) (x .«record») l i six nine) q s;
-          no-other = λ i e info l. only i (seenAs e info) (layer-place l);
-        }
-
-    judged-set : {j k : ℕ} {v w : View} (p : PlaceLayer j v) (q : PlaceLayer k w) → isBaseLayer (v .entry) && isSecondLayer (w .entry) ≡ true
-        → ((i : ℕ) (u : View) → LayerPlace (viewsOf items) i u → (i ≡ j) ⊎ (i ≡ k)) → SetCase (describedSet v w)
-    judged-set {v = v} {w = w} p q e only =
-        subst SetCase
-        (sym (ap (λ (f : Found). foundJudged (v .entry) f (w .entry) (w .found)) (p .found) ∙ ap (foundJudged (v .entry) (extensionIn (p .info)) (w .entry)) (q .found)))
-        (the-set (the-two p q (both-left (isBaseLayer (v .entry)) (isSecondLayer (w .entry)) e) (both-right (isBaseLayer (v .entry)) (isSecondLayer (w .entry)) e) only))
-
-    swapped : {i j k : ℕ} → (i ≡ j) ⊎ (i ≡ k) → (i ≡ k) ⊎ (i ≡ j)
-    swapped (inl e) = inr e
-    swapped (inr e) = inl e
-
-    pub set-case : SetCase (setOf (layersAmong (viewsOf items)))
-    set-case = by-two (layersAmong (viewsOf items)) (placed (viewsOf items)) refl
-      where
-        -- where the set is not judged, there are no two such layers
-        unless : (ls : List View) → layersAmong (viewsOf items) ≡ ls → setOf ls ≡ refusedSet NotStereoSet → SetCase (setOf ls)
-        unless ls is e = subst SetCase (sym e) (no-set (λ b s bi si two. other (foundJudged b (extensionIn bi) s (extensionIn si)) (outcomes b s (extensionIn bi) (extensionIn si)) (sym (judged-by two) ∙ ap setOf is ∙ e)))
-          where
-            -- what is judged by two layers is not 44
-            NotFortyFour : Outcome → Type 0
-            NotFortyFour Accepted = Unit {0}
-            NotFortyFour (Refused r) = r ≡ NotStereoSet → ⊥
-
-            forty-five : WrongMvcExtension ≡ NotStereoSet → ⊥
-            forty-five e = let z : _≡_ {A = ℕ} 0 1 = cc in omega arith
-
-            forty-six : RangesMeet ≡ NotStereoSet → ⊥
-            forty-six e = let z : _≡_ {A = ℕ} 0 1 = cc in omega arith
-
-            ranges : (b : Entry) (x : MvcExtension) (s : Entry) (y : MvcExtension) (w : Bool)
-                → NotFortyFour ((cond w (refusedSet RangesMeet) (acceptedSet b x s y)) .outcome)
-            ranges b x s y true = forty-six
-            ranges b x s y false = tt
-
-            outcomes : (b s : Entry) (f g : Found) → NotFortyFour ((foundJudged b f s g) .outcome)
-            outcomes b s Missing g = forty-five
-            outcomes b s (One x) Missing = forty-five
-            outcomes b s (One x) (One y) = ranges b x s y (wrongRanges x y)
-            outcomes b s (One x) Wrong = forty-five
-            outcomes b s Wrong g = forty-five
-
-            other : (a : StereoRead) → NotFortyFour (a .outcome) → a ≡ refusedSet NotStereoSet → ⊥
-            other a n e = subst NotFortyFour (ap (λ (x : StereoRead). x .outcome) e) n refl
-
-        both : (a b : View) → layersAmong (viewsOf items) ≡ a ∷ b ∷ [] → TwoPlaces (viewsOf items) a b → (x y : Bool)
-            → (isBaseLayer (a .entry) && isSecondLayer (b .entry)) ≡ x → (isBaseLayer (b .entry) && isSecondLayer (a .entry)) ≡ y
-            → SetCase (arranged a b)
-        both a b is t true y p q = rw p (judged-set (place-layer (t .at-first)) (place-layer (t .at-second)) p (t .only))
-        both a b is t false true p q =
-            rw (p, q) (judged-set (place-layer (t .at-second)) (place-layer (t .at-first)) q (λ i u l. swapped (t .only i u l)))
-        both a b is t false false p q = unless (a ∷ b ∷ []) is (rw (p, q))
-
-        by-two : (ls : List View) → Placed (viewsOf items) ls → layersAmong (viewsOf items) ≡ ls → SetCase (setOf ls)
-        by-two [] f is = unless [] is refl
-        by-two (a ∷ []) o is = unless (a ∷ []) is refl
-        by-two (a ∷ b ∷ []) (two-places t) is = both a b is t _ _ refl refl
-        by-two (a ∷ b ∷ c ∷ others) m is = unless (a ∷ b ∷ c ∷ others) is refl
+  pub loop-case : ((n k : ℕ) → n < 10 → k < length streams → applies streams n k ≡ false) → LoopCase (setOf (layersAmong (viewsOf items)))
+  loop-case none = go (set-case (viewsOf items) (fine-there none))
+    where
+      go : {r : StereoRead} → SetCase (viewsOf items) r → LoopCase r
+      go (no-set f) = no-set-there (λ base second two. f base second (two-looked two))
+      go (the-set {a} {b} two n m) =
+          let p = looked n (two .is-base .stands .layer) in
+          let q = looked m (two .is-second .stands .layer) in
+          subst LoopCase
+          (sym (ap (λ (f : Found). foundJudged (a .entry) f (b .entry) (b .found)) (p .found) ∙ ap (foundJudged (a .entry) (extensionIn (p .info)) (b .entry)) (q .found)))
+          (a-set-there
+          (record {
+            two = record {
+              base-place = two .base-place;
+              second-place = two .second-place;
+              is-base = subst (λ (l : List Entry). LayerOf l (two .base-place) 0x1B 0 [] (a .entry)) same-entries (two .is-base);
+              is-second = subst (λ (l : List Entry). LayerOf l (two .second-place) 0x20 1 (0 ∷ []) (b .entry)) same-entries (two .is-second);
+              no-other = λ k e l. two .no-other k e (subst (λ (es : List Entry). LayerAt es k e) (sym same-entries) l);
+            };
+            base-info = p .at-place;
+            second-info = q .at-place;
+          }))
 
 -- ---- the answer
 
@@ -329,7 +198,7 @@ module _ (bytes : List ℕ) where
 
   -- the set judged by two layers, in the meaning
   described : {items : List Item} {base second : Entry} {baseInfo secondInfo : List ℕ} → Accepts bytes items
-      → TwoLayers items base second baseInfo secondInfo → Answers bytes (foundJudged base (extensionIn baseInfo) second (extensionIn secondInfo))
+      → StereoLayers items base second baseInfo secondInfo → Answers bytes (foundJudged base (extensionIn baseInfo) second (extensionIn secondInfo))
   described {items} {base} {second} {baseInfo} {secondInfo} a two =
       by (extensionIn baseInfo) (extensionIn secondInfo) (found-meant baseInfo) (found-meant secondInfo)
     where
@@ -349,14 +218,14 @@ module _ (bytes : List ℕ) where
   pub stereo-meant : Answers bytes (stereoRead bytes)
   stereo-meant = by-verdict (verdictOf Edition2015 bytes) refl
     where
-      by-case : Accepts bytes cutItems → {r : StereoRead} → SetCase cutItems r → Answers bytes r
-      by-case a (no-set f) = not-the-two a f
-      by-case a (the-set two) = described a two
+      by-case : Accepts bytes cutItems → {r : StereoRead} → LoopCase cutItems r → Answers bytes r
+      by-case a (no-set-there f) = not-the-two a f
+      by-case a (a-set-there two) = described a two
 
       by-verdict : (v : Verdict) → verdictOf Edition2015 bytes ≡ v → Answers bytes (stereoBy bytes v)
       by-verdict (Refuses r) e =
           loop-refused (subst (Loop.Answers Edition2015 bytes) (ap (answerBy (streamsOf Edition2015 bytes)) e) (answer-meant Edition2015 bytes))
-      by-verdict (Entries count p) e = by-case (accepts-cut count p e) (set-case cutItems (none-applies count p e))
+      by-verdict (Entries count p) e = by-case (accepts-cut count p e) (loop-case cutItems (none-applies count p e))
 
   -- AND NO OTHER ANSWER HAS IT.
   same-refusal : {r q : Refusal} → refusedWith r ≡ refusedWith q → r ≡ q
@@ -367,25 +236,25 @@ module _ (bytes : List ℕ) where
 
   -- a loop that is accepted is judged as a set
   judged-set-of : {items : List Item} → Accepts bytes items
-      → (stereoRead bytes ≡ setOf (layersAmong (viewsOf items))) × SetCase items (setOf (layersAmong (viewsOf items)))
+      → (stereoRead bytes ≡ setOf (layersAmong (viewsOf items))) × LoopCase items (setOf (layersAmong (viewsOf items)))
   judged-set-of {items} a = go (verdictOf Edition2015 bytes) refl
     where
       read : accepted (streams items) ≡ loopRead Edition2015 bytes
       read = answer-only Edition2015 bytes (Loop.accepts (a .short) (a .cuts) (a .sound))
 
       go : (v : Verdict) → verdictOf Edition2015 bytes ≡ v
-          → (stereoRead bytes ≡ setOf (layersAmong (viewsOf items))) × SetCase items (setOf (layersAmong (viewsOf items)))
+          → (stereoRead bytes ≡ setOf (layersAmong (viewsOf items))) × LoopCase items (setOf (layersAmong (viewsOf items)))
       go (Refuses r) e =
           never-accepted (ap (answerBy (streamsOf Edition2015 bytes)) e) (sym (ap (λ (x : LoopRead). x .outcome) read))
       go (Entries count p) e = (
         ap (stereoBy bytes) e ∙ ap (λ (l : List Item). setOf (layersAmong (viewsOf l))) (sym (same-items a)),
-        subst (λ (l : List Item). SetCase l (setOf (layersAmong (viewsOf l)))) (sym (same-items a)) (set-case cutItems (none-applies count p e)),
+        subst (λ (l : List Item). LoopCase l (setOf (layersAmong (viewsOf l)))) (sym (same-items a)) (loop-case cutItems (none-applies count p e)),
       )
 
   -- what is judged by two layers, by what each has
   read-by : {items : List Item} {base second : Entry} {baseInfo secondInfo : List ℕ} → Accepts bytes items
-      → TwoLayers items base second baseInfo secondInfo → stereoRead bytes ≡ foundJudged base (extensionIn baseInfo) second (extensionIn secondInfo)
-  read-by {items} a two = judged-set-of a .0 ∙ judged-by items two
+      → StereoLayers items base second baseInfo secondInfo → stereoRead bytes ≡ foundJudged base (extensionIn baseInfo) second (extensionIn secondInfo)
+  read-by {items} a two = judged-set-of a .0 ∙ judged-by-two items two
 
   pub stereo-only : {answer : StereoRead} → Answers bytes answer → answer ≡ stereoRead bytes
   stereo-only (loop-refused {refusal} l) = go (verdictOf Edition2015 bytes) refl
@@ -398,9 +267,9 @@ module _ (bytes : List ℕ) where
       go (Entries count p) e = never-accepted (sym read) (ap (λ (v : Verdict). (answerBy (streamsOf Edition2015 bytes) v) .outcome) e)
   stereo-only (not-the-two {items} a none) = sym (judged-set-of a .0 ∙ go (judged-set-of a .1))
     where
-      go : {r : StereoRead} → SetCase items r → r ≡ refusedSet NotStereoSet
-      go (no-set f) = refl
-      go (the-set {base} {second} {baseInfo} {secondInfo} two) = absurd (none base second baseInfo secondInfo two)
+      go : {r : StereoRead} → LoopCase items r → r ≡ refusedSet NotStereoSet
+      go (no-set-there f) = refl
+      go (a-set-there {base} {second} {baseInfo} {secondInfo} s) = absurd (none base second (s .two))
   stereo-only (wrong-extension {items} {base} {second} {baseInfo} {secondInfo} a two w) =
       sym (read-by a two ∙ go (extensionIn baseInfo) (extensionIn secondInfo) (found-meant baseInfo) (found-meant secondInfo) w)
     where
