@@ -63,7 +63,7 @@ extension-written x e = writes-meant (extension-proper x) (extension-fit x e)
 
 module _ (e : Entry) where
   -- the head that counts so many bytes more
-  head-more : tooWide e ≡ false → (extra : List ℕ) → length (infoBytes e ++ extra) ≡ length (infoBytes e) + length extra → length extra ≡ 0 ⊎ (length extra ≡ 10)
+  pub head-more : tooWide e ≡ false → (extra : List ℕ) → length (infoBytes e ++ extra) ≡ length (infoBytes e) + length extra → length extra ≡ 0 ⊎ (length extra ≡ 10)
       → Fit entryHead (valuesIn (entryHeadTable (e .«stream_type») (e .pid) (length (infoBytes e ++ extra))))
   head-more fine extra long few =
       let head = bounds (head-fit e fine) in
@@ -122,19 +122,19 @@ each-case {entries} {base} {second} two k e n = go (isLayer (e .«record»)) ref
 
 -- what each is given
 module _ (x y : MvcExtension) (e : Entry) where
-  base-tables : LayerOf (e ∷ []) 0 0x1B 0 [] e → extraTables x y e ≡ mvcExtensionTables x
+  pub base-tables : LayerOf (e ∷ []) 0 0x1B 0 [] e → extraTables x y e ≡ mvcExtensionTables x
   base-tables l =
       let part : isPart e ≡ true =
       rw (l .stands .layer, l .type) (either-left (eqb (indexOf 0x1B (e .«record»)) 0) false (eq-eqb (indexOf 0x1B (e .«record»)) 0 (sym (ap (λ (t : ℕ). indexOf t (e .«record»)) (l .type)) ∙ l .indexed))) in
       ap (λ (b : Bool). cond b (mvcExtensionTables (extensionFor x y (e .«stream_type»))) []) part ∙ ap (λ (t : ℕ). mvcExtensionTables (extensionFor x y t)) (l .type)
 
-  second-tables : LayerOf (e ∷ []) 0 0x20 1 (0 ∷ []) e → extraTables x y e ≡ mvcExtensionTables y
+  pub second-tables : LayerOf (e ∷ []) 0 0x20 1 (0 ∷ []) e → extraTables x y e ≡ mvcExtensionTables y
   second-tables l =
       let part : isPart e ≡ true =
       rw (l .stands .layer, l .type) (eq-eqb (indexOf 0x20 (e .«record»)) 1 (sym (ap (λ (t : ℕ). indexOf t (e .«record»)) (l .type)) ∙ l .indexed)) in
       ap (λ (b : Bool). cond b (mvcExtensionTables (extensionFor x y (e .«stream_type»))) []) part ∙ ap (λ (t : ℕ). mvcExtensionTables (extensionFor x y t)) (l .type)
 
-  no-tables : isLayer (e .«record») ≡ false → extraTables x y e ≡ []
+  pub no-tables : isLayer (e .«record») ≡ false → extraTables x y e ≡ []
   no-tables p = rw p
 
   -- THE BYTES of an entry
