@@ -16,6 +16,8 @@ use Rattle.demands.specs.ForC.{thqReadLoop, thqWriteLoop, thqClosure, th
 use Rattle.demands.specs.JoinsForC.{thqJoin, thqJoinLong, thqImport}
 use Rattle.demands.specs.ForCShown.{thq-loop-read, thq-loop-written, thq-closure-found, thq-times-read, thq-times-written}
 use Rattle.demands.specs.JoinsForCShown.{thq-rows-joined, thq-long-joined, thq-loop-imported}
+use Rattle.demands.specs.Stereo.{thqReadStereo, thqWriteStereo}
+use Rattle.demands.specs.StereoShown.{thq-stereo-read, thq-stereo-written}
 
 pub record Demand-1 : Type 0 where
   -- 1 to 9
@@ -52,6 +54,10 @@ pub record Demand-1 : Type 0 where
   pub thq-join-long : Promised (forC thqJoinLong)
   -- 1 to 9, 11 to 18, 255
   pub thq-import : Promised (forC thqImport)
+  -- 1 to 9, 17, 44 to 46
+  pub thq-read-stereo : Promised (forC thqReadStereo)
+  -- 1, 3, 6 to 9, 17, 25, 44, 46
+  pub thq-write-stereo : Promised (forC thqWriteStereo)
   -- none
   pub others : RefuseNothing
 
@@ -76,5 +82,7 @@ demand-1 =
       thq-join = thq-rows-joined;
       thq-join-long = thq-long-joined;
       thq-import = thq-loop-imported;
+      thq-read-stereo = thq-stereo-read;
+      thq-write-stereo = thq-stereo-written;
       others = refuse-nothing;
     }

@@ -4,6 +4,8 @@ pub mod ForC
 pub mod ForCShown
 pub mod JoinsForC
 pub mod JoinsForCShown
+pub mod Stereo
+pub mod StereoShown
 pub mod Others
 pub mod Demand1
 pub mod Demand2
