@@ -7,7 +7,7 @@ pub(crate) const HIERARCHY_TAG: u8 = 4;
 pub(crate) const EXTENSION_DESCRIPTOR_TAG: u8 = 63;
 const HIERARCHY_EXTENSION_TAG: u8 = 6;
 
-const AVC: u8 = 0x1B;
+pub(crate) const AVC: u8 = 0x1B;
 const SVC: u8 = 0x1F;
 pub(crate) const MVC: u8 = 0x20;
 const HEVC: u8 = 0x24;
