@@ -166,7 +166,16 @@ fn listing(bytes: &[u8]) -> String {
 #[test]
 fn samples() {
     for name in [
-        "absent", "loop-a", "mv-hevc", "mvc", "refused", "sports", "svc", "twelve",
+        "absent",
+        "loop-a",
+        "mv-hevc",
+        "mvc",
+        "refused",
+        "sports",
+        "stereo",
+        "stereo-implied",
+        "svc",
+        "twelve",
     ] {
         let bytes = std::fs::read(format!("{ROOT}samples/{name}.bin")).expect(name);
         same(&listing(&bytes), &file(&format!("tests/layers/{name}.txt")));

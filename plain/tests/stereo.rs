@@ -2,7 +2,7 @@
 
 mod common;
 
-use common::{bytes, file, same};
+use common::{bytes, file, same, ROOT};
 use plain::Reading::{Of2009, Of2015};
 use plain::{Entry, Hierarchy, MvcExtension, Record, Refusal, StereoSet};
 use std::fmt::Write;
@@ -167,4 +167,60 @@ fn accepted_sets() {
     let answers = file("crates/stereo_cases/stdout");
     let accepted = answers.lines().filter(|line| *line == "accepted");
     assert_eq!(count, accepted.count());
+}
+
+/// What `stereo` prints of a loop.
+fn lines(bytes: &[u8]) -> String {
+    match plain::read_stereo(bytes) {
+        Err(Refusal { number, place }) => format!("refused {number} entry {place}\n"),
+        Ok(set) => {
+            let mut text = String::from("accepted 2\n");
+            for (layer, (entry, extension)) in set.entries.iter().zip(set.extensions).enumerate() {
+                writeln!(
+                    text,
+                    "layer {layer} pid {} views {} to {} average {} maximum {}",
+                    entry.pid,
+                    extension.view_order_index_min,
+                    extension.view_order_index_max,
+                    extension.average_bit_rate,
+                    extension.maximum_bitrate
+                )
+                .unwrap();
+            }
+            text
+        }
+    }
+}
+
+#[test]
+fn samples() {
+    for name in [
+        "absent",
+        "loop-a",
+        "mv-hevc",
+        "mvc",
+        "refused",
+        "sports",
+        "stereo",
+        "stereo-implied",
+        "svc",
+        "twelve",
+    ] {
+        let bytes = std::fs::read(format!("{ROOT}samples/{name}.bin")).expect(name);
+        same(&lines(&bytes), &file(&format!("tests/stereo/{name}.txt")));
+    }
+    same(&lines(&[]), &file("tests/stereo/empty.txt"));
+    same(&lines(&[0; 1009]), &file("tests/stereo/too-long.txt"));
+}
+
+/// The sample of a written set is what the writer writes of it.
+#[test]
+fn the_sample_is_written() {
+    let sample = std::fs::read(format!("{ROOT}samples/stereo.bin")).unwrap();
+    let entries = plain::read_loop(Of2015, &sample).unwrap();
+    let set = plain::read_stereo(&sample).unwrap();
+    let mut out = vec![0xAA; sample.len() + 1];
+    let length = plain::write_stereo(&entries, &set.extensions, &mut out).unwrap();
+    assert_eq!((length, out[length]), (sample.len(), 0xAA));
+    assert_eq!(out[..length], sample);
 }
