@@ -44,9 +44,12 @@ declarations() {
 
 called_from_c() {
     for way in target/lib/libthoquenry.a "-Ltarget/lib -lthoquenry"; do
-        # shellcheck disable=SC2086  # a list of words
-        x86_64-linux-gnu-gcc -std=c11 -O2 -Wall -Wextra -Werror -pedantic -Iinclude tests/c/import.c $way -o target/linked/import
-        THOQUENRY_LIBRARIES=$PWD/target/lib LD_LIBRARY_PATH=$PWD/target/lib scripts/x86 target/linked/import
+        for test in tests/c/*.c; do
+            program=target/linked/$(basename "$test" .c)
+            # shellcheck disable=SC2086  # a list of words
+            x86_64-linux-gnu-gcc -std=c11 -O2 -Wall -Wextra -Werror -pedantic -Iinclude "$test" $way -o "$program"
+            THOQUENRY_LIBRARIES=$PWD/target/lib LD_LIBRARY_PATH=$PWD/target/lib scripts/x86 "$program"
+        done
     done
     echo "ok, with the archive and with the shared object"
 }
