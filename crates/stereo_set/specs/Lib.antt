@@ -1,0 +1,4 @@
+pub mod Views
+pub mod Set
+pub mod Reading
+pub mod Meaning
