@@ -102,30 +102,31 @@ fn with_entry(mut given: Given, entry: Entry) -> Given {
     given
 }
 
-fn with_record(given: Given, numbers: Numbers, record: Record) -> Given {
-    let entry = Entry {
-        stream_type: byte(number_or(numbers, 0, 0)),
-        pid: narrow(number_or(numbers, 1, 0)),
+fn entry_of(stream_type: u8, pid: u64, record: Record) -> Entry {
+    Entry {
+        stream_type,
+        pid: narrow(pid),
         record,
         embedded: no_layers(),
-    };
-    with_entry(given, entry)
+    }
+}
+
+fn with_record(given: Given, numbers: Numbers, record: Record) -> Given {
+    let stream_type = byte(number_or(numbers, 0, 0));
+    with_entry(
+        given,
+        entry_of(stream_type, number_or(numbers, 1, 0), record),
+    )
 }
 
 // So many streams that are no layers, with rising PIDs.
-fn with_others(given: Given, stream_type: u8, pid: u16, times: u64) -> Given {
+fn with_others(given: Given, stream_type: u8, pid: u64, times: u64) -> Given {
     let mut longer = given;
     let mut next = pid;
     let mut left = times;
     while 0 < left {
-        let entry = Entry {
-            stream_type,
-            pid: next,
-            record: Record::NoRecord,
-            embedded: no_layers(),
-        };
-        longer = with_entry(longer, entry);
-        next = narrow(next as u64 + 1);
+        longer = with_entry(longer, entry_of(stream_type, next, Record::NoRecord));
+        next = std::num::wrapping_add_u64(next, 1);
         left -= 1;
     }
     longer
@@ -143,7 +144,7 @@ fn with_entries(given: Given, numbers: Numbers) -> Given {
         0 => with_others(
             given,
             byte(number_or(numbers, 0, 0)),
-            narrow(number_or(numbers, 1, 0)),
+            number_or(numbers, 1, 0),
             number_or(numbers, 3, 1),
         ),
         1 => with_record(given, numbers, Record::Hierarchy(hierarchy_of(numbers))),
@@ -171,7 +172,8 @@ fn with_numbers(given: Given, numbers: Numbers) -> Given {
     if 7 < numbers.last {
         return unreadable(given);
     }
-    match given.words {
+    let words = given.words;
+    match words {
         0 => with_room(given, numbers),
         1 => with_first(given, numbers),
         2 => with_second(given, numbers),
