@@ -73,9 +73,12 @@ called_from_python() {
 
 # The page of examples; its Rust is among Rust's tests.
 as_the_page_says() {
-    scripts/python-x86 -B tests/using.py target/linked/using.c
-    x86_64-linux-gnu-gcc -std=c11 -O2 -Wall -Wextra -Werror -pedantic -Iinclude target/linked/using.c target/lib/libthoquenry.a -o target/linked/using
-    scripts/x86 target/linked/using
+    rm -f target/linked/using-*.c
+    scripts/python-x86 -B tests/using.py target/linked
+    for block in target/linked/using-*.c; do
+        x86_64-linux-gnu-gcc -std=c11 -O2 -Wall -Wextra -Werror -pedantic -Iinclude "$block" target/lib/libthoquenry.a -o target/linked/using
+        scripts/x86 target/linked/using
+    done
     echo "ok, the examples of docs/USING.md"
 }
 
