@@ -3,7 +3,7 @@
 
 use crate::descriptors::{AVC, MVC};
 use crate::loops::{self, Descriptors, Heads};
-use crate::{read_loop, Entry, Reading, Refusal};
+use crate::{read_loop_with, Entry, Reading, Refusal};
 use std::ops::RangeInclusive;
 
 /// descriptor_tag of the MVC extension descriptor.
@@ -58,7 +58,9 @@ impl MvcExtension {
     }
 
     /// The whole descriptor, reserved bits at 1.
-    fn written(&self) -> Vec<u8> {
+    fn written(&self) -> [u8; WRITTEN_LENGTH] {
+        let [a, b] = self.average_bit_rate.to_be_bytes();
+        let [c, d] = self.maximum_bitrate.to_be_bytes();
         let rest = 0xF << 28
             | u32::from(self.view_order_index_min) << 18
             | u32::from(self.view_order_index_max) << 8
@@ -66,11 +68,19 @@ impl MvcExtension {
             | u32::from(self.temporal_id_end) << 2
             | u32::from(self.no_sei_nal_unit_present) << 1
             | u32::from(self.no_prefix_nal_unit_present);
-        let mut bytes = vec![MVC_EXTENSION_TAG, MVC_EXTENSION_LENGTH];
-        bytes.extend(self.average_bit_rate.to_be_bytes());
-        bytes.extend(self.maximum_bitrate.to_be_bytes());
-        bytes.extend(rest.to_be_bytes());
-        bytes
+        let [e, f, g, h] = rest.to_be_bytes();
+        [
+            MVC_EXTENSION_TAG,
+            MVC_EXTENSION_LENGTH,
+            a,
+            b,
+            c,
+            d,
+            e,
+            f,
+            g,
+            h,
+        ]
     }
 
     /// Whether a value is too wide for its field: 25.
@@ -98,14 +108,18 @@ pub struct StereoSet {
 
 /// Reads a stereo set from a loop's bytes under the 2015 reading, or the refusal: 1 to 9, then 44, 45, 46.
 pub fn read_stereo(bytes: &[u8]) -> Result<StereoSet, Refusal> {
-    let entries = read_loop(Reading::Of2015, bytes)?;
-    let places = two_layers(&entries).ok_or(Refusal::of(44))?;
-    let infos: Vec<&[u8]> = Heads(bytes).map(|(_, info)| info).collect();
-    let extension = |view: usize| only_extension(infos[places[view]]).ok_or(Refusal::of(45));
-    let extensions = [extension(0)?, extension(1)?];
+    let mut layers = Layers::default();
+    read_loop_with(Reading::Of2015, bytes, |entry| layers.add(entry))?;
+    let views = layers.two().ok_or(Refusal::of(44))?;
+    let extension = |place: usize| {
+        let (_, info) = Heads(bytes).nth(place)?;
+        only_extension(info)
+    };
+    let [base, second] = views.map(|(place, _)| extension(place).ok_or(Refusal::of(45)));
+    let extensions = [base?, second?];
     judge_ranges(&extensions)?;
     Ok(StereoSet {
-        entries: places.map(|place| entries[place]),
+        entries: views.map(|(_, entry)| entry),
         extensions,
     })
 }
@@ -121,34 +135,53 @@ pub fn write_stereo(
         return Err(Refusal::of(25));
     }
     let length = loops::judge_entries(entries, 2 * WRITTEN_LENGTH)?;
-    let places = two_layers(entries).ok_or(Refusal::of(44))?;
+    let mut layers = Layers::default();
+    entries.iter().for_each(|entry| layers.add(entry));
+    let views = layers.two().ok_or(Refusal::of(44))?;
     judge_ranges(extensions)?;
     let mut rest = out.get_mut(..length).ok_or(Refusal::of(17))?;
     for (place, entry) in entries.iter().enumerate() {
-        let view = places.iter().position(|&other| other == place);
-        let more = view.map_or(Vec::new(), |view| extensions[view].written());
-        rest = loops::write_entry_with(entry, &more, rest);
+        rest = match views.iter().position(|&(of_view, _)| of_view == place) {
+            Some(view) => loops::write_entry_with(entry, &extensions[view].written(), rest),
+            None => loops::write_entry_with(entry, &[], rest),
+        };
     }
     Ok(length)
 }
 
-/// The places of the two layers that a stereo set has, the base first; nothing where the layers are any others.
-fn two_layers(entries: &[Entry]) -> Option<[usize; 2]> {
-    let is = |entry: &Entry, stream_type: u8, index: u8, below: &[u8]| {
-        entry.stream_type == stream_type
-            && entry.layer_index() == Some(index)
-            && entry.embedded() == below
-    };
-    let mut layers = (0..entries.len()).filter(|&place| entries[place].layer_index().is_some());
-    let (one, other) = (layers.next()?, layers.next()?);
-    if layers.next().is_some() {
-        return None;
+/// The layers of a loop, as far as a stereo set asks for them: how many there are, and the first two with their places.
+#[derive(Default)]
+struct Layers {
+    place: usize,
+    count: usize,
+    first: [Option<(usize, Entry)>; 2],
+}
+
+impl Layers {
+    /// Adds the next entry of the loop.
+    fn add(&mut self, entry: &Entry) {
+        if entry.layer_index().is_some() {
+            if let Some(room) = self.first.get_mut(self.count) {
+                *room = Some((self.place, *entry));
+            }
+            self.count += 1;
+        }
+        self.place += 1;
     }
-    [[one, other], [other, one]]
-        .into_iter()
-        .find(|&[base, second]| {
-            is(&entries[base], AVC, 0, &[]) && is(&entries[second], MVC, 1, &[0])
+
+    /// The two layers that a stereo set has, the base first; nothing where the layers are any others.
+    fn two(&self) -> Option<[(usize, Entry); 2]> {
+        let is = |entry: &Entry, stream_type: u8, index: u8, below: &[u8]| {
+            entry.stream_type == stream_type
+                && entry.layer_index() == Some(index)
+                && entry.embedded() == below
+        };
+        let (one, other) = (self.first[0]?, self.first[1]?);
+        let orders = [[one, other], [other, one]];
+        orders.into_iter().find(|[(_, base), (_, second)]| {
+            self.count == 2 && is(base, AVC, 0, &[]) && is(second, MVC, 1, &[0])
         })
+    }
 }
 
 /// The MVC extension descriptor of a stream, where it has exactly one and that is of its layout's length.
