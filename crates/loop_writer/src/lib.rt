@@ -8,6 +8,7 @@ mod passes;
 mod weighing;
 mod writer;
 
+pub use entry::entry_head;
 pub use entry::put_entry;
 pub use entry::view_of;
 pub use weighing::Weighed;
