@@ -7,7 +7,6 @@ use descriptors::Record;
 use es_loop::Entry;
 use es_loop::Outcome;
 use libc::STDOUT_FILENO;
-use loop_writer::Written;
 use mvc_extension::MvcExtension;
 use stereo_set::StereoRead;
 use vocabulary::Refusal;
@@ -105,12 +104,18 @@ fn print_bytes(bytes: &[u8]) {
     }
 }
 
-// The whole answer of writing, and the buffer to its end.
-pub fn print_written(written: Written, out: &[u8]) {
-    match written {
-        Written::Bytes(count) => say_number(b"bytes ", count as u64),
-        Written::Refused(refusal) => print_refusal(refusal),
+// The answer of writing, as the function for C gives it.
+pub fn print_number(answer: u64) {
+    if answer % 256 == 0 {
+        say_number(b"bytes ", answer / 256);
+    } else {
+        say_number(b"refused ", answer % 256);
+        say_number(b" place ", answer / 256);
     }
+}
+
+// The buffer to its end.
+pub fn print_left(out: &[u8]) {
     say(b" leaves");
     print_bytes(out);
     say(b"\n");

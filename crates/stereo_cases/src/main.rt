@@ -23,10 +23,8 @@ mod answers;
 mod given;
 
 use cases::unreadable;
-use given::Given;
-
-// The most bytes of a buffer to write into.
-const ROOM: usize = 64;
+use given::ROW;
+use given::ROWS;
 
 fn read_loop(count: usize, room: [u8; 2048])
     requires { ⌜ count ≤ 2048 ⌝ }
@@ -44,13 +42,40 @@ fn read_case(words: &[u8]) {
     read_loop(found.count, room);
 }
 
-fn write_case(words: &[u8]) {
-    let given = given::read(words);
+fn write(rows: &[u16], extensions: &[u16], out: &mut [u8]) {
+    answers::print_number(thoquenry_stereo::thq_write_stereo(rows, extensions, out));
+    answers::print_left(out);
+}
+
+// The lists cut to their lengths. A line without a room and two descriptors, or with more room than there is here, is none that can be read.
+fn write_loop(words: usize, room: u64, extensions: [u16; 16], count: usize, rows: [u16; ROWS]) {
+    let mut out = [0xAAu8; 64];
+    if words < 3 {
+        unreadable();
+        return;
+    }
+    if 64 < room {
+        unreadable();
+        return;
+    }
+    if 202 < count {
+        unreadable();
+        return;
+    }
+    let size = room as usize;
+    let length = count * ROW;
+    write(&rows[..length], &extensions, &mut out[..size]);
+}
+
+fn write_case(line: &[u8]) {
+    let given = given::read(line);
     if !given.readable {
         unreadable();
         return;
     }
-    unreadable();
+    let extensions = given.extensions;
+    let rows = given.rows;
+    write_loop(given.words, given.room, extensions, given.count, rows);
 }
 
 fn answer_case(line: &[u8]) {

@@ -13,11 +13,8 @@ abbrev μ-loop : tie.MeasureT-loop
 loop-holds : tie.Need-loop-holds Inv-loop μ-loop
 loop-holds c = search needs
 
-entry-of-requires : tie.Need-entry-of-requires Inv-loop μ-loop
-entry-of-requires c κs = search needs
-
-with-entry-requires : tie.Need-with-entry-requires Inv-loop μ-loop
-with-entry-requires c κs = search needs
+with-other-requires : tie.Need-with-other-requires Inv-loop μ-loop
+with-other-requires c κs = search needs
 
 wrapping-add-u64-requires : tie.Need-wrapping-add-u64-requires Inv-loop μ-loop
 wrapping-add-u64-requires c κs = search needs
@@ -41,8 +38,7 @@ with-others-spec =
     Inv-loop
     μ-loop
     loop-holds
-    entry-of-requires
-    with-entry-requires
+    with-other-requires
     wrapping-add-u64-requires
     sub-left
     loop-less
