@@ -235,6 +235,53 @@ uint64_t thq_import(uint64_t reading, const uint8_t *bytes, size_t bytes_length,
                     size_t matches_length, uint64_t *numbers, size_t numbers_length, int64_t *lags, size_t lags_length,
                     uint64_t *summary, size_t summary_length);
 
+/*
+ * An MVC extension descriptor (tag 49, length 8; Table AMD4.1 of the 2009 amendment for MVC): 8 numbers of 16 bits each, 16 bytes, in the machine's byte order, one for each
+ * field of the table, in its order. Rates are in thousands of bits a second, 0 where none is told; the view order indices are a range, both ends in it.
+ *
+ *     number  bytes    field                        bits
+ *     0       0..1     average_bit_rate             16
+ *     1       2..3     maximum_bitrate              16
+ *     2       4..5     view_order_index_min         10
+ *     3       6..7     view_order_index_max         10
+ *     4       8..9     temporal_id_start            3
+ *     5       10..11   temporal_id_end              3
+ *     6       12..13   no_sei_nal_unit_present      1
+ *     7       14..15   no_prefix_nal_unit_present   1
+ */
+typedef struct thq_mvc_extension {
+    uint16_t average_bit_rate;
+    uint16_t maximum_bitrate;
+    uint16_t view_order_index_min;
+    uint16_t view_order_index_max;
+    uint16_t temporal_id_start;
+    uint16_t temporal_id_end;
+    uint16_t no_sei_nal_unit_present;
+    uint16_t no_prefix_nal_unit_present;
+} thq_mvc_extension;
+
+#define THQ_MVC_EXTENSION_NUMBERS 8
+
+/*
+ * Reads a stereo set, by the 2015 reading: a loop with exactly two layers, a base of type 0x1B and index 0 and one of type 0x20 and index 1 that rests on it, each
+ * with one MVC extension descriptor. `entries` receives 160 numbers: the entry of layer 0, then that of layer 1, as laid out above. `extensions` receives 16 numbers:
+ * the descriptor of layer 0, then that of layer 1. Counts the layers, 2. Entries that are no layers may stand beside, and a descriptor of tag 49 on them is not looked at.
+ * Refusals: 1 to 9, at an entry; then 44 where the loop has not these two layers; 45 where on one of them the descriptor is missing, doubled or of another length than 8;
+ * 46 where the least index of a range exceeds its greatest, or the two ranges share an index; then 17 where `entries_length` is below 160 or `extensions_length` below 16.
+ */
+uint64_t thq_read_stereo(const uint8_t *bytes, size_t bytes_length, uint16_t *entries, size_t entries_length, uint16_t *extensions,
+                         size_t extensions_length);
+
+/*
+ * Writes a loop that is a stereo set: all its entries, as thq_write_loop takes them, and behind the hierarchy descriptor of the two layers, if any, the MVC extension
+ * descriptor of each. `extensions` has the descriptor of layer 0, then that of layer 1; a number that is not there is 0, and those after the 16th are not looked at. Counts
+ * the bytes written to `out`.
+ * Refusals: 25 first, where a value of `entries` or of `extensions` is too wide for its field; then 1, which more than 201 entries give too, and in which the two descriptors
+ * count with 20 bytes whatever the layers are; then 3 and 6 to 9, at an entry; then 44 and 46, as in reading; then 17.
+ */
+uint64_t thq_write_stereo(const uint16_t *entries, size_t entries_length, const uint16_t *extensions, size_t extensions_length, uint8_t *out,
+                          size_t out_length);
+
 #ifdef __cplusplus
 }
 #endif

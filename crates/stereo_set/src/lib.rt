@@ -9,6 +9,8 @@ mod views;
 
 pub use reader::read_stereo;
 pub use set::StereoRead;
+pub use set::is_base;
+pub use set::is_second;
 pub use set::set_of;
 pub use views::Layers;
 pub use views::View;

@@ -55,7 +55,7 @@ pub fn refused(refusal: Refusal) -> StereoRead
 }
 
 // Of a layer: whether it is the 0x1B of index 0. (In a loop that is accepted such a layer is a base, by refusal 9.)
-fn is_base(entry: Entry) -> bool
+pub fn is_base(entry: Entry) -> bool
     ensures { λ r. ⌜ r ≡ isBaseLayer entry ⌝ }
 {
     let record = entry.record;
@@ -64,7 +64,7 @@ fn is_base(entry: Entry) -> bool
 }
 
 // Of a layer: whether it is the 0x20 of index 1. (In a loop that is accepted such a layer rests on index 0 alone, by refusals 6 and 9.)
-fn is_second(entry: Entry) -> bool
+pub fn is_second(entry: Entry) -> bool
     ensures { λ r. ⌜ r ≡ isSecondLayer entry ⌝ }
 {
     let record = entry.record;
