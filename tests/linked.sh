@@ -56,7 +56,7 @@ called_from_c() {
 
 # Each of Rust's tests says how many it has run.
 called_from_rust() {
-    scripts/cargo test -p thoquenry-sys -p thoquenry -p plain | tee target/linked/rust-tests
+    scripts/cargo test -p thoquenry-sys -p thoquenry -p plain >target/linked/rust-tests || { cat target/linked/rust-tests; return 1; }
     scripts/cargo run --quiet -p thoquenry --example join >target/linked/rust-example
     diff tests/example.txt target/linked/rust-example
     if THOQUENRY_LIB=/nowhere CARGO_TARGET_DIR=target/linked/cargo scripts/cargo check -p thoquenry-sys 2>target/linked/rust-missing; then return 1; fi

@@ -108,8 +108,8 @@ fn both_readings_accept_a_set_and_skip_its_descriptors() {
         assert_eq!(read_loop(reading, WRITTEN).unwrap(), entries_of_written());
         assert_eq!(read_loop(reading, IMPLIED).unwrap().len(), 3);
         for bytes in [WRITTEN, IMPLIED] {
-            assert_eq!(closure(reading, bytes, LayerIndex(0)), Ok(LayerSet(0b01)));
-            assert_eq!(closure(reading, bytes, LayerIndex(1)), Ok(LayerSet(0b11)));
+            let closed = |target: u8| closure(reading, bytes, LayerIndex(target)).unwrap();
+            assert_eq!((closed(0).0, closed(1).0), (0b01, 0b11));
         }
     }
 }
