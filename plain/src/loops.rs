@@ -191,13 +191,15 @@ pub fn write_loop(entries: &[Entry], out: &mut [u8]) -> Result<usize, Refusal> {
     let length = judge_entries(entries, 0)?;
     let mut rest = out.get_mut(..length).ok_or(Refusal::of(17))?;
     for entry in entries {
-        rest = write_entry_with(entry, &[], rest);
+        let (room, after) = rest.split_at_mut(written_length(entry));
+        write_entry(entry, room);
+        rest = after;
     }
     Ok(length)
 }
 
 /// Judges the entries of a loop that is to be written, with so many bytes more than their own: 25, then 1, 3, 6 to 9. Answers its length.
-#[inline]
+#[inline(always)]
 pub(crate) fn judge_entries(entries: &[Entry], more: usize) -> Result<usize, Refusal> {
     let too_wide = |entry: &Entry| {
         entry.pid > 0x1FFF || entry.record.as_ref().map_or(false, descriptors::too_wide)
@@ -229,20 +231,27 @@ pub(crate) fn judge_entries(entries: &[Entry], more: usize) -> Result<usize, Ref
     Ok(length)
 }
 
-fn written_length(entry: &Entry) -> usize {
+#[inline(always)]
+pub(crate) fn written_length(entry: &Entry) -> usize {
     ENTRY_HEAD + entry.record.as_ref().map_or(0, descriptors::written_length)
 }
 
-/// Writes an entry at the start of the room, with these bytes after its descriptor, and answers the room that is left. Reserved bits are 1, but
-/// the upper two bits of ES_info_length are 0.
-#[inline]
-pub(crate) fn write_entry_with<'a>(entry: &Entry, more: &[u8], room: &'a mut [u8]) -> &'a mut [u8] {
-    let own = written_length(entry);
-    let (written, left) = room.split_at_mut(own + more.len());
-    let (own, after) = written.split_at_mut(own);
-    let (head, info) = own.split_at_mut(ENTRY_HEAD);
+/// Writes an entry into room of its own length.
+#[inline(always)]
+fn write_entry(entry: &Entry, room: &mut [u8]) {
+    let info = write_head(entry, room);
+    if let Some(record) = &entry.record {
+        descriptors::write(record, info);
+    }
+}
+
+/// Writes the head of an entry that fills a room, and answers the rest of that, where its descriptors go. Reserved bits are 1, but the upper two bits of
+/// ES_info_length are 0.
+#[inline(always)]
+pub(crate) fn write_head<'a>(entry: &Entry, room: &'a mut [u8]) -> &'a mut [u8] {
+    let (head, info) = room.split_at_mut(ENTRY_HEAD);
     let pid = (0xE000 | entry.pid).to_be_bytes();
-    let info_length = (0xF000 | (info.len() + more.len()) as u16).to_be_bytes();
+    let info_length = (0xF000 | info.len() as u16).to_be_bytes();
     head.copy_from_slice(&[
         entry.stream_type,
         pid[0],
@@ -250,9 +259,5 @@ pub(crate) fn write_entry_with<'a>(entry: &Entry, more: &[u8], room: &'a mut [u8
         info_length[0],
         info_length[1],
     ]);
-    if let Some(record) = &entry.record {
-        descriptors::write(record, info);
-    }
-    after.copy_from_slice(more);
-    left
+    info
 }

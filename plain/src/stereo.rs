@@ -1,7 +1,7 @@
 //! The stereo set of W-211: exactly two layers, the base view 0x1B of index 0 and the view 0x20 of index 1 that rests on it, each with an MVC
 //! extension descriptor as source 001 lays it out (clause 2.6.78).
 
-use crate::descriptors::{AVC, MVC};
+use crate::descriptors::{self, AVC, MVC};
 use crate::loops::{self, Descriptors, Heads};
 use crate::{read_loop_with, Entry, Reading, Refusal};
 use std::ops::RangeInclusive;
@@ -141,10 +141,18 @@ pub fn write_stereo(
     judge_ranges(extensions)?;
     let mut rest = out.get_mut(..length).ok_or(Refusal::of(17))?;
     for (place, entry) in entries.iter().enumerate() {
-        rest = match views.iter().position(|&(of_view, _)| of_view == place) {
-            Some(view) => loops::write_entry_with(entry, &extensions[view].written(), rest),
-            None => loops::write_entry_with(entry, &[], rest),
-        };
+        let view = views.iter().position(|&(of_view, _)| of_view == place);
+        let written = view.map(|view| extensions[view].written());
+        let more = written.as_ref().map_or(&[][..], |bytes| &bytes[..]);
+        let own = loops::written_length(entry);
+        let (room, after) = rest.split_at_mut(own + more.len());
+        let info = loops::write_head(entry, room);
+        let (own, extension) = info.split_at_mut(info.len() - more.len());
+        if let Some(record) = &entry.record {
+            descriptors::write(record, own);
+        }
+        extension.copy_from_slice(more);
+        rest = after;
     }
     Ok(length)
 }
