@@ -3,6 +3,7 @@
 
 use crate::memory::{Memory, Placing};
 use crate::random::Random;
+use crate::stereo;
 use plain::{
     Columns, Embedded, Entry, Extension, Hierarchy, Layers, Reading, Record, Refusal, Times,
     MOST_ROWS,
@@ -72,10 +73,12 @@ pub enum Call {
         rows: Columns,
         lists: Lists,
     },
+    ReadStereo(stereo::Read),
+    WriteStereo(stereo::Write),
 }
 
 /// The names of the calls and the numbers that each can answer, 0 for an accepted call.
-pub const CALLS: [(&str, &[u64]); 8] = [
+pub const CALLS: [(&str, &[u64]); 10] = [
     ("read_loop", &[0, 1, 2, 3, 4, 5, 6, 7, 8, 9, 17, NOT_A_CALL]),
     ("write_loop", &[0, 1, 3, 6, 7, 8, 9, 17, 25]),
     (
@@ -92,6 +95,11 @@ pub const CALLS: [(&str, &[u64]); 8] = [
             0, 1, 2, 3, 4, 5, 6, 7, 8, 9, 11, 12, 13, 14, 15, 16, 17, 18, NOT_A_CALL,
         ],
     ),
+    (
+        "read_stereo",
+        &[0, 1, 2, 3, 4, 5, 6, 7, 8, 9, 17, 44, 45, 46],
+    ),
+    ("write_stereo", &[0, 1, 3, 6, 7, 8, 9, 17, 25, 44, 46]),
 ];
 
 pub const NOT_A_CALL: u64 = raw::THQ_NOT_A_CALL;
@@ -128,6 +136,8 @@ impl Call {
             Call::Join { .. } => 5,
             Call::JoinLong { .. } => 6,
             Call::Import { .. } => 7,
+            Call::ReadStereo(_) => 8,
+            Call::WriteStereo(_) => 9,
         }
     }
 
@@ -142,6 +152,11 @@ impl Call {
             Call::WriteLoop { entries, .. } => entries_of(entries).and_then(|entries| {
                 plain::write_loop(&entries, &mut [0; plain::LONGEST_LOOP]).map(|_| entries)
             }),
+            Call::ReadStereo(read) => plain::read_stereo(&read.bytes).map(|set| set.entries.into()),
+            Call::WriteStereo(write) => write
+                .clone()
+                .plain()
+                .and_then(|_| entries_of(&write.entries)),
             _ => return false,
         };
         let implied = |entry: &Entry| entry.record == Some(Record::Implied);
@@ -426,6 +441,16 @@ impl Call {
                 untouched &= joined.take_back(rows, lists);
                 answer
             }
+            Call::ReadStereo(read) => {
+                let (answer, kept) = read.library(memory);
+                untouched &= kept;
+                answer
+            }
+            Call::WriteStereo(write) => {
+                let (answer, kept) = write.library(memory);
+                untouched &= kept;
+                answer
+            }
         };
         if untouched {
             Ok(answer)
@@ -491,6 +516,8 @@ impl Call {
             } => reading_of(*reading)
                 .and_then(|reading| plain::layers_of_loop(reading, bytes))
                 .and_then(|layers| join(MOST_ROWS, &layers, *target, rows, lists)),
+            Call::ReadStereo(read) => read.plain(),
+            Call::WriteStereo(write) => write.plain(),
         })
     }
 }
@@ -615,7 +642,7 @@ fn write_loop(entries: &[u16], out: &mut [u8]) -> Result<usize, Refusal> {
 }
 
 /// The entries that the numbers of a list say.
-fn entries_of(numbers: &[u16]) -> Result<Vec<Entry>, Refusal> {
+pub fn entries_of(numbers: &[u16]) -> Result<Vec<Entry>, Refusal> {
     numbers.chunks_exact(ENTRY).map(entry_of).collect()
 }
 

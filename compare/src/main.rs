@@ -14,6 +14,7 @@ mod loops;
 mod memory;
 mod random;
 mod show;
+mod stereo;
 mod tables;
 
 use calls::CALLS;
@@ -23,10 +24,18 @@ use random::Random;
 use std::process::ExitCode;
 
 const SEED: u64 = 1;
-const COUNT: u64 = 140_000;
+/// Of each call 20,000.
+const COUNT: u64 = 20_000 * CALLS.len() as u64;
 
 /// The calls that read or write a loop.
-const CALLS_OF_LOOPS: [&str; 4] = ["read_loop", "write_loop", "closure", "import"];
+const CALLS_OF_LOOPS: [&str; 6] = [
+    "read_loop",
+    "write_loop",
+    "closure",
+    "import",
+    "read_stereo",
+    "write_stereo",
+];
 
 /// The calls that join rows.
 const CALLS_OF_ROWS: [&str; 3] = ["join", "join_long", "import"];
@@ -141,7 +150,7 @@ fn summary(seed: u64, count: u64, seen: &Seen) -> ExitCode {
     let line = |head: &str, cells: Vec<String>| {
         print!("{head:<12}");
         for cell in cells {
-            print!("{cell:>12}");
+            print!("{cell:>13}");
         }
         println!();
     };
