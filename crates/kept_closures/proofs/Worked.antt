@@ -75,7 +75,7 @@ module _ (layers : Layers) where
   abbrev noLayer : Layers
   noLayer = layersBy 0 (layers .embedded)
 
-  lacks-none : (present : ℕ) → lacksOne present 0 ≡ false
+  pub lacks-none : (present : ℕ) → lacksOne present 0 ≡ false
   lacks-none present = ap (λ (s : ℕ). not (eqb s 0)) (same-members (without 0 present) 0 (λ m. has-without 0 present m ∙ ap (λ (b : Bool). b && not (has present m)) (has-none m) ∙ sym (has-none m)))
 
   no-fresh : (i : ℕ) → freshOf noLayer i ≡ 0

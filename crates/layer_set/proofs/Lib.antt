@@ -1,3 +1,5 @@
 pub mod Walked
 pub mod Parts
 pub mod Judged
+pub mod Stored
+pub mod Keeping
