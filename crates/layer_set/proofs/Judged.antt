@@ -56,7 +56,7 @@ small-index t (Extension x) layers e d = (bounds (extension-fit x layers e)) .1 
 small-index t Implied layers e d = both-ways d refl
 
 module _ (present : ℕ) (entries : List Entry) (e : Entry) where
-  abbrev tests : List Bool
+  abbrev pub tests : List Bool
   tests = conditions (not (isLayer (e .«record»))) (pidHeld present entries (e .pid)) (has present (placeOf e)) (streamFor e)
 
   -- no number applies

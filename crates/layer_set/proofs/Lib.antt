@@ -3,3 +3,4 @@ pub mod Parts
 pub mod Judged
 pub mod Stored
 pub mod Keeping
+pub mod Meant
