@@ -1,0 +1,28 @@
+-- BUFFERS THAT HOLD A LAYER SET, in the words of include/thoquenry.h: the set's entries as rows, laid out as thq_read_loop lays them, and what is stored with each layer.
+-- proofs/Held.antt has the law that joins this to the test that is computed, both ways; proofs/Left.antt that what the functions for C leave behind holds a set.
+-- Assumes nothing.
+use Prim.Native.Nat.{ℕ, _<_}
+use mathlib.Core.Bool.{false}
+use mathlib.Core.List.{List}
+use mathlib.Core.Path.{_≡_}
+use Rattle.es_loop.specs.declared.entries.Entry.{Entry}
+use Rattle.entry_rows.specs.Rows.{rowTooWide, rowOf, rowsOf, entryIn}
+use Rattle.layer_set.specs.declared.«set».LayerSet.{LayerSet}
+use Rattle.layer_set.specs.Sets.{storedIn, entryAt}
+use Rattle.layer_set.specs.Meaning.{IsSet}
+use Rattle.layer_set_rows.specs.Buffers.{storedNumbers}
+
+-- an entry that its row tells whole: no value in it is too wide, and nothing stands in it that the row has no room for
+pub record Laid (e : Entry) : Type 0 where
+  pub narrow : rowTooWide (rowOf e) ≡ false
+  pub told : entryIn (rowOf e) ≡ e
+
+pub record LaidOut (s : LayerSet) : Type 0 where
+  pub each : (i : ℕ) → i < 64 → Laid (entryAt (s .entries) i)
+
+-- THE BUFFERS HOLD THE SET.
+pub record Holds (layers stored : List ℕ) (s : LayerSet) : Type 0 where
+  pub is-set : IsSet s
+  pub laid-out : LaidOut s
+  pub rows : layers ≡ rowsOf (s .entries)
+  pub numbers : stored ≡ storedNumbers (storedIn s)
