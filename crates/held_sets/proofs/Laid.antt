@@ -5,7 +5,7 @@ use mathlib.Core.Bool.{Bool, true, false, not, cond, _&&_, _||_}
 use mathlib.Core.List.{List, [], _∷_, _++_, map}
 use mathlib.Core.Path.{_≡_, refl, sym, ap, ap₂, _∙_, subst}
 use native.Mathlib.Omega.{arith}
-use borrow.Author.Tests.{lt-ltb, eqb-true}
+use borrow.Author.Tests.{lt-ltb, eqb-true, not-false}
 use lib.Dec.{eqb, ltb}
 use lib.ListN.{length, getD, take, drop, replicate, length-map, length-take, length-drop}
 use lib.Seq.{take-at}
@@ -34,10 +34,11 @@ use Rattle.es_loop.specs.declared.entries.Entry.{Entry}
 use Rattle.es_loop.specs.declared.entries.Stream.{Stream}
 use Rattle.es_loop.specs.Entries.{streamType, elementaryPid, esInfoLength, blankEntry, streamOf, markedStream, entryOf}
 use Rattle.es_loop.proofs.Walk.{pid-below}
-use Rattle.entry_rows.specs.Rows.{layerNumber, headOf, tailOf, rowOf, layerTooWide, rowTooWide, entryIn}
-use Rattle.entry_rows.proofs.Judged.{hierarchy-decides, extension-decides, fieldless-fine}
-use Rattle.entry_rows.proofs.RoundTrips.{OwnList, entry-again}
-use Rattle.entry_rows.proofs.Widths.{layer-fine}
+use Rattle.entry_rows.specs.Rows.{layerNumber, layerOf, headOf, tailOf, rowOf, fieldsIn, countIn, listIn, layerTooWide, rowTooWide, entryIn}
+use Rattle.entry_rows.proofs.Judged.{hierarchy-decides, extension-decides, fieldless-fine, kind-fine, type-bound, pid-bound, hierarchy-fine, extension-fine, list-fine}
+use Rattle.entry_rows.proofs.Laws.{hierarchy-entry, extension-entry, no-record-entry, implied-entry}
+use Rattle.entry_rows.proofs.RoundTrips.{OwnList, entry-again, hierarchy-there, extension-there}
+use Rattle.entry_rows.proofs.Widths.{row-bounds, layer-fine}
 use Rattle.held_sets.specs.Meaning.{Laid}
 
 -- ---- an entry whose record fits its fields, with blanks beyond its list
@@ -207,3 +208,43 @@ stream-good reading pair head info =
       own = mark-own (given pair (streamType head)) ((streamOf reading (whole head info)) .seen .«record») ((streamOf reading (whole head info)) .seen .embedded)
           (seen-own reading (known reading (streamType head)) info);
     }
+
+-- ---- the entry of a row in which no value is too wide
+
+numbers-back : (list : List ℕ) → map layerNumber (map layerOf list) ≡ list
+numbers-back [] = refl
+numbers-back (index ∷ list) = ap (λ (l : List ℕ). index ∷ l) (numbers-back list)
+
+module _ (row : List ℕ) (long : 80 ≤ length row) (fine : rowTooWide row ≡ false) where
+  abbrev OwnEntry : Entry → Type 0
+  OwnEntry e = OwnRecord (e .«record») (e .embedded)
+
+  own-hierarchy : getD row 2 0 ≡ 1 → OwnEntry (entryIn row)
+  own-hierarchy e =
+      let b = row-bounds (hierarchyDescriptor Edition2015) row (hierarchy-fine row fine e) in
+      subst OwnEntry (hierarchy-entry row e)
+      (refl, ap (fits (hierarchyDescriptor Edition2015)) (hierarchy-there row b) ∙ not-false (fits (hierarchyDescriptor Edition2015) (fieldsIn (hierarchyDescriptor Edition2015) row)) (hierarchy-fine row fine e))
+
+  own-extension : getD row 2 0 ≡ 2 → OwnEntry (entryIn row)
+  own-extension e =
+      let b = row-bounds extensionHead row (extension-fine row fine e) in
+      let few : countIn row < 64 = b .1 .1 .1 .1 .1 .0 in
+      subst OwnEntry (extension-entry row e) (
+        map layerOf (listIn row),
+        length-map (listIn row) layerOf ∙ length-take (countIn row) (drop 16 row) ∙ omega (arith, length-drop 16 row),
+        omega arith,
+        refl,
+        ap (fits extensionHead) (extension-there row b) ∙ not-false (fits extensionHead (fieldsIn extensionHead row)) (extension-fine row fine e),
+        ap (any layerTooWide) (numbers-back (listIn row)) ∙ list-fine row fine e,
+      )
+
+  pub row-good : Good (entryIn row)
+  unfolding entryIn
+  row-good = record { type-small = type-bound row fine; pid-small = pid-bound row fine; own = go (getD row 2 0) refl (kind-fine row fine) }
+    where
+      go : (kind : ℕ) → getD row 2 0 ≡ kind → kind ≤ 3 → OwnEntry (entryIn row)
+      go zero e h = subst OwnEntry (no-record-entry row e) refl
+      go (suc zero) e h = own-hierarchy e
+      go (suc (suc zero)) e h = own-extension e
+      go (suc (suc (suc zero))) e h = subst OwnEntry (implied-entry row e) refl
+      go (suc (suc (suc (suc k)))) e h = absurd (omega arith)

@@ -11,6 +11,7 @@ use Rattle.layer_set.specs.declared.«set».LayerSet.{LayerSet}
 use Rattle.layer_set.specs.Sets.{storedIn, entryAt}
 use Rattle.layer_set.specs.Meaning.{IsSet}
 use Rattle.layer_set_rows.specs.Buffers.{storedNumbers}
+use Rattle.thoquenry_sets.specs.Calls.{SetReply}
 
 -- an entry that its row tells whole: no value in it is too wide, and nothing stands in it that the row has no room for
 pub record Laid (e : Entry) : Type 0 where
@@ -26,3 +27,8 @@ pub record Holds (layers stored : List ℕ) (s : LayerSet) : Type 0 where
   pub laid-out : LaidOut s
   pub rows : layers ≡ rowsOf (s .entries)
   pub numbers : stored ≡ storedNumbers (storedIn s)
+
+-- WHAT A CALL LEAVES in the two buffers: what was there, or a set.
+pub data Leaves (layers stored : List ℕ) (left : SetReply) : Type 0 where
+  untouched : left .layers ≡ layers → left .stored ≡ stored → Leaves layers stored left
+  a-set : (s : LayerSet) → Holds (left .layers) (left .stored) s → Leaves layers stored left
