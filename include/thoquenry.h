@@ -106,7 +106,7 @@ enum thq_refusal {
     /* a range of view order index has a least above its greatest, or the two ranges share an index */
     THQ_REFUSED_RANGES_MEET = 46,
 
-    /* the reading is neither THQ_2009 nor THQ_2015 */
+    /* the reading is neither THQ_2009 nor THQ_2015, or the buffers hold no layer set */
     THQ_NOT_A_CALL = 255
 };
 
@@ -234,6 +234,60 @@ uint64_t thq_import(uint64_t reading, const uint8_t *bytes, size_t bytes_length,
                     size_t indices_length, const uint64_t *decodings, size_t decodings_length, const uint64_t *matches,
                     size_t matches_length, uint64_t *numbers, size_t numbers_length, int64_t *lags, size_t lags_length,
                     uint64_t *summary, size_t summary_length);
+
+/*
+ * A LAYER SET, which changes as layers come and go: two buffers of fixed length, which the caller owns and the functions below fill.
+ *
+ * `layers` is 64 entries of 80 numbers each, as laid out above, one for each layer index: entry i is the layer of index i, or 80 zeros where the set
+ * has none. `stored` is what each layer rests on, worked out and never given, in three columns of 64 numbers each:
+ *
+ *     stored[i]          the closure of layer i: bit j is 1 where j is in it, i itself and absent indices as they are named among them
+ *     stored[64 + i]     the number of indices in it
+ *     stored[128 + i]    1 where one of them is absent, and else 0
+ *
+ * and 0 in all three where the set has no layer of index i. What lies below an absent index is unknown and adds nothing until that layer is there. All zeros is
+ * the empty set.
+ *
+ * Buffers hold a set where their lengths are exactly these; where each entry is 80 zeros, or else a layer of its place's index, laid out as thq_read_loop lays it,
+ * to which none of 6, 7 and 9 applies (THQ_IMPLIED is right on 0x1B and on 0x20, whatever else is in the set); where no two layers have the same PID; and where the
+ * stored numbers are what would be worked out afresh. Anything else is refused with THQ_NOT_A_CALL, before all other numbers, so that no one can hand them in. What
+ * the functions leave behind holds a set.
+ */
+#define THQ_SET_LAYERS 5120
+#define THQ_SET_STORED 192
+
+typedef struct thq_set {
+    thq_entry layers[64];
+    uint64_t stored[THQ_SET_STORED];
+} thq_set;
+
+/*
+ * The set of the layers of a loop, implied ones included. Whatever the two buffers held is overwritten. Counts the layers of the set.
+ * Refusals: THQ_NOT_A_CALL also where a length is not exactly that of a set; 1 to 9, at an entry.
+ */
+uint64_t thq_set_read(uint64_t reading, const uint8_t *bytes, size_t bytes_length, uint16_t *layers, size_t layers_length,
+                      uint64_t *stored, size_t stored_length);
+
+/*
+ * A layer more, the entry of 80 numbers as thq_write_loop takes it: fields that its record does not have, and embedded indices beyond the count, are not looked at.
+ * Counts the layers of the set after it.
+ * Refusals: THQ_NOT_A_CALL where the buffers hold no set, and where `entry_length` is not 80; then 25; then 3 where a layer of the set has the PID; then 6 to 9 as
+ * the 2015 reading judges: 6 also for a stream type that it doesn't know, for THQ_IMPLIED and for THQ_NO_RECORD, 8 where the set has a layer of the index. The place is 0.
+ */
+uint64_t thq_set_add(uint16_t *layers, size_t layers_length, uint64_t *stored, size_t stored_length, const uint16_t *entry, size_t entry_length);
+
+/*
+ * A layer less, that of an index. Counts the layers of the set after it.
+ * Refusals: THQ_NOT_A_CALL where the buffers hold no set; then 11 where the set has no layer of the index, also where one is only named.
+ */
+uint64_t thq_set_remove(uint16_t *layers, size_t layers_length, uint64_t *stored, size_t stored_length, uint64_t index);
+
+/*
+ * The layers that a target rests on, itself included, from what is stored. `closure` receives one number, as in thq_closure. Counts the layers in it.
+ * Refusals: THQ_NOT_A_CALL where the buffers hold no set; then 11, 12; then 17 where `closure_length` is 0.
+ */
+uint64_t thq_set_closure(const uint16_t *layers, size_t layers_length, const uint64_t *stored, size_t stored_length, uint64_t target,
+                         uint64_t *closure, size_t closure_length);
 
 #ifdef __cplusplus
 }
