@@ -129,15 +129,15 @@ impl LayerSet {
     /// "The closure of a layer is the layer, its embedded layers, theirs, and so on."
     fn rests_on(&self, index: usize) -> u64 {
         let mut reached = 1_u64 << index;
-        let mut left = vec![index];
-        while let Some(next) = left.pop() {
+        let mut left = reached;
+        while left != 0 {
+            let next = 63 - left.leading_zeros() as usize;
+            left ^= 1 << next;
             if let Some(layer) = &self.layers[next] {
-                for &lower in layer.entry.embedded() {
-                    if reached >> lower & 1 == 0 {
-                        reached |= 1 << lower;
-                        left.push(usize::from(lower));
-                    }
-                }
+                let named = layer.entry.embedded().iter();
+                let more = named.fold(0, |set, lower| set | 1 << (lower & 63)) & !reached;
+                reached |= more;
+                left |= more;
             }
         }
         reached
