@@ -5,6 +5,8 @@ mod laying;
 mod taking;
 mod writing;
 
+pub use laying::lay_row;
 pub use laying::put_rows;
+pub use taking::entry_in;
 pub use taking::some_too_wide;
 pub use writing::write_rows;
