@@ -296,6 +296,11 @@ impl KeptSet {
         }
     }
 
+    /// The set of the indices that there is a layer of.
+    pub fn present(&self) -> u64 {
+        self.present
+    }
+
     /// The layer of an index, as `LayerSet` has it.
     pub fn layer(&self, index: usize) -> Option<Layer> {
         let entry = self.entries[index]?;
