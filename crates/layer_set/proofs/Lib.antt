@@ -4,3 +4,4 @@ pub mod Judged
 pub mod Stored
 pub mod Keeping
 pub mod Meant
+pub mod Read
