@@ -4,7 +4,8 @@ another: the functions' names, and the name, number, order, width and constness 
 parameter of the source is a pointer and, after it, a length. (ctypes does not say whether a pointer is const, so there it is not compared.)
 
 It also holds to one another
-  - the header's tables of an entry's numbers and of an MVC extension descriptor's, each with its struct, and Rust's constants and the header's;
+  - the header's tables of an entry's numbers and of an MVC extension descriptor's, each with its struct, the struct of a layer set and the lengths of its buffers, and
+    Rust's constants and the header's;
   - the refusals: the table of words (words/refusals.tsv), C's enum, Rust's constants and enum, Python's enum and the source's own enum
     (crates/vocabulary/src/refusal.rt) have the same numbers under the same names, with a place or without; every number has words of its own,
     which say what its place counts; and the comments of C's and Rust's enums are those words;
@@ -172,6 +173,18 @@ def layout_differs(text, struct_name, constant):
     return found
 
 
+def set_layout_differs(text):
+    """What differs between the header's struct of a layer set and the lengths of its two buffers."""
+    number = {name: int(value) for name, value in re.findall(r"#define (THQ_\w+) (\d+)", text)}
+    entries, stored = re.search(r"typedef struct thq_set \{\s*thq_entry layers\[(\d+)\];\s*uint64_t stored\[(\w+)\];\s*\}", text).groups()
+    found = []
+    if int(entries) * number["THQ_ENTRY_NUMBERS"] != number["THQ_SET_LAYERS"]:
+        found.append(f"the struct of a layer set has {entries} entries, and THQ_SET_LAYERS is {number['THQ_SET_LAYERS']}")
+    if stored != "THQ_SET_STORED" or number["THQ_SET_STORED"] != 3 * int(entries):
+        found.append(f"what is stored of a layer set is three columns of {entries} numbers each")
+    return found
+
+
 # ---- constants and refusals
 
 def enumerators(header):
@@ -285,6 +298,7 @@ def all_differences(texts):
             + functions_differ(header, rattle_functions(texts[SOURCE]), SOURCE)
             + layout_differs(texts[HEADER], "thq_entry", "THQ_ENTRY_NUMBERS")
             + layout_differs(texts[HEADER], "thq_mvc_extension", "THQ_MVC_EXTENSION_NUMBERS")
+            + set_layout_differs(texts[HEADER])
             + constants_differ(texts[HEADER], texts[RUST])
             + refusals_differ(texts)
             + versions_differ(texts))
@@ -299,6 +313,10 @@ CHANGES = [
     (HEADER, "uint16_t view_order_index_min;", "uint16_t view_order_index_least;"),
     (HEADER, "    uint16_t no_sei_nal_unit_present;\n", ""),
     (HEADER, "#define THQ_MVC_EXTENSION_NUMBERS 8", "#define THQ_MVC_EXTENSION_NUMBERS 9"),
+    (HEADER, "thq_entry layers[64]", "thq_entry layers[63]"),
+    (HEADER, "uint64_t stored[THQ_SET_STORED]", "uint64_t stored[64]"),
+    (HEADER, "#define THQ_SET_LAYERS 5120", "#define THQ_SET_LAYERS 5121"),
+    (HEADER, "const uint16_t *entry,", "uint16_t *entry,"),
     (HEADER, "#define THQ_HIERARCHY 1", "#define THQ_HIERARCHY 3"),
     (HEADER, "#define THQ_IMPLIED 3", "#define THQ_IMPLIED 2"),
     (HEADER, "THQ_REFUSED_UNPAIRED = 15", "THQ_REFUSED_UNPAIRED = 16"),
@@ -316,6 +334,7 @@ CHANGES = [
     (PYTHON, '("indices", POINTER(c_uint8))', '("indices", POINTER(c_uint64))'),
     (PYTHON, '("present", c_uint64),', ""),
     (PYTHON, '("extensions", POINTER(c_uint16))', '("extensions", POINTER(c_uint8))'),
+    (PYTHON, '("layers", POINTER(c_uint16))', '("layers", POINTER(c_uint64))'),
     (PYTHON, '("bytes", c_char_p)', '("bytes", POINTER(c_uint16))'),
     (PYTHON, "libthoquenry.so.0.5", "libthoquenry.so.1"),
     (PYTHON, "range(500, 600)", "range(400, 500)"),

@@ -67,6 +67,7 @@ called_from_rust() {
 called_from_python() {
     scripts/python-x86 -B python/tests/test_stereo.py
     scripts/python-x86 -B python/tests/test_thoquenry.py
+    scripts/python-x86 -B python/tests/test_layer_sets.py
     scripts/python-x86 -B python/examples/join.py >target/linked/python-example
     diff tests/example.txt target/linked/python-example
 }

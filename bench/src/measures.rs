@@ -15,7 +15,7 @@ pub struct Measure {
     pub bytes: Option<usize>,
     pub library: Side,
     pub plain: Side,
-    /// The plain search from the start of the table for every row.
+    /// The plain search from the start of the table for every row; of layer sets, everything worked out afresh.
     pub search: Option<Side>,
 }
 
@@ -534,6 +534,7 @@ pub fn all() -> Vec<Measure> {
         import(32, SUMMARY),
     ];
     measures.extend(stereo::measures());
+    measures.extend(crate::sets::all());
     measures
 }
 

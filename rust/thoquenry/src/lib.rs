@@ -15,12 +15,14 @@
 #![warn(missing_docs)]
 
 mod entry;
+mod layer_set;
 mod layers;
 mod refusal;
 mod stereo;
 
 pub use entry::{Channel, Entry, NuhLayerId, Record, TemporalId};
-pub use layers::{LayerIndex, LayerSet, Layers};
+pub use layer_set::{Layer, LayerSet};
+pub use layers::{LayerIndex, LayerIndices, Layers};
 pub use refusal::Refusal;
 pub use stereo::{read_stereo, write_stereo, MvcExtension, StereoSet};
 
@@ -91,7 +93,7 @@ pub struct Component {
 #[derive(Clone, Debug, PartialEq, Eq, Hash)]
 pub struct Units {
     /// The target and the layers that it rests on.
-    pub closure: LayerSet,
+    pub closure: LayerIndices,
     /// The units in order of time, each with one component for each layer that its head rests on, in rising layer index, so that the head comes
     /// last. Each row of a layer of the closure stands in exactly one.
     pub units: Vec<Vec<Component>>,
@@ -161,7 +163,11 @@ pub fn write_loop(entries: &[Entry]) -> Result<Vec<u8>, Refusal> {
 }
 
 /// The layers that a target rests on, itself included. Refusals: 1 to 12.
-pub fn closure(reading: Reading, bytes: &[u8], target: LayerIndex) -> Result<LayerSet, Refusal> {
+pub fn closure(
+    reading: Reading,
+    bytes: &[u8],
+    target: LayerIndex,
+) -> Result<LayerIndices, Refusal> {
     let mut set = [0];
     // SAFETY: pointer and length of each buffer belong together; `set` is this call's own.
     let answer = unsafe {
@@ -175,7 +181,7 @@ pub fn closure(reading: Reading, bytes: &[u8], target: LayerIndex) -> Result<Lay
         )
     };
     accepted(answer)?;
-    Ok(LayerSet(set[0]))
+    Ok(LayerIndices(set[0]))
 }
 
 /// Reads the times of a PES header, whether a TREF stands in it, and where it ends. Refusals: 20 to 24.
@@ -374,7 +380,7 @@ fn joined(
             lag,
         });
     Ok(Units {
-        closure: LayerSet(closure),
+        closure: LayerIndices(closure),
         units: lists.sizes[..units as usize]
             .iter()
             .map(|&size| components.by_ref().take(size as usize).collect())
