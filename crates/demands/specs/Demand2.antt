@@ -210,12 +210,11 @@ imported-meant {given} means is-answer is-after = go (rw (is-answer, is-after) a
 -- whatever is right says so
 says : (given : RowsGiven) {answer : Joined} {left : Lists} → joinRows .Means given answer left → Says given answer left
 says given {answer} {left} means =
-    let only = rows-joined .no-other given in
     let computed = joining.joined-only (given .most) (given .layers) (given .target) (given .rows) (given .before) means .is-answer in
     record {
       units = λ closure units rows after. (
         λ e. units-meant {given = given} means (e .0) (e .1),
-        λ u. only {beside = after} means (Joining.over-closure (u .closed) (Joining.joined (u .in-order) (u .in-one-unit) (u .near) (u .accepted))),
+        λ u. rows-joined .no-other given {beside = after} means (Joining.over-closure (u .closed) (Joining.joined (u .in-order) (u .in-one-unit) (u .near) (u .accepted))),
       );
       unpaired = λ row. (let law = joining.given-15 (given .most) (given .layers) (given .target) (given .rows) (given .before) row in (
         λ e. (let w = law .0 (sym computed ∙ e) in record { closure = w .0; closed = w .1; in-order = w .2; first = w .3 }),

@@ -75,7 +75,8 @@ pub record ForCPinned : Type 0 where
   pub used-twice : joins 9000 (5 ∷ 5 ∷ 5 ∷ []) ≡ leaves (16 + 256 * 3) fours (5 ∷ 5 ∷ 5 ∷ [])
   pub no-room-for-summary : joins 12600 (5 ∷ []) ≡ leaves (17 + 256 * 0) fours (5 ∷ [])
   -- a work space for four rows, and for three
-  pub joined-long : joinLongCall 4 0b11 (0 ∷ 0b1 ∷ []) 1 (rowsUpTo 12600) fours (5 ∷ 5 ∷ []) ≡ joins 12600 (5 ∷ 5 ∷ [])
+  pub joined-long : joinLongCall 4 0b11 (0 ∷ 0b1 ∷ []) 1 (rowsUpTo 12600) fours (5 ∷ 5 ∷ [])
+      ≡ leaves (0 + 256 * 4) (lists (0 ∷ 1 ∷ 2 ∷ 3 ∷ []) (pos 0 ∷ pos 0 ∷ pos 600 ∷ pos 0 ∷ []) (2 ∷ 2 ∷ 5 ∷ 5 ∷ [])) (0b11 ∷ 2 ∷ [])
   pub too-long : joinLongCall 3 0b11 (0 ∷ 0b1 ∷ []) 1 (rowsUpTo 12600) fours (5 ∷ 5 ∷ []) ≡ leaves (13 + 256 * 0) fours (5 ∷ 5 ∷ [])
 
 pub record Pinned : Type 0 where
