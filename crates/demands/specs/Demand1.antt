@@ -14,6 +14,8 @@ use Rattle.demands.specs.Told.{forC}
 use Rattle.demands.specs.Others.{RefuseNothing, refuse-nothing}
 use Rattle.demands.specs.ForC.{thqReadLoop, thqWriteLoop, thqClosure, thqReadTimes, thqWriteTimes, thqJoin, thqImport}
 use Rattle.demands.specs.ForCShown.{thq-loop-read, thq-loop-written, thq-closure-found, thq-times-read, thq-times-written, thq-rows-joined, thq-loop-imported}
+use Rattle.demands.specs.Stereo.{thqReadStereo, thqWriteStereo}
+use Rattle.demands.specs.StereoShown.{thq-stereo-read, thq-stereo-written}
 
 pub record Demand-1 : Type 0 where
   -- 1 to 9
@@ -48,6 +50,10 @@ pub record Demand-1 : Type 0 where
   pub thq-join : Promised (forC thqJoin)
   -- 1 to 9, 11 to 17, 255
   pub thq-import : Promised (forC thqImport)
+  -- 1 to 9, 17, 44 to 46
+  pub thq-read-stereo : Promised (forC thqReadStereo)
+  -- 1, 3, 6 to 9, 17, 25, 44, 46
+  pub thq-write-stereo : Promised (forC thqWriteStereo)
   -- none
   pub others : RefuseNothing
 
@@ -70,5 +76,7 @@ demand-1 =
       thq-write-times = thq-times-written;
       thq-join = thq-rows-joined;
       thq-import = thq-loop-imported;
+      thq-read-stereo = thq-stereo-read;
+      thq-write-stereo = thq-stereo-written;
       others = refuse-nothing;
     }

@@ -3,7 +3,6 @@
 -- Assumes nothing.
 use Prim.Native.Nat.{ℕ, _+_, _≤_, _<_}
 use mathlib.Core.Path.{_≡_}
-use mathlib.Core.Logic.{_⊎_}
 use mathlib.Core.List.{List, [], _∷_, _++_}
 use lib.ListN.{length, drop}
 use Rattle.syntax.specs.Named.{WrittenBy}
@@ -11,21 +10,23 @@ use Rattle.syntax.specs.Filled.{Filled, Writes}
 use Rattle.vocabulary.specs.declared.refusal.Refusal.{Refusal}
 use Rattle.vocabulary.specs.declared.refusal.Refusal.the-variants.{LoopTooLong, NoRoom, NotStereoSet, RangesMeet}
 use Rattle.vocabulary.specs.Refusals.{numberOf, placeOf}
-use Rattle.descriptors.specs.Records.{recordTables}
 use Rattle.es_loop.specs.declared.entries.Entry.{Entry}
 use Rattle.loop_writer.specs.declared.writer.Written.{Written}
 use Rattle.loop_writer.specs.declared.writer.Written.the-variants.{Bytes, Refused}
 use Rattle.loop_writer.specs.Layout.{entryHeadTable}
 use Rattle.loop_writer.specs.Meaning.{WritesEntries, Condition}
+use Rattle.loop_writer.specs.Meaning as Loop
 use Rattle.mvc_extension.specs.declared.MvcExtension.{MvcExtension}
 use Rattle.mvc_extension.specs.Ranges.{WrongRanges}
 use Rattle.mvc_descriptors.specs.Tables.{mvcExtensionTables}
 use Rattle.stereo_set.specs.Two.{LayerAt, LayerOf, TwoLayers}
 
--- THE BYTES. 'an entry has its hierarchy descriptor, if any, then tag 49': the tables of its record, then these
+-- THE BYTES. 'an entry has its hierarchy descriptor, if any, then tag 49': what the loop writer writes behind its head of 5 bytes, then these tables, and before both a head in which
+-- ES_info_length counts both.
 pub data WritesWith (e : Entry) (extra : List Filled) : List ℕ → Type 0 where
-  head-then : {head info : List ℕ} → (let table : Filled = entryHeadTable (e .«stream_type») (e .pid) (length info) in WrittenBy (table .table) (table .given) head)
-      → Writes (recordTables (e .«record») (e .embedded) ++ extra) info → WritesWith e extra (head ++ info)
+  with-more : (plain info : List ℕ) {head more : List ℕ} → Loop.WritesEntry e (plain ++ info) → length plain ≡ 5 → Writes extra more
+      → (let table : Filled = entryHeadTable (e .«stream_type») (e .pid) (length (info ++ more)) in WrittenBy (table .table) (table .given) head)
+      → WritesWith e extra (head ++ (info ++ more))
 
 module _ (x y : MvcExtension) where
   -- the base is given the first descriptor, the other layer the second, and what is no layer none
