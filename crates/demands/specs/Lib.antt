@@ -2,6 +2,8 @@ pub mod Told
 pub mod ToldShown
 pub mod ForC
 pub mod ForCShown
+pub mod Sets
+pub mod SetsShown
 pub mod Others
 pub mod Demand1
 pub mod Demand2
