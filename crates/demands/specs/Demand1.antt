@@ -18,6 +18,9 @@ use Rattle.demands.specs.ForCShown.{thq-loop-read, thq-loop-written, thq
 use Rattle.demands.specs.JoinsForCShown.{thq-rows-joined, thq-long-joined, thq-loop-imported}
 use Rattle.demands.specs.Stereo.{thqReadStereo, thqWriteStereo}
 use Rattle.demands.specs.StereoShown.{thq-stereo-read, thq-stereo-written}
+use Rattle.demands.specs.Sets.{readLayerSet, addLayer, removeLayer, thqSetRead, thqSetAdd, thqSetRemove, thqSetClosure}
+use Rattle.demands.specs.SetsShown.{set-read, layer-added, layer-removed}
+use Rattle.demands.specs.SetsShown as shown
 
 pub record Demand-1 : Type 0 where
   -- 1 to 9
@@ -58,6 +61,20 @@ pub record Demand-1 : Type 0 where
   pub thq-read-stereo : Promised (forC thqReadStereo)
   -- 1, 3, 6 to 9, 17, 25, 44, 46
   pub thq-write-stereo : Promised (forC thqWriteStereo)
+  -- 1 to 9
+  pub reading-a-layer-set : Promised readLayerSet
+  -- 3, 6 to 9, 25, of a layer set
+  pub adding-a-layer : Promised addLayer
+  -- 11, of a layer set
+  pub removing-a-layer : Promised removeLayer
+  -- 1 to 9, 255
+  pub thq-set-read : Promised (forC thqSetRead)
+  -- 3, 6 to 9, 25, 255
+  pub thq-set-add : Promised (forC thqSetAdd)
+  -- 11, 255
+  pub thq-set-remove : Promised (forC thqSetRemove)
+  -- 11, 12, 17, 255
+  pub thq-set-closure : Promised (forC thqSetClosure)
   -- none
   pub others : RefuseNothing
 
@@ -84,5 +101,12 @@ demand-1 =
       thq-import = thq-loop-imported;
       thq-read-stereo = thq-stereo-read;
       thq-write-stereo = thq-stereo-written;
+      reading-a-layer-set = set-read;
+      adding-a-layer = layer-added;
+      removing-a-layer = layer-removed;
+      thq-set-read = shown.thq-set-read;
+      thq-set-add = shown.thq-set-add;
+      thq-set-remove = shown.thq-set-remove;
+      thq-set-closure = shown.thq-set-closure;
       others = refuse-nothing;
     }

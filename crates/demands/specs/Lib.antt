@@ -6,6 +6,8 @@ pub mod JoinsForC
 pub mod JoinsForCShown
 pub mod Stereo
 pub mod StereoShown
+pub mod Sets
+pub mod SetsShown
 pub mod Others
 pub mod Demand1
 pub mod Demand2
