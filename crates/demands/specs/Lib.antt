@@ -15,5 +15,6 @@ pub mod Demand3
 pub mod Embedding
 pub mod EveryRow
 pub mod OtherLayers
+pub mod LayerSets
 pub mod Starred
 pub mod Pins
