@@ -19,12 +19,12 @@ use Rattle.spans.specs.Meaning.{SpansTooFar}
 use Rattle.heads.specs.Meaning.{SharesRow}
 use Rattle.heads.proofs.Orderly.{closed, orderly-of}
 use Rattle.unit_lists.specs.Meaning.{UnitsOf, no-unit, next-unit}
-use Rattle.unit_lists.specs.Sequence.{unitRows, unitSizes}
+use Rattle.unit_lists.specs.Sequence.{unitRows, unitSizes, Lists}
 use Rattle.every_row.specs.Statements.{EachOnce, total, TargetRow}
 use Rattle.every_row.proofs.Sizes.{each-once, sizes-sum, target-size}
 use Rattle.every_row.proofs.Order.{target-order}
 use Rattle.joining.specs.declared.answer.Joined.the-variants.{Units}
-use Rattle.joining.specs.Joining.{frameOf, joinedOf, Lists, roomOf}
+use Rattle.joining.specs.Joining.{frameOf, joinedOf, roomOf}
 use Rattle.joining.specs.Meaning.{Accepted}
 use Rattle.joining.proofs.Framing.{framed}
 use Rattle.joining.proofs.Contents.{content-only}
