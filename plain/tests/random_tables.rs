@@ -55,7 +55,7 @@ fn table(random: &mut Random, layers: &Layers) -> Vec<(u8, u64, u64)> {
 #[test]
 fn all_ways_agree() {
     let mut seen = [0; 19];
-    for seed in 0..200_000 {
+    for seed in 0..20_000 {
         let random = &mut Random(seed * 7919);
         let layers = layers(random);
         let target = random.below(u64::from(layers.present.count_ones()));
@@ -65,7 +65,7 @@ fn all_ways_agree() {
     }
     for number in [0, 14, 15, 16, 18] {
         assert!(
-            seen[number] > 100,
+            seen[number] > 10,
             "{number} was given {} times",
             seen[number]
         );
