@@ -14,6 +14,9 @@ use Rattle.demands.specs.Told.{forC}
 use Rattle.demands.specs.Others.{RefuseNothing, refuse-nothing}
 use Rattle.demands.specs.ForC.{thqReadLoop, thqWriteLoop, thqClosure, thqReadTimes, thqWriteTimes, thqJoin, thqImport}
 use Rattle.demands.specs.ForCShown.{thq-loop-read, thq-loop-written, thq-closure-found, thq-times-read, thq-times-written, thq-rows-joined, thq-loop-imported}
+use Rattle.demands.specs.Sets.{readLayerSet, addLayer, removeLayer, thqSetRead, thqSetAdd, thqSetRemove, thqSetClosure}
+use Rattle.demands.specs.SetsShown.{set-read, layer-added, layer-removed}
+use Rattle.demands.specs.SetsShown as shown
 
 pub record Demand-1 : Type 0 where
   -- 1 to 9
@@ -48,6 +51,20 @@ pub record Demand-1 : Type 0 where
   pub thq-join : Promised (forC thqJoin)
   -- 1 to 9, 11 to 17, 255
   pub thq-import : Promised (forC thqImport)
+  -- 1 to 9
+  pub reading-a-layer-set : Promised readLayerSet
+  -- 3, 6 to 9, 25, of a layer set
+  pub adding-a-layer : Promised addLayer
+  -- 11, of a layer set
+  pub removing-a-layer : Promised removeLayer
+  -- 1 to 9, 255
+  pub thq-set-read : Promised (forC thqSetRead)
+  -- 3, 6 to 9, 25, 255
+  pub thq-set-add : Promised (forC thqSetAdd)
+  -- 11, 255
+  pub thq-set-remove : Promised (forC thqSetRemove)
+  -- 11, 12, 17, 255
+  pub thq-set-closure : Promised (forC thqSetClosure)
   -- none
   pub others : RefuseNothing
 
@@ -70,5 +87,12 @@ demand-1 =
       thq-write-times = thq-times-written;
       thq-join = thq-rows-joined;
       thq-import = thq-loop-imported;
+      reading-a-layer-set = set-read;
+      adding-a-layer = layer-added;
+      removing-a-layer = layer-removed;
+      thq-set-read = shown.thq-set-read;
+      thq-set-add = shown.thq-set-add;
+      thq-set-remove = shown.thq-set-remove;
+      thq-set-closure = shown.thq-set-closure;
       others = refuse-nothing;
     }

@@ -51,6 +51,9 @@ use Rattle.promised.specs.Joiners.{joinTable, table-joined, joinRows, rows-join
 use Rattle.demands.specs.Told.{forC}
 use Rattle.demands.specs.ForC.{thqReadLoop, thqWriteLoop, thqClosure, thqReadTimes, thqWriteTimes, thqJoin, thqImport}
 use Rattle.demands.specs.ForCShown.{thq-loop-read, thq-loop-written, thq-closure-found, thq-times-read, thq-times-written, thq-rows-joined, thq-loop-imported}
+use Rattle.demands.specs.Sets.{readLayerSet, addLayer, removeLayer, thqSetRead, thqSetAdd, thqSetRemove, thqSetClosure}
+use Rattle.demands.specs.SetsShown.{set-read, layer-added, layer-removed}
+use Rattle.demands.specs.SetsShown as shown
 use Rattle.demands.specs.Demand2.{entriesOf, asGiven, LoopRewritten, read-back, rewritten}
 
 -- ---- 'Show that in the new build refusal 10 never occurs.'
@@ -79,6 +82,14 @@ pub record TenNever : Type 0 where
   pub thq-write-times : Never10 (forC thqWriteTimes)
   pub thq-join : Never10 (forC thqJoin)
   pub thq-import : Never10 (forC thqImport)
+  -- layer sets
+  pub reading-a-layer-set : Never10 readLayerSet
+  pub adding-a-layer : Never10 addLayer
+  pub removing-a-layer : Never10 removeLayer
+  pub thq-set-read : Never10 (forC thqSetRead)
+  pub thq-set-add : Never10 (forC thqSetAdd)
+  pub thq-set-remove : Never10 (forC thqSetRemove)
+  pub thq-set-closure : Never10 (forC thqSetClosure)
   -- the listing, and with it the program `layers`, which prints it
   pub listing : (reading : Reading) (bytes rest : List ℕ) → loopText reading bytes ≡ ascii "refused 10 " ++ rest → ⊥
 
@@ -154,6 +165,13 @@ ten-never =
       thq-write-times = never thq-times-written refl;
       thq-join = never thq-rows-joined refl;
       thq-import = never thq-loop-imported refl;
+      reading-a-layer-set = never set-read refl;
+      adding-a-layer = never layer-added refl;
+      removing-a-layer = never layer-removed refl;
+      thq-set-read = never shown.thq-set-read refl;
+      thq-set-add = never shown.thq-set-add refl;
+      thq-set-remove = never shown.thq-set-remove refl;
+      thq-set-closure = never shown.thq-set-closure refl;
       listing = never-in-text;
     }
 

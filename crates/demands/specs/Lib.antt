@@ -2,10 +2,13 @@ pub mod Told
 pub mod ToldShown
 pub mod ForC
 pub mod ForCShown
+pub mod Sets
+pub mod SetsShown
 pub mod Others
 pub mod Demand1
 pub mod Demand2
 pub mod Demand3
 pub mod Embedding
+pub mod LayerSets
 pub mod Starred
 pub mod Pins

@@ -220,14 +220,7 @@ pub fn work_out(
     *absents = [false; 64];
     let mut index = 0;
     while index < 64 {
-        work_out_at(
-            present,
-            index,
-            embedded[index],
-            closures,
-            sizes,
-            absents,
-        );
+        work_out_at(present, index, embedded[index], closures, sizes, absents);
         index += 1;
     }
 }

@@ -333,9 +333,9 @@ module _ (s : LayerSet) (is : IsSet s) (i : ℕ) where
             gone = in-set fewer fewer-set i h (left-here s is i h p);
             others = λ j x d. (
               (λ l. let k : j < 64 = layer-below-64 (s .layers) j (l .in-set) in
-              record { in-set = in-set fewer fewer-set j k (left-other s is i h p j d ∙ set-has s is j (l .in-set)); entry = less-other s is i h p j d ∙ l .entry }),
+                  record { in-set = in-set fewer fewer-set j k (left-other s is i h p j d ∙ set-has s is j (l .in-set)); entry = less-other s is i h p j d ∙ l .entry }),
               (λ l. let k : j < 64 = layer-below-64 (fewer .layers) j (l .in-set) in
-              record { in-set = in-set s is j k (sym (left-other s is i h p j d) ∙ set-has fewer fewer-set j (l .in-set)); entry = sym (less-other s is i h p j d) ∙ l .entry }),
+                  record { in-set = in-set s is j k (sym (left-other s is i h p j d) ∙ set-has fewer fewer-set j (l .in-set)); entry = sym (less-other s is i h p j d) ∙ l .entry }),
             );
           })
 

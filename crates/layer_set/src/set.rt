@@ -65,13 +65,7 @@ pub fn place(placed: Placed, entry: Entry) -> Placed
     let mut embedded = layers.embedded;
     let named = entry.embedded;
     let names = descriptors::names(stream_type, record, named);
-    let present = loop_layers::add_layer(
-        stream_type,
-        record,
-        names,
-        layers.present,
-        &mut embedded,
-    );
+    let present = loop_layers::add_layer(stream_type, record, names, layers.present, &mut embedded);
     let mut entries = placed.entries;
     entries[index] = entry;
     Placed {

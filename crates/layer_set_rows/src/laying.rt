@@ -54,12 +54,7 @@ pub fn lay_entries(entries: [Entry; 64], rows: &mut [u16])
 }
 
 // The stored numbers, over all of the buffer.
-pub fn lay_stored(
-    closures: &[u64; 64],
-    sizes: &[u8; 64],
-    absents: &[bool; 64],
-    stored: &mut [u64],
-)
+pub fn lay_stored(closures: &[u64; 64], sizes: &[u8; 64], absents: &[bool; 64], stored: &mut [u64])
     requires { ⌜ length (now stored) ≡ 192 ⌝ }
     ensures { λ r. ⌜ now (stored .exit) ≡ storedNumbers (columns (now (closures .entry)) (now (sizes .entry)) (now (absents .entry))) ⌝ }
 {
