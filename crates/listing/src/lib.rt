@@ -12,7 +12,7 @@ use vocabulary::Reading;
 use vocabulary::Refusal;
 
 // A label and a number after it.
-fn put_labelled(out: &mut [u8], at: usize, label: &[u8], n: u64) -> usize
+pub fn put_labelled(out: &mut [u8], at: usize, label: &[u8], n: u64) -> usize
     ensures { λ r. ⌜ Laid (now (out .entry)) at (labelled (now (label .entry)) n) r (now (out .exit)) ⌝ }
 {
     let next = text::put(out, at, label);
