@@ -386,7 +386,7 @@ pub fn skipped(random: &mut Random, reading: u64) -> Descriptor {
             Descriptor { tag: 63, payload }
         }
         1 => Descriptor {
-            tag: random.pick(&[3, 5, 62, 64, 0x44]),
+            tag: random.pick(&[3, 5, 49, 62, 64, 0x44]),
             payload,
         },
         _ => Descriptor {

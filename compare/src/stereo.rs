@@ -224,7 +224,7 @@ fn set(random: &mut Random) -> Vec<Stream> {
         let payload = payload(random, extension);
         insert(random, &mut stream, described(payload, MVC_EXTENSION_TAG));
         if random.once_in(4) {
-            let skipped = loops::skipped(random, 2015);
+            let skipped = skipped(random);
             insert(random, &mut stream, skipped);
         }
         streams.insert(random.below(streams.len() + 1), stream);
@@ -251,7 +251,7 @@ fn others(random: &mut Random, implied: bool) -> Vec<Stream> {
             insert(random, other, described(payload, MVC_EXTENSION_TAG));
         }
         if random.once_in(4) {
-            let skipped = loops::skipped(random, 2015);
+            let skipped = skipped(random);
             insert(random, other, skipped);
         }
     }
@@ -261,6 +261,15 @@ fn others(random: &mut Random, implied: bool) -> Vec<Stream> {
         length <= LONGEST_LOOP / 2 - 50
     });
     streams
+}
+
+/// A descriptor that is skipped in a stereo set too.
+fn skipped(random: &mut Random) -> Descriptor {
+    let mut skipped = loops::skipped(random, 2015);
+    if skipped.tag == MVC_EXTENSION_TAG {
+        skipped.tag = 48;
+    }
+    skipped
 }
 
 /// Inserts a descriptor somewhere.
