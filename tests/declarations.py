@@ -4,7 +4,7 @@ another: the functions' names, and the name, number, order, width and constness 
 parameter of the source is a pointer and, after it, a length. (ctypes does not say whether a pointer is const, so there it is not compared.)
 
 It also holds to one another
-  - the header's table of an entry's numbers and its struct, and Rust's constants and the header's;
+  - the header's table of an entry's numbers and its struct, the struct of a layer set and the lengths of its buffers, and Rust's constants and the header's;
   - the refusals: the table of words (words/refusals.tsv), C's enum, Rust's constants and enum, Python's enum and the source's own enum
     (crates/vocabulary/src/refusal.rt) have the same numbers under the same names, with a place or without; every number has words of its own,
     which say what its place counts; and the comments of C's and Rust's enums are those words;
@@ -169,6 +169,18 @@ def layout_differs(text):
     return found
 
 
+def set_layout_differs(text):
+    """What differs between the header's struct of a layer set and the lengths of its two buffers."""
+    number = {name: int(value) for name, value in re.findall(r"#define (THQ_\w+) (\d+)", text)}
+    entries, stored = re.search(r"typedef struct thq_set \{\s*thq_entry layers\[(\d+)\];\s*uint64_t stored\[(\w+)\];\s*\}", text).groups()
+    found = []
+    if int(entries) * number["THQ_ENTRY_NUMBERS"] != number["THQ_SET_LAYERS"]:
+        found.append(f"the struct of a layer set has {entries} entries, and THQ_SET_LAYERS is {number['THQ_SET_LAYERS']}")
+    if stored != "THQ_SET_STORED" or number["THQ_SET_STORED"] != 3 * int(entries):
+        found.append(f"what is stored of a layer set is three columns of {entries} numbers each")
+    return found
+
+
 # ---- constants and refusals
 
 def enumerators(header):
@@ -281,6 +293,7 @@ def all_differences(texts):
             + functions_differ(header, python_functions(texts[PYTHON]), PYTHON)
             + functions_differ(header, rattle_functions(texts[SOURCE]), SOURCE)
             + layout_differs(texts[HEADER])
+            + set_layout_differs(texts[HEADER])
             + constants_differ(texts[HEADER], texts[RUST])
             + refusals_differ(texts)
             + versions_differ(texts))
@@ -292,6 +305,10 @@ CHANGES = [
     (HEADER, "size_t out_length", "uint64_t out_length"),
     (HEADER, "thq_import(", "thq_imports("),
     (HEADER, "uint16_t embedded[63]", "uint16_t embedded[62]"),
+    (HEADER, "thq_entry layers[64]", "thq_entry layers[63]"),
+    (HEADER, "uint64_t stored[THQ_SET_STORED]", "uint64_t stored[64]"),
+    (HEADER, "#define THQ_SET_LAYERS 5120", "#define THQ_SET_LAYERS 5121"),
+    (HEADER, "const uint16_t *entry,", "uint16_t *entry,"),
     (HEADER, "#define THQ_HIERARCHY 1", "#define THQ_HIERARCHY 3"),
     (HEADER, "#define THQ_IMPLIED 3", "#define THQ_IMPLIED 2"),
     (HEADER, "THQ_REFUSED_UNPAIRED = 15", "THQ_REFUSED_UNPAIRED = 16"),
@@ -306,6 +323,7 @@ CHANGES = [
     (RUST, "pub const THQ_REFUSED_NO_PTS: u64 = 21;\n", ""),
     (PYTHON, '("indices", POINTER(c_uint8))', '("indices", POINTER(c_uint64))'),
     (PYTHON, '("present", c_uint64),', ""),
+    (PYTHON, '("layers", POINTER(c_uint16))', '("layers", POINTER(c_uint64))'),
     (PYTHON, '("bytes", c_char_p)', '("bytes", POINTER(c_uint16))'),
     (PYTHON, "libthoquenry.so.0.4", "libthoquenry.so.1"),
     (PYTHON, "range(400, 500)", "range(500, 600)"),

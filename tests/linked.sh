@@ -43,10 +43,12 @@ declarations() {
 }
 
 called_from_c() {
-    for way in target/lib/libthoquenry.a "-Ltarget/lib -lthoquenry"; do
-        # shellcheck disable=SC2086  # a list of words
-        x86_64-linux-gnu-gcc -std=c11 -O2 -Wall -Wextra -Werror -pedantic -Iinclude tests/c/import.c $way -o target/linked/import
-        THOQUENRY_LIBRARIES=$PWD/target/lib LD_LIBRARY_PATH=$PWD/target/lib scripts/x86 target/linked/import
+    for program in import layer_sets; do
+        for way in target/lib/libthoquenry.a "-Ltarget/lib -lthoquenry"; do
+            # shellcheck disable=SC2086  # a list of words
+            x86_64-linux-gnu-gcc -std=c11 -O2 -Wall -Wextra -Werror -pedantic -Iinclude "tests/c/$program.c" $way -o "target/linked/$program"
+            THOQUENRY_LIBRARIES=$PWD/target/lib LD_LIBRARY_PATH=$PWD/target/lib scripts/x86 "target/linked/$program"
+        done
     done
     echo "ok, with the archive and with the shared object"
 }
@@ -63,6 +65,7 @@ called_from_rust() {
 
 called_from_python() {
     scripts/python-x86 -B python/tests/test_thoquenry.py
+    scripts/python-x86 -B python/tests/test_layer_sets.py
     scripts/python-x86 -B python/examples/join.py >target/linked/python-example
     diff tests/example.txt target/linked/python-example
 }

@@ -15,6 +15,7 @@
 mod clock;
 mod inputs;
 mod measures;
+mod sets;
 mod stack;
 mod tables;
 mod times;

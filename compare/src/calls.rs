@@ -94,7 +94,7 @@ pub fn value(answer: u64) -> u64 {
     answer / 256
 }
 
-fn answer(result: Result<usize, Refusal>) -> u64 {
+pub fn answer(result: Result<usize, Refusal>) -> u64 {
     match result {
         Ok(count) => count as u64 * 256,
         Err(Refusal { number, place }) => u64::from(number) + place as u64 * 256,
@@ -500,7 +500,7 @@ pub fn numbers_of(entry: &Entry) -> [u16; ENTRY] {
 }
 
 /// The entry that 80 numbers say, or 25 where one of those that are looked at is too wide for any entry.
-fn entry_of(numbers: &[u16]) -> Result<Entry, Refusal> {
+pub fn entry_of(numbers: &[u16]) -> Result<Entry, Refusal> {
     let byte = |place: usize| u8::try_from(numbers[place]).map_err(|_| Refusal::of(25));
     let flag = |place: usize| match numbers[place] {
         0 => Ok(false),

@@ -655,7 +655,7 @@ pub fn entries(random: &mut Random) -> (Vec<u16>, Quality) {
 }
 
 /// Fills the numbers that a writer doesn't look at.
-fn fill_unread(random: &mut Random, entry: &mut [u16; ENTRY]) {
+pub fn fill_unread(random: &mut Random, entry: &mut [u16; ENTRY]) {
     let unread: Vec<usize> = match entry[2] {
         0 | 3 => (3..ENTRY).collect(),
         1 => (12..ENTRY).collect(),

@@ -1,6 +1,7 @@
 //! Compares the library with the plain implementation of document 01 on generated inputs: answers, and every buffer in full.
 //!
-//!     compare [--guarded] [SEED COUNT]    makes COUNT calls and prints how often each number was answered
+//!     compare [--guarded] [SEED COUNT]    makes COUNT calls, and sequences of changes of layer sets beside them, and prints how often each number
+//!                                         was answered
 //!     compare --show SEED CASE            prints one case and what the plain implementation answers, without calling the library
 //!
 //! It ends with status 1 at the first difference, which it prints with the whole input, and where a number that a call can answer was
@@ -13,6 +14,7 @@ mod headers;
 mod loops;
 mod memory;
 mod random;
+mod sets;
 mod show;
 mod tables;
 
@@ -33,6 +35,7 @@ struct Seen {
     numbers: [[u64; 256]; CALLS.len()],
     qualities: [[u64; Quality::NAMES.len()]; CALLS.len()],
     implied: [u64; CALLS.len()],
+    sets: sets::Seen,
 }
 
 fn main() -> ExitCode {
@@ -53,6 +56,10 @@ fn main() -> ExitCode {
             return ExitCode::from(2);
         }
     };
+    if show_one && count >= sets::FIRST {
+        print!("{}", sets::show(seed, count));
+        return ExitCode::SUCCESS;
+    }
     if show_one {
         let (mut call, quality) = cases::case(seed, count);
         print!("{quality:?} {}", show::call(&call));
@@ -78,6 +85,7 @@ fn run(seed: u64, count: u64, guarded: bool) -> Result<Seen, String> {
         numbers: [[0; 256]; CALLS.len()],
         qualities: [[0; Quality::NAMES.len()]; CALLS.len()],
         implied: [0; CALLS.len()],
+        sets: sets::run(seed, count / 3, guarded, &mut memory)?,
     };
     for number in 0..count {
         faults::note(seed, number);
@@ -115,24 +123,27 @@ fn run(seed: u64, count: u64, guarded: bool) -> Result<Seen, String> {
     Ok(seen)
 }
 
-/// Prints what was seen. A failure where a number that can be answered never was.
-fn summary(seed: u64, count: u64, seen: &Seen) -> ExitCode {
-    let line = |head: &str, cells: Vec<String>| {
-        print!("{head:<12}");
-        for cell in cells {
-            print!("{cell:>12}");
-        }
-        println!();
-    };
-    line("answered", CALLS.map(|(name, _)| name.to_string()).to_vec());
+/// Prints a line of a table.
+fn line(head: &str, cells: Vec<String>) {
+    print!("{head:<12}");
+    for cell in cells {
+        print!("{cell:>12}");
+    }
+    println!();
+}
+
+/// Prints how often each of these calls answered each number, and answers which number that a call can answer never was.
+fn answered(calls: &[(&str, &[u64])], numbers: &[[u64; 256]]) -> Vec<String> {
+    let names = calls.iter().map(|(name, _)| name.to_string());
+    line("answered", names.collect());
     let mut never = Vec::new();
     for number in 0..256 {
-        if !CALLS.iter().any(|(_, can)| can.contains(&number)) {
+        if !calls.iter().any(|(_, can)| can.contains(&number)) {
             continue;
         }
         let cell = |call: usize| {
-            let times = seen.numbers[call][number as usize];
-            if CALLS[call].1.contains(&number) {
+            let times = numbers[call][number as usize];
+            if calls[call].1.contains(&number) {
                 times.to_string()
             } else {
                 String::new()
@@ -143,14 +154,19 @@ fn summary(seed: u64, count: u64, seen: &Seen) -> ExitCode {
             calls::NOT_A_CALL => "no call".to_string(),
             number => format!("refused {number}"),
         };
-        line(&head, (0..CALLS.len()).map(cell).collect());
-        for (call, (name, can)) in CALLS.iter().enumerate() {
-            let times = seen.numbers[call][number as usize];
-            if can.contains(&number) && times == 0 {
+        line(&head, (0..calls.len()).map(cell).collect());
+        for (call, (name, can)) in calls.iter().enumerate() {
+            if can.contains(&number) && numbers[call][number as usize] == 0 {
                 never.push(format!("{name} never answered {number}"));
             }
         }
     }
+    never
+}
+
+/// Prints what was seen. A failure where a number that can be answered never was.
+fn summary(seed: u64, count: u64, seen: &Seen) -> ExitCode {
+    let mut never = answered(&CALLS, &seen.numbers);
     for (quality, name) in Quality::NAMES.iter().enumerate() {
         let cells = seen.qualities.iter().map(|one| one[quality].to_string());
         line(name, cells.collect());
@@ -164,11 +180,23 @@ fn summary(seed: u64, count: u64, seen: &Seen) -> ExitCode {
     for call in (0..CALLS.len()).filter(|&call| of_loops(call) && seen.implied[call] == 0) {
         never.push(format!("{} never met two views", CALLS[call].0));
     }
+    println!();
+    never.extend(answered(&sets::CALLS, &seen.sets.numbers));
+    never.extend(seen.sets.never());
+    let sets::Seen {
+        steps,
+        sequences,
+        no_sets,
+        other_sets,
+        lone_views,
+        ..
+    } = seen.sets;
+    println!("sets: {steps} steps in {sequences} sequences; damaged buffers: {no_sets} held no set, {other_sets} another; one of two views alone after {lone_views} removals");
     for one in &never {
         println!("compare: {one}");
     }
     if never.is_empty() {
-        println!("compare: {count} calls of seed {seed}, library and plain implementation agree in every answer and buffer");
+        println!("compare: {count} calls of seed {seed} and {steps} steps of layer sets, library and plain implementation agree in every answer and buffer");
         ExitCode::SUCCESS
     } else {
         ExitCode::FAILURE

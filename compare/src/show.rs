@@ -13,7 +13,7 @@ pub fn answer(answer: u64) -> String {
     }
 }
 
-fn hex(bytes: &[u8]) -> String {
+pub fn hex(bytes: &[u8]) -> String {
     let mut text = format!("({} bytes)", bytes.len());
     for byte in bytes {
         write!(text, " {byte:02X}").expect("text");
@@ -21,7 +21,7 @@ fn hex(bytes: &[u8]) -> String {
     text
 }
 
-fn numbers<T: Display>(list: &[T]) -> String {
+pub fn numbers<T: Display>(list: &[T]) -> String {
     let mut text = format!("({} numbers)", list.len());
     for number in list {
         write!(text, " {number}").expect("text");

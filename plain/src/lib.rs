@@ -10,12 +10,14 @@ mod closure;
 mod descriptors;
 mod entries;
 mod join;
+mod layer_sets;
 mod loops;
 mod times;
 
 pub use closure::{closure, closure_of_loop, layers_of, layers_of_loop, Layers};
 pub use entries::{Embedded, Entry, Extension, Hierarchy, Record};
 pub use join::{import, join, join_by_search, Columns, Rows, Units};
+pub use layer_sets::{KeptSet, Layer, LayerSet};
 pub use loops::{read_loop, read_loop_with, write_loop, LONGEST_LOOP};
 pub use times::{distance, lag, read_times, write_times, Header, Times};
 

@@ -14,13 +14,14 @@ from enum import IntEnum
 from itertools import chain, islice
 from operator import index
 from struct import Struct
-from typing import Iterable, List, Mapping, Optional, Tuple, Union
+from typing import Iterable, Iterator, List, Mapping, Optional, Tuple, Union
 
 from ._library import load
 from ._refusals import Number, Refused
 
 __all__ = [
-    "Component", "Entry", "Extension", "Header", "Hierarchy", "Implied", "Number", "Reading", "Refused", "Row", "Times", "Units",
+    "Component", "Entry", "Extension", "Header", "Hierarchy", "Implied", "Layer", "LayerSet", "Number", "Reading", "Refused", "Row", "Times",
+    "Units",
     "closure", "import_", "join", "read_loop", "read_times", "write_loop", "write_times",
 ]
 __version__ = "0.4.0"
@@ -45,6 +46,11 @@ _LIST = Struct("=63H")
 # More bytes than any header that write_times writes, and the most bytes that read_times looks at: a head of 9 and 255 after it.
 _HEADER_ROOM = 64
 _HEADER_BYTES = 9 + 255
+
+# The layer indices that there are, and the numbers of the two buffers of a layer set.
+_INDICES = 64
+_SET_LAYERS = _INDICES * _ENTRY_NUMBERS
+_SET_STORED = 3 * _INDICES
 
 # The most rows that a table has. Each row stands in one unit at most, so the lists of its units need no more places.
 _ROWS = 512
@@ -328,3 +334,84 @@ def _joined(function, first: tuple, rows: Iterable[Row]) -> Units:
     components = [Component(row, lag) for row, lag in zip(numbers[:count], lags[:count])]
     units = [components[k:k + len(members)] for k in range(0, count, len(members))]
     return Units(members, units, summary[2])
+
+
+@dataclass(frozen=True)
+class Layer:
+    """A layer of a LayerSet, and what is stored of its closure: the layers that it rests on, itself included, how many these are, and whether one of
+    them is absent. An absent one is among them as it is named; what lies below that is unknown."""
+
+    index: int
+    entry: Entry
+    closure: Tuple[int, ...]
+    closure_size: int
+    absent: bool
+
+
+class LayerSet:
+    """The layers of a program, by index, each with its closure, which the library works out and keeps as layers come and go. A refused change leaves
+    the set as it was. It begins with no layer, or with those of a loop (`LayerSet.read`)."""
+
+    def __init__(self) -> None:
+        # Both are written by the library alone, so that they always hold a set.
+        self._layers, _ = _room(c_uint16, _SET_LAYERS)
+        self._stored, _ = _room(c_uint64, _SET_STORED)
+
+    @classmethod
+    def read(cls, reading: Reading, loop: bytes) -> "LayerSet":
+        """The layers of a loop, implied ones included; streams that are no layer are left out. Refusals: 1 to 9."""
+        layer_set = cls()
+        _accepted(_LIBRARY.thq_set_read(_year(reading), *_loop(loop), *layer_set._buffers()))
+        return layer_set
+
+    def add(self, entry: Entry) -> None:
+        """Adds a layer, judged as the 2015 reading judges one of a loop. Refusals: 25; then 3 where a layer of the set has its PID; then 6 to 9, 6 also
+        for Implied and for no record. The place is 0."""
+        _accepted(_LIBRARY.thq_set_add(*self._buffers(), *_column("H", c_uint16, _to_numbers(entry))))
+
+    def remove(self, layer_index: int) -> None:
+        """Removes the layer of an index. Refusals: 11, also where the layer is only named."""
+        _accepted(_LIBRARY.thq_set_remove(*self._buffers(), _number(layer_index, 64)))
+
+    def closure(self, target: int) -> Tuple[int, ...]:
+        """The layers that a target rests on, itself included, rising, from what is stored. Refusals: 11, 12."""
+        members, room = _room(c_uint64, 1)
+        _accepted(_LIBRARY.thq_set_closure(*self._buffers(), _number(target, 64), members, room))
+        return _indices(members[0])
+
+    def copy(self) -> "LayerSet":
+        """The same set, which then changes by itself."""
+        other = LayerSet()
+        other._layers[:], other._stored[:] = self._layers, self._stored
+        return other
+
+    def _buffers(self):
+        return self._layers, _SET_LAYERS, self._stored, _SET_STORED
+
+    def __contains__(self, layer_index: int) -> bool:
+        """Whether there is a layer of an index."""
+        place = index(layer_index)
+        return 0 <= place < _INDICES and self._layers[place * _ENTRY_NUMBERS + 2] != 0
+
+    def __getitem__(self, layer_index: int) -> Layer:
+        """The layer of an index."""
+        if layer_index not in self:
+            raise KeyError(layer_index)
+        place = index(layer_index)
+        closure_of_layer, size, absent = self._stored[place::_INDICES]
+        return Layer(place, _entry(self._layers, place * 2 * _ENTRY_NUMBERS), _indices(closure_of_layer), size, absent == 1)
+
+    def __iter__(self) -> Iterator[Layer]:
+        """The layers, by rising index."""
+        return (self[place] for place in range(_INDICES) if place in self)
+
+    def __len__(self) -> int:
+        return sum(place in self for place in range(_INDICES))
+
+    def __eq__(self, other: object) -> bool:
+        if not isinstance(other, LayerSet):
+            return NotImplemented
+        return bytes(self._layers) == bytes(other._layers)
+
+    def __repr__(self) -> str:
+        return f"LayerSet({list(self)})"

@@ -53,6 +53,28 @@ DECLARATIONS = {
         ("lags", POINTER(c_int64)), ("lags_length", c_size_t),
         ("summary", POINTER(c_uint64)), ("summary_length", c_size_t),
     ]),
+    "thq_set_read": (c_uint64, [
+        ("reading", c_uint64),
+        ("bytes", c_char_p), ("bytes_length", c_size_t),
+        ("layers", POINTER(c_uint16)), ("layers_length", c_size_t),
+        ("stored", POINTER(c_uint64)), ("stored_length", c_size_t),
+    ]),
+    "thq_set_add": (c_uint64, [
+        ("layers", POINTER(c_uint16)), ("layers_length", c_size_t),
+        ("stored", POINTER(c_uint64)), ("stored_length", c_size_t),
+        ("entry", POINTER(c_uint16)), ("entry_length", c_size_t),
+    ]),
+    "thq_set_remove": (c_uint64, [
+        ("layers", POINTER(c_uint16)), ("layers_length", c_size_t),
+        ("stored", POINTER(c_uint64)), ("stored_length", c_size_t),
+        ("index", c_uint64),
+    ]),
+    "thq_set_closure": (c_uint64, [
+        ("layers", POINTER(c_uint16)), ("layers_length", c_size_t),
+        ("stored", POINTER(c_uint64)), ("stored_length", c_size_t),
+        ("target", c_uint64),
+        ("closure", POINTER(c_uint64)), ("closure_length", c_size_t),
+    ]),
 }
 
 # The name under which programs ask for the shared object, and the versions that have it: 10,000 times the first part of the version and 100

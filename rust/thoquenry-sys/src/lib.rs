@@ -48,7 +48,7 @@ pub const THQ_REFUSED_NOT_STEREO_SET: u64 = 44;
 pub const THQ_REFUSED_WRONG_MVC_EXTENSION: u64 = 45;
 pub const THQ_REFUSED_RANGES_MEET: u64 = 46;
 
-/// The number of the refusal of a reading that is neither.
+/// The number of the refusal of a reading that is neither, and of buffers that hold no layer set.
 pub const THQ_NOT_A_CALL: u64 = 255;
 
 /// What number 2 of an entry says.
@@ -59,6 +59,10 @@ pub const THQ_IMPLIED: u16 = 3;
 
 /// The numbers that one entry takes.
 pub const THQ_ENTRY_NUMBERS: usize = 80;
+
+/// The numbers of the two buffers of a layer set.
+pub const THQ_SET_LAYERS: usize = 5120;
+pub const THQ_SET_STORED: usize = 192;
 
 #[link(name = "thoquenry", kind = "static")]
 extern "C" {
@@ -140,5 +144,42 @@ extern "C" {
         lags_length: usize,
         summary: *mut u64,
         summary_length: usize,
+    ) -> u64;
+
+    pub fn thq_set_read(
+        reading: u64,
+        bytes: *const u8,
+        bytes_length: usize,
+        layers: *mut u16,
+        layers_length: usize,
+        stored: *mut u64,
+        stored_length: usize,
+    ) -> u64;
+
+    pub fn thq_set_add(
+        layers: *mut u16,
+        layers_length: usize,
+        stored: *mut u64,
+        stored_length: usize,
+        entry: *const u16,
+        entry_length: usize,
+    ) -> u64;
+
+    pub fn thq_set_remove(
+        layers: *mut u16,
+        layers_length: usize,
+        stored: *mut u64,
+        stored_length: usize,
+        index: u64,
+    ) -> u64;
+
+    pub fn thq_set_closure(
+        layers: *const u16,
+        layers_length: usize,
+        stored: *const u64,
+        stored_length: usize,
+        target: u64,
+        closure: *mut u64,
+        closure_length: usize,
     ) -> u64;
 }

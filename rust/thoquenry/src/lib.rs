@@ -15,11 +15,13 @@
 #![warn(missing_docs)]
 
 mod entry;
+mod layer_set;
 mod layers;
 mod refusal;
 
 pub use entry::{Channel, Entry, NuhLayerId, Record, TemporalId};
-pub use layers::{LayerIndex, LayerSet, Layers};
+pub use layer_set::{Layer, LayerSet};
+pub use layers::{LayerIndex, LayerIndices, Layers};
 pub use refusal::Refusal;
 
 use thoquenry_sys as raw;
@@ -89,7 +91,7 @@ pub struct Component {
 #[derive(Clone, Debug, PartialEq, Eq, Hash)]
 pub struct Units {
     /// The target and the layers that it rests on.
-    pub closure: LayerSet,
+    pub closure: LayerIndices,
     /// The units in target row order, each with one component for each layer of the closure, in rising layer index.
     pub units: Vec<Vec<Component>>,
     /// How many rows of closure layers stand in no unit.
@@ -160,7 +162,11 @@ pub fn write_loop(entries: &[Entry]) -> Result<Vec<u8>, Refusal> {
 }
 
 /// The layers that a target rests on, itself included. Refusals: 1 to 12.
-pub fn closure(reading: Reading, bytes: &[u8], target: LayerIndex) -> Result<LayerSet, Refusal> {
+pub fn closure(
+    reading: Reading,
+    bytes: &[u8],
+    target: LayerIndex,
+) -> Result<LayerIndices, Refusal> {
     let mut set = [0];
     // SAFETY: pointer and length of each buffer belong together; `set` is this call's own.
     let answer = unsafe {
@@ -174,7 +180,7 @@ pub fn closure(reading: Reading, bytes: &[u8], target: LayerIndex) -> Result<Lay
         )
     };
     accepted(answer)?;
-    Ok(LayerSet(set[0]))
+    Ok(LayerIndices(set[0]))
 }
 
 /// Reads the times of a PES header, whether a TREF stands in it, and where it ends. Refusals: 20 to 24.
@@ -305,7 +311,7 @@ fn joined(rows: &[Row], call: impl FnOnce(&Table, &mut Lists) -> u64) -> Result<
     };
     let count = accepted(call(&table, &mut lists))?;
     let [closure, _, left_out] = lists.summary;
-    let closure = LayerSet(closure);
+    let closure = LayerIndices(closure);
     let components: Vec<Component> = lists.numbers[..count]
         .iter()
         .zip(&lists.lags)

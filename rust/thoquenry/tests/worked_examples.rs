@@ -211,7 +211,7 @@ fn short_and_long_loops() {
 fn the_whole_import() {
     let import = |last| import(Reading::Edition2015, &LOOP_A, LayerIndex(1), &table(last));
     let units = import(12600).unwrap();
-    assert_eq!(units.closure, LayerSet(0b11));
+    assert_eq!(units.closure, LayerIndices(0b11));
     assert_eq!(plainly(&units), [[(0, 0), (1, 0)], [(2, 600), (3, 0)]]);
     assert_eq!(units.left_out, 0);
     assert_eq!(import(12601), Err(Refusal::Unpaired { row: 3 }));
@@ -243,7 +243,7 @@ fn two_views_are_read_and_written_without_a_descriptor() {
     for reading in [Reading::Edition2009, Reading::Edition2015] {
         assert_eq!(read_loop(reading, &SPORTS).unwrap(), entries);
         let set = closure(reading, &SPORTS, LayerIndex(1));
-        assert_eq!(set, Ok(LayerSet(0b11)));
+        assert_eq!(set, Ok(LayerIndices(0b11)));
     }
     assert_eq!(write_loop(&entries).unwrap(), SPORTS);
     let indices = |entries: &[Entry]| entries.iter().map(Entry::layer_index).collect::<Vec<_>>();
@@ -262,7 +262,7 @@ fn rows_are_joined_over_two_views() {
     for reading in [Reading::Edition2009, Reading::Edition2015] {
         let import = |last| import(reading, &SPORTS, LayerIndex(1), &table(last));
         let units = import(12600).unwrap();
-        assert_eq!(units.closure, LayerSet(0b11));
+        assert_eq!(units.closure, LayerIndices(0b11));
         assert_eq!(plainly(&units), [[(0, 0), (1, 0)], [(2, 600), (3, 0)]]);
         assert_eq!(import(12601), Err(Refusal::Unpaired { row: 3 }));
     }
@@ -388,7 +388,12 @@ fn headers() {
 #[test]
 fn every_number_has_its_name_and_its_words() {
     let listed: Vec<u8> = (0..=255).filter(|&n| Refusal::of(n, 0).is_some()).collect();
-    let expected: Vec<u8> = (1..=9).chain(11..=17).chain(20..=25).collect();
+    let expected: Vec<u8> = (1..=9)
+        .chain(11..=18)
+        .chain(20..=25)
+        .chain(40..=42)
+        .chain(44..=46)
+        .collect();
     assert_eq!(listed, expected);
     let mut shown = Vec::new();
     for number in listed {
@@ -413,10 +418,10 @@ fn every_number_has_its_name_and_its_words() {
 
 #[test]
 fn sets_print_their_indices() {
-    let set = LayerSet(0b101);
+    let set = LayerIndices(0b101);
     assert_eq!(set.to_string(), "{0, 2}");
-    assert_eq!(format!("{set:?}"), "LayerSet {0, 2}");
-    assert_eq!(LayerSet::default().to_string(), "{}");
+    assert_eq!(format!("{set:?}"), "LayerIndices {0, 2}");
+    assert_eq!(LayerIndices::default().to_string(), "{}");
 }
 
 #[test]
