@@ -63,7 +63,7 @@ set-read =
       ensured = λ run e. (ap (λ r. record { outcome = r .outcome; set = r .«set» }) e, refl);
       right = λ given. read-meant (given .reading) (given .bytes);
       nothing-else = λ given means. (let same = read-only (given .reading) (given .bytes) means in
-      (ap₂ (λ (o : Outcome) (s : LayerSet). record { outcome = o; set = s }) (same .0) (same .1), refl));
+          (ap₂ (λ (o : Outcome) (s : LayerSet). record { outcome = o; set = s }) (same .0) (same .1), refl));
       listed = λ given. set-listed (read-meant (given .reading) (given .bytes));
       untouched = λ given number e. refl;
     })
@@ -97,7 +97,7 @@ layer-added =
       ensured = λ run e. (ap (λ (c : Changed). c .outcome) e, ap (λ (c : Changed). c .«set») e);
       right = λ given. add-meant (given .set) (given .is-set) (given .entry);
       nothing-else = λ given means. (let same = add-only (given .set) (given .is-set) (given .entry) means in
-      (ap (λ (c : Changed). c .outcome) same, ap (λ (c : Changed). c .«set») same));
+          (ap (λ (c : Changed). c .outcome) same, ap (λ (c : Changed). c .«set») same));
       listed = λ given. add-listed (add-meant (given .set) (given .is-set) (given .entry));
       untouched = λ given number e. add-kept (add-meant (given .set) (given .is-set) (given .entry)) number e;
     })
@@ -118,7 +118,7 @@ layer-removed =
       ensured = λ run e. (ap (λ (c : Changed). c .outcome) e, ap (λ (c : Changed). c .«set») e);
       right = λ given. remove-meant (given .set) (given .is-set) (given .index);
       nothing-else = λ given means. (let same = remove-only (given .set) (given .is-set) (given .index) means in
-      (ap (λ (c : Changed). c .outcome) same, ap (λ (c : Changed). c .«set») same));
+          (ap (λ (c : Changed). c .outcome) same, ap (λ (c : Changed). c .«set») same));
       listed = λ given. remove-listed (remove-meant (given .set) (given .is-set) (given .index));
       untouched = λ given number e. remove-kept (remove-meant (given .set) (given .is-set) (given .index)) number e;
     })
@@ -233,7 +233,7 @@ thq-set-read =
     told-promised thqSetRead toldSetRead (record {
       asks-nothing = λ run. tt;
       ensured = λ run e. (let given = thqSetRead .given run in
-      told-so (toldSetRead given) (given .buffers) (readSet (given .reading) (given .bytes) (given .buffers .layers) (given .buffers .stored)) (read-replied given) _ _ _ e);
+          told-so (toldSetRead given) (given .buffers) (readSet (given .reading) (given .bytes) (given .buffers .layers) (given .buffers .stored)) (read-replied given) _ _ _ e);
       exactly = λ given answer after. by-year (given .reading) (readUnder given) (given .buffers) answer after (λ reading. read-exactly given reading answer after);
       fits = λ given. each-year Fits (given .reading) (readUnder given)
           (λ reading. either-way Fits (eqb (length (given .buffers .layers)) 5120) (cond (eqb (length (given .buffers .stored)) 192) (setTold (loopSet reading (given .bytes) .outcome) (loopSet reading (given .bytes) .«set»)) not-a-call) not-a-call
@@ -345,7 +345,7 @@ thq-set-add =
     told-promised thqSetAdd toldSetAdd (record {
       asks-nothing = λ run. tt;
       ensured = λ run e. (let given = thqSetAdd .given run in
-      told-so (toldSetAdd given) (given .buffers) (addSet (given .buffers .layers) (given .buffers .stored) (given .entry)) (add-replied given) _ _ _ e);
+          told-so (toldSetAdd given) (given .buffers) (addSet (given .buffers .layers) (given .buffers .stored) (given .entry)) (add-replied given) _ _ _ e);
       exactly = add-exactly;
       fits = λ given. add-each Fits given tt (omega arith)
           (λ e. set-fits (addTold given .outcome) (addTold given .«set»)
@@ -413,7 +413,7 @@ thq-set-remove =
     told-promised thqSetRemove toldSetRemove (record {
       asks-nothing = λ run. tt;
       ensured = λ run e. (let given = thqSetRemove .given run in
-      told-so (toldSetRemove given) (given .buffers) (removeSet (given .buffers .layers) (given .buffers .stored) (given .index)) (remove-replied given) _ _ _ e);
+          told-so (toldSetRemove given) (given .buffers) (removeSet (given .buffers .layers) (given .buffers .stored) (given .index)) (remove-replied given) _ _ _ e);
       exactly = remove-exactly;
       fits = λ given. remove-each Fits given tt
           (λ e. set-fits (removeTold given .outcome) (removeTold given .«set»)
@@ -515,7 +515,7 @@ thq-set-closure =
     told-promised thqSetClosure toldSetClosure (record {
       asks-nothing = λ run. tt;
       ensured = λ run e. (let given = thqSetClosure .given run in let replied = closure-replied given in
-      (ap (λ (r : Reply). r .answer) e ∙ replied .0, ap (λ (r : Reply). r .buffer) e ∙ replied .1));
+          (ap (λ (r : Reply). r .answer) e ∙ replied .0, ap (λ (r : Reply). r .buffer) e ∙ replied .1));
       exactly = closure-exactly;
       fits = λ given. closure-each Fits given tt (λ e. closure-fits (closureFound given) (given .closure) (target-small (found-meant given e)));
       listed = λ given. closure-each (λ (t : Told (List ℕ)). isListed (thqSetClosure .numbers) (numberTold t) ≡ true) given refl
