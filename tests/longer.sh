@@ -24,6 +24,8 @@ for seed in $seeds; do
     echo "longer: compare, seed $seed, $count calls"
     scripts/x86 "$compare" "$seed" "$count"
 done
+echo "longer: compare, a table of a million rows"
+scripts/x86 "$compare" --long 1000000
 for seed in $guarded_seeds; do
     echo "longer: compare beside guard pages, seed $seed, $count calls"
     scripts/x86 "$compare" --guarded "$seed" "$count"

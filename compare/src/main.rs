@@ -2,6 +2,7 @@
 //!
 //!     compare [--guarded] [SEED COUNT]    makes COUNT calls, and sequences of changes of layer sets beside them, and prints how often each number
 //!                                         was answered
+//!     compare --long ROWS                 joins one table of about so many rows
 //!     compare --show SEED CASE            prints one case and what the plain implementation answers, without calling the library
 //!
 //! It ends with status 1 at the first difference, which it prints with the whole input, and where a number that a call can answer was
@@ -11,6 +12,7 @@ mod calls;
 mod cases;
 mod faults;
 mod headers;
+mod long;
 mod loops;
 mod memory;
 mod random;
@@ -61,12 +63,16 @@ fn main() -> ExitCode {
     };
     let guarded = has("--guarded", &mut words);
     let show_one = has("--show", &mut words);
+    let long_table = has("--long", &mut words);
     let numbers: Option<Vec<u64>> = words.iter().map(|word| word.parse().ok()).collect();
+    if let (true, Some(&[rows])) = (long_table, numbers.as_deref()) {
+        return told(long::run(rows as usize));
+    }
     let (seed, count) = match numbers.as_deref() {
         Some([]) if !show_one => (SEED, COUNT),
         Some(&[seed, count]) => (seed, count),
         _ => {
-            eprintln!("compare [--guarded] [SEED COUNT], or compare --show SEED CASE");
+            eprintln!("compare [--guarded] [SEED COUNT], compare --long ROWS, or compare --show SEED CASE");
             return ExitCode::from(2);
         }
     };
@@ -82,6 +88,20 @@ fn main() -> ExitCode {
     }
     match run(seed, count, guarded) {
         Ok(seen) => summary(seed, count, &seen),
+        Err(difference) => {
+            println!("{difference}");
+            ExitCode::FAILURE
+        }
+    }
+}
+
+/// Prints what a comparison came to.
+fn told(outcome: Result<String, String>) -> ExitCode {
+    match outcome {
+        Ok(text) => {
+            println!("{text}");
+            ExitCode::SUCCESS
+        }
         Err(difference) => {
             println!("{difference}");
             ExitCode::FAILURE
