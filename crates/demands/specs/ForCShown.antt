@@ -128,7 +128,7 @@ written-tells : (written : Written) (bytes out : List ℕ)
 written-tells (Written.Bytes count) bytes out = (refl, refl)
 written-tells (Written.Refused refusal) bytes out = (refl, refl)
 
-written-fits : (written : Written) (left : List ℕ) → SmallWritten written → Fits (writtenTold written left)
+pub written-fits : (written : Written) (left : List ℕ) → SmallWritten written → Fits (writtenTold written left)
 written-fits (Written.Bytes count) left h = omega arith
 written-fits (Written.Refused refusal) left h = omega arith
 
@@ -166,7 +166,7 @@ closure-tells (Closure.Complete members) room =
     tells-either (ltb (length room) 1) (refuses NoRoom) (counts (size members) (over (members ∷ []) room)) room
     (unchanged NoRoom room) (reply (accepted (size members)) (over (members ∷ []) room)) (refl, refl) (refl, refl)
 
-closure-fits : (found : Closure) (room : List ℕ) → SmallClosure found → Fits (closureTold found room)
+pub closure-fits : (found : Closure) (room : List ℕ) → SmallClosure found → Fits (closureTold found room)
 closure-fits (Closure.Refused refusal) room h = omega arith
 closure-fits (Closure.Complete members) room h =
     let small : size members ≤ 64 = size-short members in

@@ -48,6 +48,7 @@ use Rattle.demands.specs.ToldShown.{code, leaves, numberTold, Fits, told
 use Rattle.demands.specs.ForC.{closureTold}
 use Rattle.demands.specs.Sets.{SetLoopGiven, SetAnswered, readLayerSet, AddGiven, addLayer, RemoveGiven, removeLayer, SetBuffers, buffersOf, setTold, HoldsIn, SetReadGiven, SetReadTells, thqSetRead, SetAddGiven, SetAddTells, thqSetAdd, SetRemoveGiven, SetRemoveTells, thqSetRemove, SetClosureGiven, SetClosureTells, thqSetClosure}
 use Rattle.demands.specs.Sets as Sets
+use Rattle.demands.specs.ForCShown.{closure-fits}
 
 -- ---- reading a set
 
@@ -152,7 +153,7 @@ set-tells (Outcome.Refused refusal) s b = record { answered = refl; layers-left 
 
 set-fits : (o : Outcome) (s : LayerSet) → SmallOutcome o → Fits (setTold o s)
 set-fits Outcome.Accepted s h = let small : size (s .layers .present) ≤ 64 = size-short (s .layers .present) in omega arith
-set-fits (Outcome.Refused refusal) s h = h
+set-fits (Outcome.Refused refusal) s h = omega arith
 
 set-number : (numbers : List ℕ) (o : Outcome) (s : LayerSet) → isListed numbers (outcomeNumber o) ≡ true → isListed numbers (numberTold (setTold o s)) ≡ true
 set-number numbers Outcome.Accepted s e = refl
@@ -490,13 +491,6 @@ target-listed room (Target.absent there lowest) = refl
 target-listed room (Target.complete {set} there whole) =
     either-way (λ (t : Told (List ℕ)). isListed (thqSetClosure .numbers) (numberTold t) ≡ true) (ltb (length room) 1) (refuses NoRoom)
     (counts (size set) (over (set ∷ []) room)) refl refl
-
-closure-fits : (found : Closure) (room : List ℕ) → SmallClosure found → Fits (closureTold found room)
-closure-fits (Closure.Refused refusal) room h = h
-closure-fits (Closure.Complete members) room h =
-    let small : size members ≤ 64 = size-short members in
-    let few : size members ≤ 32768 = omega arith in
-    either-way Fits (ltb (length room) 1) (refuses NoRoom) (counts (size members) (over (members ∷ []) room)) (omega arith) few
 
 closure-each : (P : Told (List ℕ) → Type 0) (given : SetClosureGiven) → P not-a-call
     → (holdsSet (given .buffers .layers) (given .buffers .stored) ≡ true → P (closureTold (closureFound given) (given .closure))) → P (toldSetClosure given)

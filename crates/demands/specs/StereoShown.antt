@@ -16,7 +16,7 @@ use Rattle.syntax.specs.Table.{fits}
 use Rattle.vocabulary.specs.declared.refusal.Refusal.{Refusal}
 use Rattle.vocabulary.specs.declared.refusal.Refusal.the-variants.{LoopTooLong, NoRoom, TooWide}
 use Rattle.vocabulary.specs.declared.stream_types.Reading.the-variants.{Edition2015}
-use Rattle.vocabulary.specs.Refusals.{numberOf}
+use Rattle.vocabulary.specs.Refusals.{numberOf, placeOf}
 use Rattle.es_loop.specs.declared.entries.Entry.{Entry}
 use Rattle.es_loop.specs.declared.reader.Outcome.{Outcome}
 use Rattle.es_loop.specs.declared.reader.Outcome.the-variants as Outcome
@@ -55,6 +55,7 @@ use Rattle.demands.specs.Told.{Told, counts, refuses, Says, If, forC}
 use Rattle.demands.specs.ToldShown.{code, leaves, numberTold, Fits, told-promised}
 use Rattle.demands.specs.ForC.{writtenTold}
 use Rattle.demands.specs.Stereo.{BothLists, ReadStereoGiven, stereoTold, TellsSet, thqReadStereo, WriteStereoGiven, TellsWriting, thqWriteStereo}
+use Rattle.demands.specs.ForCShown.{written-fits}
 
 -- ---- thq_read_stereo
 
@@ -106,7 +107,7 @@ ToldListed t = (isListed (thqReadStereo .numbers) (numberTold t) ≡ true) × Fi
 
 told-listed : (outcome : Outcome) (read : StereoRead) (room : BothLists) → Listed outcome
     → (isListed (thqReadStereo .numbers) (numberTold (stereoTold outcome read room)) ≡ true) × Fits (stereoTold outcome read room)
-told-listed (Outcome.Refused refusal) read room l = l
+told-listed (Outcome.Refused refusal) read room l = (l .0, (let few : placeOf refusal ≤ 1008 = l .1 in omega arith))
 told-listed Outcome.Accepted read room l =
     either-way ToldListed (ltb (length (room .entries)) 160) (refuses NoRoom) _ (refl, omega arith)
     (either-way ToldListed (ltb (length (room .extensions)) 16) (refuses NoRoom) _ (refl, omega arith) (refl, omega arith))
@@ -234,8 +235,8 @@ module _ (given : WriteStereoGiven) where
 
   writing-told : (w : Written) (l : List ℕ) → (isListed (thqWriteStereo .numbers) (writtenNumber w) ≡ true) × SmallWritten w
       → (isListed (thqWriteStereo .numbers) (numberTold (writtenTold w l)) ≡ true) × Fits (writtenTold w l)
-  writing-told (Written.Bytes count) l good = good
-  writing-told (Written.Refused refusal) l good = good
+  writing-told (Written.Bytes count) l good = (good .0, written-fits (Written.Bytes count) l (good .1))
+  writing-told (Written.Refused refusal) l good = (good .0, written-fits (Written.Refused refusal) l (good .1))
 
   abbrev WritingListed : Told (List ℕ) → Type 0
   WritingListed t = (isListed (thqWriteStereo .numbers) (numberTold t) ≡ true) × Fits t

@@ -25,6 +25,7 @@ use Rattle.loop_layers.specs.Closures.{entriesRead, closureFor, loopClosure}
 use Rattle.loop_layers.specs.Meaning.{LayerAt}
 use Rattle.loop_layers.proofs.Meant.{entries-read}
 use Rattle.rows.specs.Table.{table}
+use Rattle.unit_lists.specs.Sequence.{lists}
 use Rattle.agreement.specs.Meaning.{StreamType2009, avc, mvc, Every2009, Answer}
 use Rattle.agreement.specs.Entries.{IsAccepted, accepted-in-2009}
 use Rattle.agreement.specs.Computed.{identical-answer}
@@ -75,7 +76,7 @@ module _ (bytes : List ℕ) {items : List Item} (a : Set.Accepts bytes items) {b
   closure-in : (reading : Reading) (target : ℕ) → loopClosure reading bytes target ≡ closureOf (layersOf (Set.answered items)) target
   closure-in Edition2015 target = closure-in-2015 target
   closure-in Edition2009 target =
-      ap (λ (x : Answer). x .closure) (identical-answer bytes in-2015 target (every target) (table [] [] []) [] []) ∙ closure-in-2015 target
+      ap (λ (x : Answer). x .closure) (identical-answer bytes in-2015 target (every target) (table [] [] []) (lists [] [] [])) ∙ closure-in-2015 target
 
   accepted-in : (reading : Reading) → (loopRead reading bytes) .outcome ≡ Accepted
   accepted-in Edition2015 = in-2015
