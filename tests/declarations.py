@@ -4,7 +4,7 @@ another: the functions' names, and the name, number, order, width and constness 
 parameter of the source is a pointer and, after it, a length. (ctypes does not say whether a pointer is const, so there it is not compared.)
 
 It also holds to one another
-  - the header's table of an entry's numbers and its struct, and Rust's constants and the header's;
+  - the header's tables of an entry's numbers and of an MVC extension descriptor's, each with its struct, and Rust's constants and the header's;
   - the refusals: the table of words (words/refusals.tsv), C's enum, Rust's constants and enum, Python's enum and the source's own enum
     (crates/vocabulary/src/refusal.rt) have the same numbers under the same names, with a place or without; every number has words of its own,
     which say what its place counts; and the comments of C's and Rust's enums are those words;
@@ -147,25 +147,28 @@ def functions_differ(one, other, place):
     return found
 
 
-def layout_differs(text):
-    """What differs between the header's table of an entry's numbers and its struct."""
-    body = re.search(r"typedef struct thq_entry \{(.*?)\}", text, flags=re.S).group(1)
+def layout_differs(text, struct_name, constant):
+    """What differs between a struct of the header and the table of its numbers, in the comment before it."""
+    found = re.search(rf"/\*((?:(?!\*/).)*)\*/\s*(?:#define[^\n]*\s*)*typedef struct {struct_name} \{{(.*?)\}}", text, flags=re.S)
+    if found is None:
+        fail(f"{HEADER}: there is no struct {struct_name}, or no comment before it")
+    comment, body = found.groups()
     struct, at = [], 0
     for name, length in re.findall(r"uint16_t (\w+)(?:\[(\d+)\])?;", body):
         struct.append((at, at + int(length or 1) - 1, name))
         at += int(length or 1)
-    rows = re.findall(r"^ \*     (\d+)(?:\.\.(\d+))?\s+(\d+)\.\.(\d+)\s+(\w+)", text, flags=re.M)
+    rows = re.findall(r"^ \*     (\d+)(?:\.\.(\d+))?\s+(\d+)\.\.(\d+)\s+(\w+)", comment, flags=re.M)
     table = [(int(first), int(last or first), int(low), int(high), name) for first, last, low, high, name in rows]
     found = []
-    if at != int(re.search(r"#define THQ_ENTRY_NUMBERS (\d+)", text).group(1)):
-        found.append(f"the struct has {at} numbers")
+    if at != int(re.search(rf"#define {constant} (\d+)", text).group(1)):
+        found.append(f"the struct {struct_name} has {at} numbers")
     if [row[:2] for row in table] != [row[:2] for row in struct]:
-        found.append("the table of an entry's numbers and the struct differ in their numbers")
+        found.append(f"the table of numbers and the struct {struct_name} differ in their numbers")
     for (first, last, low, high, name), (_, _, called) in zip(table, struct):
         if (low, high) != (2 * first, 2 * last + 1):
-            found.append(f"number {first} stands in bytes {2 * first}..{2 * last + 1}")
+            found.append(f"{struct_name}: number {first} stands in bytes {2 * first}..{2 * last + 1}")
         if first < 16 and name.lower() != called:
-            found.append(f"number {first} is {name} in the table and {called} in the struct")
+            found.append(f"{struct_name}: number {first} is {name} in the table and {called} in the struct")
     return found
 
 
@@ -280,7 +283,8 @@ def all_differences(texts):
     return (functions_differ(header, rust_functions(texts[RUST]), RUST)
             + functions_differ(header, python_functions(texts[PYTHON]), PYTHON)
             + functions_differ(header, rattle_functions(texts[SOURCE]), SOURCE)
-            + layout_differs(texts[HEADER])
+            + layout_differs(texts[HEADER], "thq_entry", "THQ_ENTRY_NUMBERS")
+            + layout_differs(texts[HEADER], "thq_mvc_extension", "THQ_MVC_EXTENSION_NUMBERS")
             + constants_differ(texts[HEADER], texts[RUST])
             + refusals_differ(texts)
             + versions_differ(texts))
@@ -292,6 +296,9 @@ CHANGES = [
     (HEADER, "size_t out_length", "uint64_t out_length"),
     (HEADER, "thq_import(", "thq_imports("),
     (HEADER, "uint16_t embedded[63]", "uint16_t embedded[62]"),
+    (HEADER, "uint16_t view_order_index_min;", "uint16_t view_order_index_least;"),
+    (HEADER, "    uint16_t no_sei_nal_unit_present;\n", ""),
+    (HEADER, "#define THQ_MVC_EXTENSION_NUMBERS 8", "#define THQ_MVC_EXTENSION_NUMBERS 9"),
     (HEADER, "#define THQ_HIERARCHY 1", "#define THQ_HIERARCHY 3"),
     (HEADER, "#define THQ_IMPLIED 3", "#define THQ_IMPLIED 2"),
     (HEADER, "THQ_REFUSED_UNPAIRED = 15", "THQ_REFUSED_UNPAIRED = 16"),
@@ -301,11 +308,14 @@ CHANGES = [
     (HEADER, "THQ_VERSION_NUMBER 400", "THQ_VERSION_NUMBER 40000"),
     (RUST, "lags: *mut i64", "lags: *mut u64"),
     (RUST, "embedded: *const u64", "embedded: *mut u64"),
+    (RUST, "extensions: *const u16", "extensions: *mut u16"),
+    (RUST, "THQ_MVC_EXTENSION_NUMBERS: usize = 8", "THQ_MVC_EXTENSION_NUMBERS: usize = 16"),
     (RUST, "pts: u64,\n        decoding: u64,", "decoding: u64,\n        pts: u64,"),
     (RUST, "THQ_REFUSED_TOO_WIDE: u64 = 25", "THQ_REFUSED_TOO_WIDE: u64 = 26"),
     (RUST, "pub const THQ_REFUSED_NO_PTS: u64 = 21;\n", ""),
     (PYTHON, '("indices", POINTER(c_uint8))', '("indices", POINTER(c_uint64))'),
     (PYTHON, '("present", c_uint64),', ""),
+    (PYTHON, '("extensions", POINTER(c_uint16))', '("extensions", POINTER(c_uint8))'),
     (PYTHON, '("bytes", c_char_p)', '("bytes", POINTER(c_uint16))'),
     (PYTHON, "libthoquenry.so.0.4", "libthoquenry.so.1"),
     (PYTHON, "range(400, 500)", "range(500, 600)"),

@@ -37,7 +37,9 @@ if [ "$(uname -m)" = x86_64 ]; then
     echo "longer: Rust's tests under valgrind"
     THOQUENRY_RUNNER=$checked scripts/cargo test --quiet --tests -p thoquenry
     echo "longer: C's tests under valgrind"
-    LD_LIBRARY_PATH=$PWD/target/lib $checked target/linked/import
+    for test in tests/c/*.c; do
+        LD_LIBRARY_PATH=$PWD/target/lib $checked "target/linked/$(basename "$test" .c)"
+    done
     echo "longer: compare under valgrind, seed 8, $few calls"
     $checked "$compare" 8 "$few"
     said=$(PYTHONPATH=python/src python3 -B python/tests/speed.py) || { echo "longer: from Python, $said: TOO LONG" >&2; exit 1; }

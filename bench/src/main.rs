@@ -16,6 +16,7 @@ mod clock;
 mod inputs;
 mod measures;
 mod stack;
+mod stereo;
 mod tables;
 mod times;
 

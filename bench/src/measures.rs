@@ -1,6 +1,6 @@
 //! What is measured: for each call and input, the same work done by the library and by the plain implementation.
 
-use crate::inputs;
+use crate::{inputs, stereo};
 use plain::{Reading, Refusal, Times, Units};
 use std::rc::Rc;
 use thoquenry_sys as raw;
@@ -34,7 +34,7 @@ impl Measure {
 }
 
 /// Hides a value from the optimiser, so that no call is left out and none is made for all.
-fn hide<T>(value: T) -> T {
+pub fn hide<T>(value: T) -> T {
     // SAFETY: the value is read once and the original forgotten.
     unsafe {
         let hidden = std::ptr::read_volatile(&value);
@@ -43,7 +43,7 @@ fn hide<T>(value: T) -> T {
     }
 }
 
-fn repeat(calls: usize, mut call: impl FnMut() -> u64) -> u64 {
+pub fn repeat(calls: usize, mut call: impl FnMut() -> u64) -> u64 {
     let mut answer = 0;
     for _ in 0..calls {
         answer = hide(call());
@@ -52,7 +52,7 @@ fn repeat(calls: usize, mut call: impl FnMut() -> u64) -> u64 {
 }
 
 /// The answer as the library gives it.
-fn answer(result: Result<usize, Refusal>) -> u64 {
+pub fn answer(result: Result<usize, Refusal>) -> u64 {
     match result {
         Ok(count) => count as u64 * 256,
         Err(Refusal { number, place }) => u64::from(number) + place as u64 * 256,
@@ -393,7 +393,7 @@ pub fn all() -> Vec<Measure> {
         decoding: 600,
         matching: 300,
     };
-    vec![
+    let mut measures = vec![
         read_loop("loop A (37 bytes, 3 layers)", inputs::LOOP_A.to_vec()),
         read_loop("1,008 bytes, 64 hierarchy descriptors", hierarchies.clone()),
         read_loop("1,008 bytes, 46 extensions", extensions.clone()),
@@ -416,7 +416,9 @@ pub fn all() -> Vec<Measure> {
         join(32, 1, SUMMARY),
         join(32, 2, SUMMARY),
         import(32, SUMMARY),
-    ]
+    ];
+    measures.extend(stereo::measures());
+    measures
 }
 
 /// What is measured for its stack alone: calls that the library refuses after all its work, for want of room for the summary, which plain does

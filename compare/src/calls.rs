@@ -2,6 +2,7 @@
 //! leave their buffers in the call itself, so that two calls are equal when every buffer is, inputs included.
 
 use crate::memory::{Memory, Placing};
+use crate::stereo;
 use plain::{
     Columns, Embedded, Entry, Extension, Hierarchy, Layers, Reading, Record, Refusal, Times,
 };
@@ -58,10 +59,12 @@ pub enum Call {
         rows: Columns,
         lists: Lists,
     },
+    ReadStereo(stereo::Read),
+    WriteStereo(stereo::Write),
 }
 
 /// The names of the calls and the numbers that each can answer, 0 for an accepted call.
-pub const CALLS: [(&str, &[u64]); 7] = [
+pub const CALLS: [(&str, &[u64]); 9] = [
     ("read_loop", &[0, 1, 2, 3, 4, 5, 6, 7, 8, 9, 17, NOT_A_CALL]),
     ("write_loop", &[0, 1, 3, 6, 7, 8, 9, 17, 25]),
     (
@@ -77,6 +80,11 @@ pub const CALLS: [(&str, &[u64]); 7] = [
             0, 1, 2, 3, 4, 5, 6, 7, 8, 9, 11, 12, 13, 14, 15, 16, 17, NOT_A_CALL,
         ],
     ),
+    (
+        "read_stereo",
+        &[0, 1, 2, 3, 4, 5, 6, 7, 8, 9, 17, 44, 45, 46],
+    ),
+    ("write_stereo", &[0, 1, 3, 6, 7, 8, 9, 17, 25, 44, 46]),
 ];
 
 pub const NOT_A_CALL: u64 = raw::THQ_NOT_A_CALL;
@@ -112,6 +120,8 @@ impl Call {
             Call::WriteTimes { .. } => 4,
             Call::Join { .. } => 5,
             Call::Import { .. } => 6,
+            Call::ReadStereo(_) => 7,
+            Call::WriteStereo(_) => 8,
         }
     }
 
@@ -126,6 +136,11 @@ impl Call {
             Call::WriteLoop { entries, .. } => entries_of(entries).and_then(|entries| {
                 plain::write_loop(&entries, &mut [0; plain::LONGEST_LOOP]).map(|_| entries)
             }),
+            Call::ReadStereo(read) => plain::read_stereo(&read.bytes).map(|set| set.entries.into()),
+            Call::WriteStereo(write) => write
+                .clone()
+                .plain()
+                .and_then(|_| entries_of(&write.entries)),
             _ => return false,
         };
         let implied = |entry: &Entry| entry.record == Some(Record::Implied);
@@ -287,6 +302,16 @@ impl Call {
                 untouched &= joined.take_back(rows, lists);
                 answer
             }
+            Call::ReadStereo(read) => {
+                let (answer, kept) = read.library(memory);
+                untouched &= kept;
+                answer
+            }
+            Call::WriteStereo(write) => {
+                let (answer, kept) = write.library(memory);
+                untouched &= kept;
+                answer
+            }
         };
         if untouched {
             Ok(answer)
@@ -341,6 +366,8 @@ impl Call {
             } => reading_of(*reading)
                 .and_then(|reading| plain::layers_of_loop(reading, bytes))
                 .and_then(|layers| join(&layers, *target, rows, lists)),
+            Call::ReadStereo(read) => read.plain(),
+            Call::WriteStereo(write) => write.plain(),
         })
     }
 }
@@ -402,7 +429,7 @@ fn write_loop(entries: &[u16], out: &mut [u8]) -> Result<usize, Refusal> {
 }
 
 /// The entries that the numbers of a list say.
-fn entries_of(numbers: &[u16]) -> Result<Vec<Entry>, Refusal> {
+pub fn entries_of(numbers: &[u16]) -> Result<Vec<Entry>, Refusal> {
     numbers.chunks_exact(ENTRY).map(entry_of).collect()
 }
 

@@ -3,7 +3,7 @@
 use crate::calls::{self, Call, Lists, CALLS, ENTRY};
 use crate::loops::Quality;
 use crate::random::Random;
-use crate::{headers, loops, tables};
+use crate::{headers, loops, stereo, tables};
 use plain::{Columns, Layers};
 
 /// The case of this number.
@@ -16,12 +16,14 @@ pub fn case(seed: u64, number: u64) -> (Call, Quality) {
         3 => read_times(&mut random),
         4 => write_times(&mut random),
         5 => join(&mut random),
-        _ => import(&mut random),
+        6 => import(&mut random),
+        7 => stereo::reading(&mut random),
+        _ => stereo::writing(&mut random),
     }
 }
 
 /// A buffer that is filled with a pattern.
-fn filled<T>(random: &mut Random, length: usize, number: fn(u64) -> T) -> Vec<T> {
+pub fn filled<T>(random: &mut Random, length: usize, number: fn(u64) -> T) -> Vec<T> {
     let first = random.next();
     let next = |place| number(first ^ (place as u64).wrapping_mul(0x9E37_79B9_7F4A_7C15));
     (0..length).map(next).collect()

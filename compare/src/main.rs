@@ -14,6 +14,7 @@ mod loops;
 mod memory;
 mod random;
 mod show;
+mod stereo;
 mod tables;
 
 use calls::CALLS;
@@ -22,10 +23,18 @@ use memory::{Memory, Placing};
 use std::process::ExitCode;
 
 const SEED: u64 = 1;
-const COUNT: u64 = 140_000;
+/// Of each call 20,000.
+const COUNT: u64 = 20_000 * CALLS.len() as u64;
 
 /// The calls that read or write a loop.
-const CALLS_OF_LOOPS: [&str; 4] = ["read_loop", "write_loop", "closure", "import"];
+const CALLS_OF_LOOPS: [&str; 6] = [
+    "read_loop",
+    "write_loop",
+    "closure",
+    "import",
+    "read_stereo",
+    "write_stereo",
+];
 
 /// What has been seen: for each call how often each number was answered, how its inputs were made, and in how many accepted loops there were
 /// two views without a hierarchy descriptor.
@@ -120,7 +129,7 @@ fn summary(seed: u64, count: u64, seen: &Seen) -> ExitCode {
     let line = |head: &str, cells: Vec<String>| {
         print!("{head:<12}");
         for cell in cells {
-            print!("{cell:>12}");
+            print!("{cell:>13}");
         }
         println!();
     };

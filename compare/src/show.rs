@@ -101,6 +101,16 @@ pub fn parts(call: &Call) -> Vec<(&'static str, String)> {
             parts.extend(joining(rows, lists));
             parts
         }
+        Call::ReadStereo(read) => vec![
+            ("bytes", hex(&read.bytes)),
+            ("entries", numbers(&read.entries)),
+            ("extensions", numbers(&read.extensions)),
+        ],
+        Call::WriteStereo(write) => vec![
+            ("entries", numbers(&write.entries)),
+            ("extensions", numbers(&write.extensions)),
+            ("out", hex(&write.out)),
+        ],
     }
 }
 

@@ -11,12 +11,14 @@ mod descriptors;
 mod entries;
 mod join;
 mod loops;
+mod stereo;
 mod times;
 
 pub use closure::{closure, closure_of_loop, layers_of, layers_of_loop, Layers};
 pub use entries::{Embedded, Entry, Extension, Hierarchy, Record};
 pub use join::{import, join, join_by_search, Columns, Rows, Units};
 pub use loops::{read_loop, read_loop_with, write_loop, LONGEST_LOOP};
+pub use stereo::{read_stereo, write_stereo, MvcExtension, StereoSet};
 pub use times::{distance, lag, read_times, write_times, Header, Times};
 
 /// Which edition of the standard a loop is read by.

@@ -86,6 +86,8 @@ class WorkedExamples(Answers):
     def test_values_wider_than_their_c_type_are_too_wide(self):
         self.refused(Number.TOO_WIDE, 0, write_loop, [Entry(0x1B, 65536 + 256)])
         self.refused(Number.TOO_WIDE, 0, write_loop, [Entry(0x1B + 65536, 256)])
+        extension = ENTRIES_OF_LOOP_A[2]
+        self.refused(Number.TOO_WIDE, 0, write_loop, [replace(extension, record=replace(extension.record, dimension_bits=65536))])
         self.refused(Number.TOO_WIDE, 0, write_times, Times(2**64 + 1, 1, 1), False)
         self.refused(Number.NO_SUCH_LAYER, 0, closure, Reading.EDITION_2015, LOOP_A, 2**64)
         self.refused(Number.OUT_OF_RANGE, 0, join, {0: ()}, 0, [Row(256, 0, 0)])
@@ -153,7 +155,7 @@ class WorkedExamples(Answers):
         self.refused(Number.TOO_WIDE, 0, write_times, Times(9000, 9000, 9000), 2)
 
     def test_every_number_has_its_name_and_its_words(self):
-        self.assertEqual([number.value for number in Number], [*range(1, 10), *range(11, 18), *range(20, 26)])
+        self.assertEqual([number.value for number in Number], [*range(1, 10), *range(11, 19), *range(20, 26), 40, 41, 42, 44, 45, 46])
         self.assertEqual(str(Refused(15, 3)), "15: row 3 of the target layer has no assembly")
         self.assertEqual(Refused(17, 0).words, "the output room is too small")
         self.assertEqual(len({Refused(number, 7).words for number in Number}), len(Number))

@@ -9,7 +9,7 @@ this module stands in; or else the one that is installed. It is for x86-64 Linux
 
 from array import array
 from ctypes import c_int64, c_uint8, c_uint16, c_uint64
-from dataclasses import dataclass, field
+from dataclasses import astuple, dataclass, field
 from enum import IntEnum
 from itertools import chain, islice
 from operator import index
@@ -22,6 +22,7 @@ from ._refusals import Number, Refused
 __all__ = [
     "Component", "Entry", "Extension", "Header", "Hierarchy", "Implied", "Number", "Reading", "Refused", "Row", "Times", "Units",
     "closure", "import_", "join", "read_loop", "read_times", "write_loop", "write_times",
+    "MvcExtension", "StereoSet", "read_stereo", "write_stereo",
 ]
 __version__ = "0.4.0"
 
@@ -34,6 +35,9 @@ _ENTRY_BYTES = 5
 _ENTRIES = _LOOP_BYTES // _ENTRY_BYTES
 _ENTRY_NUMBERS = 80
 _EMBEDDED_ROOM = 63
+
+# The numbers by which an MVC extension descriptor crosses to the library.
+_MVC_EXTENSION_NUMBERS = 8
 
 # The stream type of the second of two views.
 _MVC = 0x20
@@ -105,6 +109,30 @@ class Entry:
         if isinstance(self.record, Implied):
             return int(self.stream_type == _MVC)
         return None if self.record is None else self.record.layer_index
+
+
+@dataclass(frozen=True)
+class MvcExtension:
+    """The MVC extension descriptor, tag 49. Rates are in thousands of bits a second, 0 where none is told; both ends of the range of view order
+    index are in it; temporal ids are kept and not judged."""
+
+    average_bit_rate: int
+    maximum_bitrate: int
+    view_order_index_min: int
+    view_order_index_max: int
+    temporal_id_start: int
+    temporal_id_end: int
+    no_sei_nal_unit_present: bool
+    no_prefix_nal_unit_present: bool
+
+
+@dataclass(frozen=True)
+class StereoSet:
+    """Two views: the base view, of type 0x1B and layer index 0, and the view of type 0x20 and layer index 1 that rests on it. The entry and the MVC
+    extension descriptor of each, the base first, whichever stands first in the loop."""
+
+    entries: Tuple[Entry, Entry]
+    extensions: Tuple[MvcExtension, MvcExtension]
 
 
 @dataclass(frozen=True)
@@ -216,7 +244,8 @@ def _set(indices: Iterable[int]) -> int:
 
 
 def _to_numbers(entry: Entry) -> List[int]:
-    """The entry as its 80 numbers. A list of more than 63 layers has a count that is too wide for its field, by which it is refused."""
+    """The entry as its 80 numbers. A list of more than 63 layers has a count that is too wide for its field, by which it is refused; and so have
+    dimension bits that are too wide, since they fill their C type."""
     record = entry.record
     fields = [entry.stream_type, entry.elementary_pid]
     if record is None:
@@ -227,8 +256,9 @@ def _to_numbers(entry: Entry) -> List[int]:
         fields += [1, record.no_view, record.no_temporal, record.no_spatial, record.no_quality, record.hierarchy_type,
                    record.layer_index, record.tref_present, record.embedded_layer_index, record.channel]
     else:
+        count = len(record.embedded) if index(record.dimension_bits) < 2**16 else 2**16
         fields += [2, 0, 0, 0, 0, 0, record.layer_index, record.tref_present, 0, record.channel, record.dimension_bits,
-                   record.temporal_id, record.nuh_layer_id, len(record.embedded), *record.embedded[:_EMBEDDED_ROOM]]
+                   record.temporal_id, record.nuh_layer_id, count, *record.embedded[:_EMBEDDED_ROOM]]
     return fields + [0] * (_ENTRY_NUMBERS - len(fields))
 
 
@@ -258,22 +288,54 @@ def read_loop(reading: Reading, loop: bytes) -> List[Entry]:
 def write_loop(entries: Iterable[Entry]) -> bytes:
     """Writes a loop, by the 2015 reading's rules. Refusals: 25; then 1, 3, 6 to 9; 6 also where Implied stands on an entry that is not one of two such
     views, or does not stand on one that is."""
+    return _written(_LIBRARY.thq_write_loop, entries)
+
+
+def _written(function, entries: Iterable[Entry], *more) -> bytes:
+    """The bytes that a function of the library writes of these entries, and of what more comes after them among its parameters. Where one entry too many is
+    here, the answer is 1, unless a later value is too wide (25): those are looked at piece by piece, and not kept."""
     left = iter(entries)
-    written = _written(islice(left, _ENTRIES + 1))
-    # One entry too many is here, and the answer is 1, unless a later value is too wide (25): those are looked at piece by piece, and not kept.
+    answer, out = _tried(function, islice(left, _ENTRIES + 1), more)
     for first in left:
-        rest = _written(chain((first,), islice(left, _ENTRIES)))
-        if rest[0] % 256 == Number.TOO_WIDE:
-            written = rest
-    answer, out = written
+        later = _tried(function, chain((first,), islice(left, _ENTRIES)), more)
+        if later[0] % 256 == Number.TOO_WIDE:
+            answer, out = later
     return bytes(out[:_accepted(answer)])
 
 
-def _written(entries: Iterable[Entry]):
+def _tried(function, entries: Iterable[Entry], more: tuple):
     """The library's answer for these entries, and the buffer."""
     numbers = [number for entry in entries for number in _to_numbers(entry)]
     out, room = _room(c_uint8, _LOOP_BYTES)
-    return _LIBRARY.thq_write_loop(*_column("H", c_uint16, numbers), out, room), out
+    return function(*_column("H", c_uint16, numbers), *more, out, room), out
+
+
+def read_stereo(loop: bytes) -> StereoSet:
+    """Reads a stereo set from a loop, by the 2015 reading. Refusals: 1 to 9; then 44 where the layers of the loop are not these two, 45 where one of the two
+    has no MVC extension descriptor, several, or one of another length than 8, and 46 where their ranges of view order index meet or one has a least above
+    its greatest."""
+    entries, entries_room = _room(c_uint16, 2 * _ENTRY_NUMBERS)
+    extensions, extensions_room = _room(c_uint16, 2 * _MVC_EXTENSION_NUMBERS)
+    _accepted(_LIBRARY.thq_read_stereo(*_loop(loop), entries, entries_room, extensions, extensions_room))
+    first, second = extensions[:_MVC_EXTENSION_NUMBERS], extensions[_MVC_EXTENSION_NUMBERS:]
+    return StereoSet((_entry(entries, 0), _entry(entries, 2 * _ENTRY_NUMBERS)), (_mvc_extension(first), _mvc_extension(second)))
+
+
+def _mvc_extension(numbers: List[int]) -> MvcExtension:
+    """The descriptor of the numbers that the library has written."""
+    *values, no_sei, no_prefix = numbers
+    return MvcExtension(*values, no_sei == 1, no_prefix == 1)
+
+
+def write_stereo(entries: Iterable[Entry], extensions: Tuple[MvcExtension, MvcExtension]) -> bytes:
+    """Writes a whole loop with a stereo set in it: all of its entries, in loop order, and the MVC extension descriptors of layers 0 and 1. Refusals: 25;
+    then 1, 3, 6 to 9, as write_loop gives them, with the two descriptors counted among the bytes; then 44, 46."""
+    first, second = extensions
+    numbers = [*astuple(first), *astuple(second)]
+    # A rate fills its C type, so that the library could not be handed one that is too wide.
+    if any(index(rate) >= 2**16 for rate in numbers):
+        raise Refused(Number.TOO_WIDE, 0)
+    return _written(_LIBRARY.thq_write_stereo, entries, *_column("H", c_uint16, numbers))
 
 
 def closure(reading: Reading, loop: bytes, target: int) -> Tuple[int, ...]:

@@ -53,6 +53,16 @@ DECLARATIONS = {
         ("lags", POINTER(c_int64)), ("lags_length", c_size_t),
         ("summary", POINTER(c_uint64)), ("summary_length", c_size_t),
     ]),
+    "thq_read_stereo": (c_uint64, [
+        ("bytes", c_char_p), ("bytes_length", c_size_t),
+        ("entries", POINTER(c_uint16)), ("entries_length", c_size_t),
+        ("extensions", POINTER(c_uint16)), ("extensions_length", c_size_t),
+    ]),
+    "thq_write_stereo": (c_uint64, [
+        ("entries", POINTER(c_uint16)), ("entries_length", c_size_t),
+        ("extensions", POINTER(c_uint16)), ("extensions_length", c_size_t),
+        ("out", POINTER(c_uint8)), ("out_length", c_size_t),
+    ]),
 }
 
 # The name under which programs ask for the shared object, and the versions that have it: 10,000 times the first part of the version and 100

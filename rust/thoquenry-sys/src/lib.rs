@@ -60,6 +60,9 @@ pub const THQ_IMPLIED: u16 = 3;
 /// The numbers that one entry takes.
 pub const THQ_ENTRY_NUMBERS: usize = 80;
 
+/// The numbers that one MVC extension descriptor takes.
+pub const THQ_MVC_EXTENSION_NUMBERS: usize = 8;
+
 #[link(name = "thoquenry", kind = "static")]
 extern "C" {
     pub fn thq_version() -> u64;
@@ -140,5 +143,23 @@ extern "C" {
         lags_length: usize,
         summary: *mut u64,
         summary_length: usize,
+    ) -> u64;
+
+    pub fn thq_read_stereo(
+        bytes: *const u8,
+        bytes_length: usize,
+        entries: *mut u16,
+        entries_length: usize,
+        extensions: *mut u16,
+        extensions_length: usize,
+    ) -> u64;
+
+    pub fn thq_write_stereo(
+        entries: *const u16,
+        entries_length: usize,
+        extensions: *const u16,
+        extensions_length: usize,
+        out: *mut u8,
+        out_length: usize,
     ) -> u64;
 }

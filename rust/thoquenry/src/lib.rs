@@ -17,10 +17,12 @@
 mod entry;
 mod layers;
 mod refusal;
+mod stereo;
 
 pub use entry::{Channel, Entry, NuhLayerId, Record, TemporalId};
 pub use layers::{LayerIndex, LayerSet, Layers};
 pub use refusal::Refusal;
+pub use stereo::{read_stereo, write_stereo, MvcExtension, StereoSet};
 
 use thoquenry_sys as raw;
 use thoquenry_sys::THQ_ENTRY_NUMBERS;
