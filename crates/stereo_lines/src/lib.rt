@@ -13,7 +13,12 @@ fn put_layer(out: &mut [u8], at: usize, index: u64, pid: u16, extension: MvcExte
 {
     let mut place = put_labelled(out, at, b"layer ", index);
     place = put_labelled(out, place, b" pid ", pid as u64);
-    place = put_labelled(out, place, b" views ", extension.view_order_index_min as u64);
+    place = put_labelled(
+        out,
+        place,
+        b" views ",
+        extension.view_order_index_min as u64,
+    );
     place = put_labelled(out, place, b" to ", extension.view_order_index_max as u64);
     place = put_labelled(out, place, b" average ", extension.average_bit_rate as u64);
     place = put_labelled(out, place, b" maximum ", extension.maximum_bitrate as u64);

@@ -94,7 +94,12 @@ fn judge_ranges(
 }
 
 // The same where the base has its descriptor: 45 where the second has not.
-fn judge_second(base: Entry, base_extension: MvcExtension, second: Entry, found: Found) -> StereoRead
+fn judge_second(
+    base: Entry,
+    base_extension: MvcExtension,
+    second: Entry,
+    found: Found,
+) -> StereoRead
     ensures { λ r. ⌜ r ≡ foundJudged base (Found.One «base_extension») second found ⌝ }
 {
     match found {

@@ -49,11 +49,7 @@ fn lay_set(read: StereoRead, entries: &mut [u16], extensions: &mut [u16]) -> u64
 }
 
 #[no_mangle]
-pub extern "C" fn thq_read_stereo(
-    bytes: &[u8],
-    entries: &mut [u16],
-    extensions: &mut [u16],
-) -> u64
+pub extern "C" fn thq_read_stereo(bytes: &[u8], entries: &mut [u16], extensions: &mut [u16]) -> u64
     ensures answer { λ r. ⌜ r ≡ readStereo (now (bytes .entry)) (now (entries .entry)) (now (extensions .entry)) .answer ⌝ }
     ensures rows { λ r. ⌜ now (entries .exit) ≡ readStereo (now (bytes .entry)) (now (entries .entry)) (now (extensions .entry)) .entries ⌝ }
     ensures beside { λ r. ⌜ now (extensions .exit) ≡ readStereo (now (bytes .entry)) (now (entries .entry)) (now (extensions .entry)) .extensions ⌝ }

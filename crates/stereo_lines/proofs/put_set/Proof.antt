@@ -23,7 +23,7 @@ same-length c = search needs
 
 returns : tie.Need-returns
 unfolding setText
-returns c =     laid-then (laid-then (c .before .before .before .before .before .before .before .before .before .before .put .ensures) (c .before .before .before .before .before .before .put-layer .ensures)) (c .before .before .put-layer2 .ensures)
+returns c = laid-then (laid-then (c .before .before .before .before .before .before .before .before .before .before .put .ensures) (c .before .before .before .before .before .before .put-layer .ensures)) (c .before .before .put-layer2 .ensures)
 
 pub put-set-spec : {M : Type 1} → statement M
 put-set-spec =

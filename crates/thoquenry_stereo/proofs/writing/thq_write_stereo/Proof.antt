@@ -73,8 +73,7 @@ extension-at-requires-2 c κs =
 
 write-stereo-requires : tie.Need-write-stereo-requires
 write-stereo-requires c κs =
-    let extensions = c .before .before .before .before .before .before .before .before .before .before .before .before .args .extensions .now in
-    (
+    let extensions = c .before .before .before .before .before .before .before .before .before .before .before .before .args .extensions .now in (
       sym (c .before .before .before .before .before .before .before .before .some-too-wide .ensures) ∙ c .before .before .before .before .before .before .before .if1 .left,
       ap (λ (x : MvcExtension). fits mvcExtensionDescriptor (mvcExtensionFields x)) (c .before .before .extension-at .ensures)
           ∙ extension-fits extensions 0 (row-fits extensions 0 (sym (c .before .before .before .before .before .before .extension-too-wide .ensures) ∙ c .before .before .before .before .before .if2 .left)),
