@@ -1,1 +1,2 @@
-// The round trips of stereo sets: reading what was written gives back the entries and the descriptors that were given. Laws alone: specs/ReadBack.antt has the statement.
+// The round trips of stereo sets, in the writer's own shape. Reading what was written gives back the entries and the descriptors that were given (specs/ReadBack.antt), and
+// writing what was read gives the same bytes (specs/Rewriting.antt). Laws alone.
