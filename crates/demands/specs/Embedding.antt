@@ -50,6 +50,8 @@ use Rattle.promised.specs.Writers.{writeLoop, loop-written, writeTimes, times-w
 use Rattle.promised.specs.Joiners.{joinTable, table-joined, joinRows, rows-joined, importLoop, loop-imported}
 use Rattle.demands.specs.Told.{forC}
 use Rattle.demands.specs.ForC.{thqReadLoop, thqWriteLoop, thqClosure, thqReadTimes, thqWriteTimes, thqJoin, thqImport}
+use Rattle.demands.specs.Stereo.{thqReadStereo, thqWriteStereo}
+use Rattle.demands.specs.StereoShown.{thq-stereo-read, thq-stereo-written}
 use Rattle.demands.specs.ForCShown.{thq-loop-read, thq-loop-written, thq-closure-found, thq-times-read, thq-times-written, thq-rows-joined, thq-loop-imported}
 use Rattle.demands.specs.Demand2.{entriesOf, asGiven, LoopRewritten, read-back, rewritten}
 
@@ -79,6 +81,8 @@ pub record TenNever : Type 0 where
   pub thq-write-times : Never10 (forC thqWriteTimes)
   pub thq-join : Never10 (forC thqJoin)
   pub thq-import : Never10 (forC thqImport)
+  pub thq-read-stereo : Never10 (forC thqReadStereo)
+  pub thq-write-stereo : Never10 (forC thqWriteStereo)
   -- the listing, and with it the program `layers`, which prints it
   pub listing : (reading : Reading) (bytes rest : List ℕ) → loopText reading bytes ≡ ascii "refused 10 " ++ rest → ⊥
 
@@ -154,6 +158,8 @@ ten-never =
       thq-write-times = never thq-times-written refl;
       thq-join = never thq-rows-joined refl;
       thq-import = never thq-loop-imported refl;
+      thq-read-stereo = never thq-stereo-read refl;
+      thq-write-stereo = never thq-stereo-written refl;
       listing = never-in-text;
     }
 

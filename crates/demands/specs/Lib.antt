@@ -9,5 +9,6 @@ pub mod Demand1
 pub mod Demand2
 pub mod Demand3
 pub mod Embedding
+pub mod StereoSets
 pub mod Starred
 pub mod Pins
