@@ -56,6 +56,8 @@ use Rattle.demands.specs.JoinsForCShown.{thq-rows-joined, thq-long-joine
 use Rattle.demands.specs.Sets.{readLayerSet, addLayer, removeLayer, thqSetRead, thqSetAdd, thqSetRemove, thqSetClosure}
 use Rattle.demands.specs.SetsShown.{set-read, layer-added, layer-removed}
 use Rattle.demands.specs.SetsShown as shown
+use Rattle.demands.specs.Stereo.{thqReadStereo, thqWriteStereo}
+use Rattle.demands.specs.StereoShown.{thq-stereo-read, thq-stereo-written}
 use Rattle.demands.specs.Demand2.{entriesOf, asGiven, LoopRewritten, read-back, rewritten}
 
 -- ---- 'Show that in the new build refusal 10 never occurs.'
@@ -94,6 +96,8 @@ pub record TenNever : Type 0 where
   pub thq-set-add : Never10 (forC thqSetAdd)
   pub thq-set-remove : Never10 (forC thqSetRemove)
   pub thq-set-closure : Never10 (forC thqSetClosure)
+  pub thq-read-stereo : Never10 (forC thqReadStereo)
+  pub thq-write-stereo : Never10 (forC thqWriteStereo)
   -- the listing, and with it the program `layers`, which prints it
   pub listing : (reading : Reading) (bytes rest : List ℕ) → loopText reading bytes ≡ ascii "refused 10 " ++ rest → ⊥
 
@@ -178,6 +182,8 @@ ten-never =
       thq-set-add = never shown.thq-set-add refl;
       thq-set-remove = never shown.thq-set-remove refl;
       thq-set-closure = never shown.thq-set-closure refl;
+      thq-read-stereo = never thq-stereo-read refl;
+      thq-write-stereo = never thq-stereo-written refl;
       listing = never-in-text;
     }
 

@@ -16,5 +16,6 @@ pub mod Embedding
 pub mod EveryRow
 pub mod OtherLayers
 pub mod LayerSets
+pub mod StereoSets
 pub mod Starred
 pub mod Pins
