@@ -24,7 +24,10 @@ use Rattle.es_loop.specs.declared.reader.LoopRead.{LoopRead}
 use Rattle.es_loop.specs.Entries.{streamType, elementaryPid, esInfoLength, seenIn, streamOf, markedStreams}
 use Rattle.es_loop.specs.Reading.{judged, answerBy, loopRead}
 use Rattle.closure.specs.declared.Closure.{Closure}
-use Rattle.loop_layers.specs.Closures.{closureIn, loopClosure}
+use Rattle.loop_layers.specs.Closures.{tableIn, closureIn, loopClosure}
+use Rattle.listing.specs.Lines.{answerText, loopText}
+use Rattle.rows.specs.Table.{Table}
+use Rattle.importing.specs.Importing.{importIn, importOf}
 
 -- the descriptors but those of tag 49
 abbrev pub unlessExtension : Item → List Item
@@ -118,7 +121,19 @@ module _ (reading : Reading) where
           let streams : List Stream = markedStreams (map (streamOf reading) (cut 5 esInfoLength l)) in
           ap (λ (b : Bool). answerBy streams (cond b (Refuses LoopTooLong) (judged streams))) (le-ltb 1008 (length l) h)
 
-  -- and so is every answer that is made of it: the closure of a target.
+  -- and so is every answer that is made of it: the closure of a target,
   pub same-closure : (bytes bytes′ : List ℕ) → length bytes ≤ 1008 → length bytes′ ≤ 1008 → Alike (cut 5 esInfoLength bytes) (cut 5 esInfoLength bytes′)
       → (target : ℕ) → loopClosure reading bytes target ≡ loopClosure reading bytes′ target
   same-closure bytes bytes′ short short′ alike target = ap (λ (r : LoopRead). closureIn r target) (same-reading bytes bytes′ short short′ alike)
+
+  -- an import, for every table and room,
+  pub same-import : (bytes bytes′ : List ℕ) → length bytes ≤ 1008 → length bytes′ ≤ 1008 → Alike (cut 5 esInfoLength bytes) (cut 5 esInfoLength bytes′)
+      → (target : ℕ) (table : Table) (numberRoom lagRoom : ℕ) → importOf reading bytes target table numberRoom lagRoom ≡ importOf reading bytes′ target table numberRoom lagRoom
+  same-import bytes bytes′ short short′ alike target table numberRoom lagRoom =
+      ap (λ (r : LoopRead). importIn r target table numberRoom lagRoom) (same-reading bytes bytes′ short short′ alike)
+
+  -- and the lines of the listing.
+  pub same-lines : (bytes bytes′ : List ℕ) → length bytes ≤ 1008 → length bytes′ ≤ 1008 → Alike (cut 5 esInfoLength bytes) (cut 5 esInfoLength bytes′)
+      → loopText reading bytes ≡ loopText reading bytes′
+  unfolding loopText
+  same-lines bytes bytes′ short short′ alike = ap (λ (r : LoopRead). answerText (tableIn r)) (same-reading bytes bytes′ short short′ alike)
