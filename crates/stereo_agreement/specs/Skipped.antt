@@ -27,6 +27,7 @@ use Rattle.closure.specs.declared.Closure.{Closure}
 use Rattle.loop_layers.specs.Closures.{tableIn, closureIn, loopClosure}
 use Rattle.listing.specs.Lines.{answerText, loopText}
 use Rattle.rows.specs.Table.{Table}
+use Rattle.joining.specs.Joining.{Room}
 use Rattle.importing.specs.Importing.{importIn, importOf}
 
 -- the descriptors but those of tag 49
@@ -128,9 +129,9 @@ module _ (reading : Reading) where
 
   -- an import, for every table and room,
   pub same-import : (bytes bytes′ : List ℕ) → length bytes ≤ 1008 → length bytes′ ≤ 1008 → Alike (cut 5 esInfoLength bytes) (cut 5 esInfoLength bytes′)
-      → (target : ℕ) (table : Table) (numberRoom lagRoom : ℕ) → importOf reading bytes target table numberRoom lagRoom ≡ importOf reading bytes′ target table numberRoom lagRoom
-  same-import bytes bytes′ short short′ alike target table numberRoom lagRoom =
-      ap (λ (r : LoopRead). importIn r target table numberRoom lagRoom) (same-reading bytes bytes′ short short′ alike)
+      → (target : ℕ) (table : Table) (room : Room) → importOf reading bytes target table room ≡ importOf reading bytes′ target table room
+  same-import bytes bytes′ short short′ alike target table room =
+      ap (λ (r : LoopRead). importIn r target table room) (same-reading bytes bytes′ short short′ alike)
 
   -- and the lines of the listing.
   pub same-lines : (bytes bytes′ : List ℕ) → length bytes ≤ 1008 → length bytes′ ≤ 1008 → Alike (cut 5 esInfoLength bytes) (cut 5 esInfoLength bytes′)
