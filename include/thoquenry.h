@@ -10,13 +10,14 @@
  * output buffer holds what it held; after an accepted call it holds what it held beyond what was written.
  *
  * A buffer is a pointer and the number of its elements (not of its bytes). The pointer of a buffer of no elements may be null; no other
- * may. Buffers of one call may not overlap where one of them is written. A call takes up to 32 KB of stack (docs/BENCHMARKS.md in its
+ * may. Buffers of one call may not overlap where one of them is written. A call takes up to 56 KB of stack (docs/BENCHMARKS.md in its
  * repository has what each takes), no heap, and keeps nothing between calls, so that threads may call at the same time. The library is
  * for x86-64 Linux.
  */
 #ifndef THOQUENRY_H
 #define THOQUENRY_H
 
+#include <stdbool.h>
 #include <stddef.h>
 #include <stdint.h>
 
@@ -27,10 +28,10 @@ extern "C" {
 /*
  * The version of this header, and the same as one number: 10,000 times the first part, 100 times the second, and the third. While the first
  * part is 0, a change by which a program that was built before would misread an answer raises the second, and after that the first; the
- * shared object's name goes with it (libthoquenry.so.0.4).
+ * shared object's name goes with it (libthoquenry.so.0.5).
  */
-#define THQ_VERSION "0.4.0"
-#define THQ_VERSION_NUMBER 400
+#define THQ_VERSION "0.5.0"
+#define THQ_VERSION_NUMBER 500
 
 /* The version of the library that is linked, as such a number. */
 uint64_t thq_version(void);
@@ -69,13 +70,13 @@ enum thq_refusal {
     THQ_REFUSED_NO_SUCH_LAYER = 11,
     /* layer index {} is in the closure, and its layer is not in the loop */
     THQ_REFUSED_EMBEDDED_LAYER_ABSENT = 12,
-    /* row {} is out of range; or, at row 0, the row columns are of unequal length or there are more than 512 rows */
+    /* row {} is out of range; or, at row 0, the row columns are of unequal length or there are more than 512 rows, or than the work space has places */
     THQ_REFUSED_OUT_OF_RANGE = 13,
     /* row {} breaks the time order in its layer, which is in the closure */
     THQ_REFUSED_TIME_ORDER_BROKEN = 14,
-    /* row {} of the target layer has no assembly */
+    /* row {}, the head of a unit, has no assembly */
     THQ_REFUSED_UNPAIRED = 15,
-    /* row {} of the target layer would put a row into a second unit */
+    /* row {}, the head of a unit, would share a row with a head before it */
     THQ_REFUSED_USED_TWICE = 16,
     /* the output room is too small */
     THQ_REFUSED_NO_ROOM = 17,
@@ -106,7 +107,7 @@ enum thq_refusal {
     /* a range of view order index has a least above its greatest, or the two ranges share an index */
     THQ_REFUSED_RANGES_MEET = 46,
 
-    /* the reading is neither THQ_2009 nor THQ_2015 */
+    /* the reading is neither THQ_2009 nor THQ_2015, or the buffers hold no layer set */
     THQ_NOT_A_CALL = 255
 };
 
@@ -216,24 +217,141 @@ uint64_t thq_write_times(uint64_t pts, uint64_t decoding, uint64_t match, uint64
  * `embedded` is the set of the indices that this layer names (a number that is not there is the empty set; those of `i` and above count
  * for nothing). Row k of the table is what stands at place k of `indices`, `decodings` and `matches`.
  *
- * `summary` receives three numbers: the set of the closure's layer indices, the number of units, and the number of closure rows in no
- * unit. `numbers` receives the row numbers of the units, in target row order, each in rising layer index; `lags` a lag beside each.
- * Counts the places written to each of the two.
- * Refusals: 11, 12; then 13 to 16; then 17 where one of the three lists is too short.
+ * A row of a layer that the target rests on is claimed if a row of such a layer that names its layer has a match time equal to its decoding
+ * time. Every such row that is not claimed heads a unit. `numbers` receives the row numbers of the units, each in rising layer index; `lags` a
+ * lag beside each, against the head; `sizes` the number of rows of each unit. The units come in order of the signed 33-bit distance of the
+ * head's decoding time from that of the first row of such a layer, then by lower layer of the head, then by row. Each row of such a layer
+ * stands in exactly one unit. `summary` receives two numbers: the set of the layer indices that the target rests on, and the number of units.
+ * Counts the rows of such layers, which is how many places of `numbers` and of `lags` are written; of `sizes` there is one for each unit.
+ * Refusals: 11, 12; then 13, at place 0 for more than 512 rows; then 14 to 16, and 18; then 17 where one of `numbers`, `lags` and `sizes` has
+ * fewer places than there are rows of such layers, or `summary` fewer than two.
  */
 uint64_t thq_join(uint64_t present, const uint64_t *embedded, size_t embedded_length, uint64_t target, const uint8_t *indices,
                   size_t indices_length, const uint64_t *decodings, size_t decodings_length, const uint64_t *matches,
                   size_t matches_length, uint64_t *numbers, size_t numbers_length, int64_t *lags, size_t lags_length,
-                  uint64_t *summary, size_t summary_length);
+                  uint64_t *sizes, size_t sizes_length, uint64_t *summary, size_t summary_length);
+
+/*
+ * Joins rows to units as thq_join does, of tables of any length: the caller lends work space. Each of `order`, `keys`, `kept`, `places`, `heads`,
+ * `claimed` and `used` needs a place for every row of the table, and 13 is given at place 0 for more rows than the shortest of them has. What
+ * they hold before is not looked at (a `bool` is 0 or 1), and what they hold after says nothing.
+ */
+uint64_t thq_join_long(uint64_t present, const uint64_t *embedded, size_t embedded_length, uint64_t target, const uint8_t *indices,
+                       size_t indices_length, const uint64_t *decodings, size_t decodings_length, const uint64_t *matches,
+                       size_t matches_length, size_t *order, size_t order_length, uint64_t *keys, size_t keys_length, size_t *kept,
+                       size_t kept_length, size_t *places, size_t places_length, size_t *heads, size_t heads_length, bool *claimed,
+                       size_t claimed_length, bool *used, size_t used_length, uint64_t *numbers, size_t numbers_length, int64_t *lags,
+                       size_t lags_length, uint64_t *sizes, size_t sizes_length, uint64_t *summary, size_t summary_length);
 
 /*
  * The whole import: the layers of a loop's bytes, and the rows joined over them. The lists are as in thq_join.
- * Refusals: 1 to 9, 11, 12; then 13 to 16; then 17 where one of the three lists is too short.
+ * Refusals: 1 to 9; then as thq_join.
  */
 uint64_t thq_import(uint64_t reading, const uint8_t *bytes, size_t bytes_length, uint64_t target, const uint8_t *indices,
                     size_t indices_length, const uint64_t *decodings, size_t decodings_length, const uint64_t *matches,
                     size_t matches_length, uint64_t *numbers, size_t numbers_length, int64_t *lags, size_t lags_length,
-                    uint64_t *summary, size_t summary_length);
+                    uint64_t *sizes, size_t sizes_length, uint64_t *summary, size_t summary_length);
+
+/*
+ * An MVC extension descriptor (tag 49, length 8; Table AMD4.1 of the 2009 amendment for MVC): 8 numbers of 16 bits each, 16 bytes, in the machine's byte order, one for each
+ * field of the table, in its order. Rates are in thousands of bits a second, 0 where none is told; the view order indices are a range, both ends in it.
+ *
+ *     number  bytes    field                        bits
+ *     0       0..1     average_bit_rate             16
+ *     1       2..3     maximum_bitrate              16
+ *     2       4..5     view_order_index_min         10
+ *     3       6..7     view_order_index_max         10
+ *     4       8..9     temporal_id_start            3
+ *     5       10..11   temporal_id_end              3
+ *     6       12..13   no_sei_nal_unit_present      1
+ *     7       14..15   no_prefix_nal_unit_present   1
+ */
+typedef struct thq_mvc_extension {
+    uint16_t average_bit_rate;
+    uint16_t maximum_bitrate;
+    uint16_t view_order_index_min;
+    uint16_t view_order_index_max;
+    uint16_t temporal_id_start;
+    uint16_t temporal_id_end;
+    uint16_t no_sei_nal_unit_present;
+    uint16_t no_prefix_nal_unit_present;
+} thq_mvc_extension;
+
+#define THQ_MVC_EXTENSION_NUMBERS 8
+
+/*
+ * Reads a stereo set, by the 2015 reading: a loop with exactly two layers, a base of type 0x1B and index 0 and one of type 0x20 and index 1 that rests on it, each
+ * with one MVC extension descriptor. `entries` receives 160 numbers: the entry of layer 0, then that of layer 1, as laid out above. `extensions` receives 16 numbers:
+ * the descriptor of layer 0, then that of layer 1. Counts the layers, 2. Entries that are no layers may stand beside, and a descriptor of tag 49 on them is not looked at.
+ * Refusals: 1 to 9, at an entry; then 44 where the loop has not these two layers; 45 where on one of them the descriptor is missing, doubled or of another length than 8;
+ * 46 where the least index of a range exceeds its greatest, or the two ranges share an index; then 17 where `entries_length` is below 160 or `extensions_length` below 16.
+ */
+uint64_t thq_read_stereo(const uint8_t *bytes, size_t bytes_length, uint16_t *entries, size_t entries_length, uint16_t *extensions,
+                         size_t extensions_length);
+
+/*
+ * Writes a loop that is a stereo set: all its entries, as thq_write_loop takes them, and behind the hierarchy descriptor of the two layers, if any, the MVC extension
+ * descriptor of each. `extensions` has the descriptor of layer 0, then that of layer 1; a number that is not there is 0, and those after the 16th are not looked at. Counts
+ * the bytes written to `out`.
+ * Refusals: 25 first, where a value of `entries` or of `extensions` is too wide for its field; then 1, which more than 201 entries give too, and in which the two descriptors
+ * count with 20 bytes whatever the layers are; then 3 and 6 to 9, at an entry; then 44 and 46, as in reading; then 17.
+ */
+uint64_t thq_write_stereo(const uint16_t *entries, size_t entries_length, const uint16_t *extensions, size_t extensions_length, uint8_t *out,
+                          size_t out_length);
+
+/*
+ * A LAYER SET, which changes as layers come and go: two buffers of fixed length, which the caller owns and the functions below fill.
+ *
+ * `layers` is 64 entries of 80 numbers each, as laid out above, one for each layer index: entry i is the layer of index i, or 80 zeros where the set
+ * has none. `stored` is what each layer rests on, worked out and never given, in three columns of 64 numbers each:
+ *
+ *     stored[i]          the closure of layer i: bit j is 1 where j is in it, i itself and absent indices as they are named among them
+ *     stored[64 + i]     the number of indices in it
+ *     stored[128 + i]    1 where one of them is absent, and else 0
+ *
+ * and 0 in all three where the set has no layer of index i. What lies below an absent index is unknown and adds nothing until that layer is there. All zeros is
+ * the empty set.
+ *
+ * Buffers hold a set where their lengths are exactly these; where each entry is 80 zeros, or else a layer of its place's index, laid out as thq_read_loop lays it,
+ * to which none of 6, 7 and 9 applies (THQ_IMPLIED is right on 0x1B and on 0x20, whatever else is in the set); where no two layers have the same PID; and where the
+ * stored numbers are what would be worked out afresh. Anything else is refused with THQ_NOT_A_CALL, before all other numbers, so that no one can hand them in. What
+ * the functions leave behind holds a set.
+ */
+#define THQ_SET_LAYERS 5120
+#define THQ_SET_STORED 192
+
+typedef struct thq_set {
+    thq_entry layers[64];
+    uint64_t stored[THQ_SET_STORED];
+} thq_set;
+
+/*
+ * The set of the layers of a loop, implied ones included. Whatever the two buffers held is overwritten. Counts the layers of the set.
+ * Refusals: THQ_NOT_A_CALL also where a length is not exactly that of a set; 1 to 9, at an entry.
+ */
+uint64_t thq_set_read(uint64_t reading, const uint8_t *bytes, size_t bytes_length, uint16_t *layers, size_t layers_length,
+                      uint64_t *stored, size_t stored_length);
+
+/*
+ * A layer more, the entry of 80 numbers as thq_write_loop takes it: fields that its record does not have, and embedded indices beyond the count, are not looked at.
+ * Counts the layers of the set after it.
+ * Refusals: THQ_NOT_A_CALL where the buffers hold no set, and where `entry_length` is not 80; then 25; then 3 where a layer of the set has the PID; then 6 to 9 as
+ * the 2015 reading judges: 6 also for a stream type that it doesn't know, for THQ_IMPLIED and for THQ_NO_RECORD, 8 where the set has a layer of the index. The place is 0.
+ */
+uint64_t thq_set_add(uint16_t *layers, size_t layers_length, uint64_t *stored, size_t stored_length, const uint16_t *entry, size_t entry_length);
+
+/*
+ * A layer less, that of an index. Counts the layers of the set after it.
+ * Refusals: THQ_NOT_A_CALL where the buffers hold no set; then 11 where the set has no layer of the index, also where one is only named.
+ */
+uint64_t thq_set_remove(uint16_t *layers, size_t layers_length, uint64_t *stored, size_t stored_length, uint64_t index);
+
+/*
+ * The layers that a target rests on, itself included, from what is stored. `closure` receives one number, as in thq_closure. Counts the layers in it.
+ * Refusals: THQ_NOT_A_CALL where the buffers hold no set; then 11, 12; then 17 where `closure_length` is 0.
+ */
+uint64_t thq_set_closure(const uint16_t *layers, size_t layers_length, const uint64_t *stored, size_t stored_length, uint64_t target,
+                         uint64_t *closure, size_t closure_length);
 
 #ifdef __cplusplus
 }

@@ -4,7 +4,8 @@ another: the functions' names, and the name, number, order, width and constness 
 parameter of the source is a pointer and, after it, a length. (ctypes does not say whether a pointer is const, so there it is not compared.)
 
 It also holds to one another
-  - the header's table of an entry's numbers and its struct, and Rust's constants and the header's;
+  - the header's tables of an entry's numbers and of an MVC extension descriptor's, each with its struct, the struct of a layer set and the lengths of its buffers, and
+    Rust's constants and the header's;
   - the refusals: the table of words (words/refusals.tsv), C's enum, Rust's constants and enum, Python's enum and the source's own enum
     (crates/vocabulary/src/refusal.rt) have the same numbers under the same names, with a place or without; every number has words of its own,
     which say what its place counts; and the comments of C's and Rust's enums are those words;
@@ -54,7 +55,7 @@ def kind_of(text, kinds, where):
 
 def c_functions(text):
     """Name to (result, parameters), each parameter (name, kind), of a header's prototypes."""
-    kinds = {"uint8_t": "u8", "uint16_t": "u16", "uint64_t": "u64", "int64_t": "i64", "size_t": "usize"}
+    kinds = {"bool": "bool", "uint8_t": "u8", "uint16_t": "u16", "uint64_t": "u64", "int64_t": "i64", "size_t": "usize"}
     text = re.sub(r"/\*.*?\*/", "", text, flags=re.S)
     text = re.sub(r"^#.*$", "", text, flags=re.M)
     functions = {}
@@ -73,7 +74,7 @@ def c_functions(text):
 
 def rust_functions(text):
     """The same of the functions in Rust's `extern "C"` block."""
-    plain = ["u8", "u16", "u64", "i64", "usize"]
+    plain = ["bool", "u8", "u16", "u64", "i64", "usize"]
     kinds = {kind: kind for kind in plain + [f"*{way} {kind}" for way in ("const", "mut") for kind in plain]}
     text = re.sub(r"//.*", "", text)
     functions = {}
@@ -88,7 +89,7 @@ def rust_functions(text):
 
 def python_functions(text):
     """The same of the table DECLARATIONS; a pointer is '* u8'."""
-    kinds = {"c_uint8": "u8", "c_uint16": "u16", "c_uint64": "u64", "c_int64": "i64", "c_size_t": "usize", "c_char_p": "* u8"}
+    kinds = {"c_bool": "bool", "c_uint8": "u8", "c_uint16": "u16", "c_uint64": "u64", "c_int64": "i64", "c_size_t": "usize", "c_char_p": "* u8"}
 
     def kind(node):
         if isinstance(node, ast.Call) and node.func.id == "POINTER":
@@ -111,7 +112,7 @@ def python_functions(text):
 
 def rattle_functions(text):
     """The same of the functions that the source exports; a slice is a pointer and a length."""
-    plain = {kind: kind for kind in ("u8", "u16", "u64", "i64", "usize")}
+    plain = {kind: kind for kind in ("bool", "u8", "u16", "u64", "i64", "usize")}
     text = re.sub(r"//.*", "", text)
     exported = re.findall(r'#\[no_mangle\]\s*pub extern "C" fn (\w+)\s*\(([^()]*)\)\s*->\s*(\w+)', text)
     if len(exported) != len(re.findall(r'extern "C"', text)):
@@ -147,25 +148,40 @@ def functions_differ(one, other, place):
     return found
 
 
-def layout_differs(text):
-    """What differs between the header's table of an entry's numbers and its struct."""
-    body = re.search(r"typedef struct thq_entry \{(.*?)\}", text, flags=re.S).group(1)
+def layout_differs(text, struct_name, constant):
+    """What differs between a struct of the header and the table of its numbers, in the comment before it."""
+    found = re.search(rf"/\*((?:(?!\*/).)*)\*/\s*(?:#define[^\n]*\s*)*typedef struct {struct_name} \{{(.*?)\}}", text, flags=re.S)
+    if found is None:
+        fail(f"{HEADER}: there is no struct {struct_name}, or no comment before it")
+    comment, body = found.groups()
     struct, at = [], 0
     for name, length in re.findall(r"uint16_t (\w+)(?:\[(\d+)\])?;", body):
         struct.append((at, at + int(length or 1) - 1, name))
         at += int(length or 1)
-    rows = re.findall(r"^ \*     (\d+)(?:\.\.(\d+))?\s+(\d+)\.\.(\d+)\s+(\w+)", text, flags=re.M)
+    rows = re.findall(r"^ \*     (\d+)(?:\.\.(\d+))?\s+(\d+)\.\.(\d+)\s+(\w+)", comment, flags=re.M)
     table = [(int(first), int(last or first), int(low), int(high), name) for first, last, low, high, name in rows]
     found = []
-    if at != int(re.search(r"#define THQ_ENTRY_NUMBERS (\d+)", text).group(1)):
-        found.append(f"the struct has {at} numbers")
+    if at != int(re.search(rf"#define {constant} (\d+)", text).group(1)):
+        found.append(f"the struct {struct_name} has {at} numbers")
     if [row[:2] for row in table] != [row[:2] for row in struct]:
-        found.append("the table of an entry's numbers and the struct differ in their numbers")
+        found.append(f"the table of numbers and the struct {struct_name} differ in their numbers")
     for (first, last, low, high, name), (_, _, called) in zip(table, struct):
         if (low, high) != (2 * first, 2 * last + 1):
-            found.append(f"number {first} stands in bytes {2 * first}..{2 * last + 1}")
+            found.append(f"{struct_name}: number {first} stands in bytes {2 * first}..{2 * last + 1}")
         if first < 16 and name.lower() != called:
-            found.append(f"number {first} is {name} in the table and {called} in the struct")
+            found.append(f"{struct_name}: number {first} is {name} in the table and {called} in the struct")
+    return found
+
+
+def set_layout_differs(text):
+    """What differs between the header's struct of a layer set and the lengths of its two buffers."""
+    number = {name: int(value) for name, value in re.findall(r"#define (THQ_\w+) (\d+)", text)}
+    entries, stored = re.search(r"typedef struct thq_set \{\s*thq_entry layers\[(\d+)\];\s*uint64_t stored\[(\w+)\];\s*\}", text).groups()
+    found = []
+    if int(entries) * number["THQ_ENTRY_NUMBERS"] != number["THQ_SET_LAYERS"]:
+        found.append(f"the struct of a layer set has {entries} entries, and THQ_SET_LAYERS is {number['THQ_SET_LAYERS']}")
+    if stored != "THQ_SET_STORED" or number["THQ_SET_STORED"] != 3 * int(entries):
+        found.append(f"what is stored of a layer set is three columns of {entries} numbers each")
     return found
 
 
@@ -280,7 +296,9 @@ def all_differences(texts):
     return (functions_differ(header, rust_functions(texts[RUST]), RUST)
             + functions_differ(header, python_functions(texts[PYTHON]), PYTHON)
             + functions_differ(header, rattle_functions(texts[SOURCE]), SOURCE)
-            + layout_differs(texts[HEADER])
+            + layout_differs(texts[HEADER], "thq_entry", "THQ_ENTRY_NUMBERS")
+            + layout_differs(texts[HEADER], "thq_mvc_extension", "THQ_MVC_EXTENSION_NUMBERS")
+            + set_layout_differs(texts[HEADER])
             + constants_differ(texts[HEADER], texts[RUST])
             + refusals_differ(texts)
             + versions_differ(texts))
@@ -292,27 +310,38 @@ CHANGES = [
     (HEADER, "size_t out_length", "uint64_t out_length"),
     (HEADER, "thq_import(", "thq_imports("),
     (HEADER, "uint16_t embedded[63]", "uint16_t embedded[62]"),
+    (HEADER, "uint16_t view_order_index_min;", "uint16_t view_order_index_least;"),
+    (HEADER, "    uint16_t no_sei_nal_unit_present;\n", ""),
+    (HEADER, "#define THQ_MVC_EXTENSION_NUMBERS 8", "#define THQ_MVC_EXTENSION_NUMBERS 9"),
+    (HEADER, "thq_entry layers[64]", "thq_entry layers[63]"),
+    (HEADER, "uint64_t stored[THQ_SET_STORED]", "uint64_t stored[64]"),
+    (HEADER, "#define THQ_SET_LAYERS 5120", "#define THQ_SET_LAYERS 5121"),
+    (HEADER, "const uint16_t *entry,", "uint16_t *entry,"),
     (HEADER, "#define THQ_HIERARCHY 1", "#define THQ_HIERARCHY 3"),
     (HEADER, "#define THQ_IMPLIED 3", "#define THQ_IMPLIED 2"),
     (HEADER, "THQ_REFUSED_UNPAIRED = 15", "THQ_REFUSED_UNPAIRED = 16"),
     (HEADER, "THQ_REFUSED_NO_ROOM", "THQ_REFUSED_ROOM"),
     (HEADER, "has no assembly", "has no partner"),
-    (HEADER, '"0.4.0"', '"0.5.0"'),
-    (HEADER, "THQ_VERSION_NUMBER 400", "THQ_VERSION_NUMBER 40000"),
+    (HEADER, '"0.5.0"', '"0.6.0"'),
+    (HEADER, "THQ_VERSION_NUMBER 500", "THQ_VERSION_NUMBER 50000"),
     (RUST, "lags: *mut i64", "lags: *mut u64"),
     (RUST, "embedded: *const u64", "embedded: *mut u64"),
+    (RUST, "extensions: *const u16", "extensions: *mut u16"),
+    (RUST, "THQ_MVC_EXTENSION_NUMBERS: usize = 8", "THQ_MVC_EXTENSION_NUMBERS: usize = 16"),
     (RUST, "pts: u64,\n        decoding: u64,", "decoding: u64,\n        pts: u64,"),
     (RUST, "THQ_REFUSED_TOO_WIDE: u64 = 25", "THQ_REFUSED_TOO_WIDE: u64 = 26"),
     (RUST, "pub const THQ_REFUSED_NO_PTS: u64 = 21;\n", ""),
     (PYTHON, '("indices", POINTER(c_uint8))', '("indices", POINTER(c_uint64))'),
     (PYTHON, '("present", c_uint64),', ""),
+    (PYTHON, '("extensions", POINTER(c_uint16))', '("extensions", POINTER(c_uint8))'),
+    (PYTHON, '("layers", POINTER(c_uint16))', '("layers", POINTER(c_uint64))'),
     (PYTHON, '("bytes", c_char_p)', '("bytes", POINTER(c_uint16))'),
-    (PYTHON, "libthoquenry.so.0.4", "libthoquenry.so.1"),
-    (PYTHON, "range(400, 500)", "range(500, 600)"),
+    (PYTHON, "libthoquenry.so.0.5", "libthoquenry.so.1"),
+    (PYTHON, "range(500, 600)", "range(400, 500)"),
     (SOURCE, "&mut [i64]", "&mut [u64]"),
     (SOURCE, "-> u64", "-> u8"),
-    (SOURCE, "    400\n", "    401\n"),
-    (VERSION_SPEC, "numbered 0 4 0", "numbered 1 0 0"),
+    (SOURCE, "    500\n", "    501\n"),
+    (VERSION_SPEC, "numbered 0 5 0", "numbered 1 0 0"),
     (WORDS, "25\tTOO_WIDE\t-\ta value to be written is too wide for its field\n", ""),
     (WORDS, "25\tTOO_WIDE\t-\ta value to be written is too wide for its field", "25\tTOO_WIDE\t-\tPTS lies before DTS"),
     (WORDS, "25\tTOO_WIDE\t-\ta value to be written is too wide for its field", "25\tTOO_WIDE\t-\t"),
@@ -328,9 +357,9 @@ CHANGES = [
     (SOURCE_REFUSALS, "    Unpaired(usize),\n", "    Unpaired,\n"),
     (SOURCE_REFUSALS, "Refusal::UsedTwice(_) => 16", "Refusal::UsedTwice(_) => 18"),
     (SOURCE_REFUSALS, "    NoRoom,\n", ""),
-    (RUST_PACKAGES[0], 'version = "0.4.0"', 'version = "0.4.1"'),
-    (RUST_PACKAGES[1], 'version = "0.4.0"', 'version = "0.4.1"'),
-    (PYTHON_PACKAGE, '__version__ = "0.4.0"', '__version__ = "0.4.1"'),
+    (RUST_PACKAGES[0], 'version = "0.5.0"', 'version = "0.5.1"'),
+    (RUST_PACKAGES[1], 'version = "0.5.0"', 'version = "0.5.1"'),
+    (PYTHON_PACKAGE, '__version__ = "0.5.0"', '__version__ = "0.5.1"'),
 ]
 
 

@@ -5,44 +5,9 @@
 # something differs. To be run after `rt check`.
 cd "$(dirname "$0")/.." || exit 1
 root=$PWD
-work=$(mktemp -d)
-trap 'chmod -R u+w "$work"; rm -rf "$work"' EXIT
-failed=0
-passed=0
-
-# Takes note of a test by its name and whether it holds.
-note() {
-    if [ "$2" -eq 0 ]; then
-        passed=$((passed + 1))
-    else
-        echo "layers: $1: NOT SO" >&2
-        sed 's/^/    /' "$work/said" >&2
-        failed=1
-    fi
-}
-
-# expect NAME STATUS TEXT MESSAGE COMMAND..: the command ends with this status; it prints what the file TEXT has, nothing where that is -, or
-# anything where that is ?; on standard error it prints a line that has MESSAGE, or nothing where that is empty.
-expect() {
-    name=$1 status=$2 text=$3 message=$4
-    shift 4
-    "$@" >"$work/text" 2>"$work/said"
-    ended=$?
-    [ "$ended" -eq "$status" ] || echo "(status $ended)" >>"$work/said"
-    case $text in
-        -) [ ! -s "$work/text" ] ;;
-        '?') true ;;
-        *) cmp -s "$text" "$work/text" ;;
-    esac
-    same=$?
-    if [ -n "$message" ]; then grep -qF -e "$message" "$work/said"; else [ ! -s "$work/said" ]; fi
-    told=$?
-    [ "$ended" -eq "$status" ] && [ "$same" -eq 0 ] && [ "$told" -eq 0 ]
-    note "$name" $?
-}
-
-# What each text means: accepted or refused.
-status_of() { if grep -q '^refused' "$1"; then echo 1; else echo 0; fi; }
+command=layers
+# shellcheck source=tests/expect.sh
+. tests/expect.sh
 
 for sample in samples/*.bin; do
     text=tests/layers/$(basename "$sample" .bin).txt
@@ -134,5 +99,4 @@ path=$PATH
     expect "a file that may not be read" 2 - "closed.bin: this file cannot be read" env PATH="$path" $as_nobody "$work/clone/layers" "$work/closed.bin"
 }
 
-[ "$failed" -ne 0 ] || echo "layers: $passed tests, as expected"
-exit "$failed"
+conclude

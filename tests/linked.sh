@@ -44,16 +44,19 @@ declarations() {
 
 called_from_c() {
     for way in target/lib/libthoquenry.a "-Ltarget/lib -lthoquenry"; do
-        # shellcheck disable=SC2086  # a list of words
-        x86_64-linux-gnu-gcc -std=c11 -O2 -Wall -Wextra -Werror -pedantic -Iinclude tests/c/import.c $way -o target/linked/import
-        THOQUENRY_LIBRARIES=$PWD/target/lib LD_LIBRARY_PATH=$PWD/target/lib scripts/x86 target/linked/import
+        for test in tests/c/*.c; do
+            program=target/linked/$(basename "$test" .c)
+            # shellcheck disable=SC2086  # a list of words
+            x86_64-linux-gnu-gcc -std=c11 -O2 -Wall -Wextra -Werror -pedantic -Iinclude "$test" $way -o "$program"
+            THOQUENRY_LIBRARIES=$PWD/target/lib LD_LIBRARY_PATH=$PWD/target/lib scripts/x86 "$program"
+        done
     done
     echo "ok, with the archive and with the shared object"
 }
 
 # Each of Rust's tests says how many it has run.
 called_from_rust() {
-    scripts/cargo test -p thoquenry-sys -p thoquenry -p plain | tee target/linked/rust-tests
+    scripts/cargo test -p thoquenry-sys -p thoquenry -p plain >target/linked/rust-tests || { cat target/linked/rust-tests; return 1; }
     scripts/cargo run --quiet -p thoquenry --example join >target/linked/rust-example
     diff tests/example.txt target/linked/rust-example
     if THOQUENRY_LIB=/nowhere CARGO_TARGET_DIR=target/linked/cargo scripts/cargo check -p thoquenry-sys 2>target/linked/rust-missing; then return 1; fi
@@ -62,16 +65,21 @@ called_from_rust() {
 }
 
 called_from_python() {
+    scripts/python-x86 -B python/tests/test_stereo.py
     scripts/python-x86 -B python/tests/test_thoquenry.py
+    scripts/python-x86 -B python/tests/test_layer_sets.py
     scripts/python-x86 -B python/examples/join.py >target/linked/python-example
     diff tests/example.txt target/linked/python-example
 }
 
 # The page of examples; its Rust is among Rust's tests.
 as_the_page_says() {
-    scripts/python-x86 -B tests/using.py target/linked/using.c
-    x86_64-linux-gnu-gcc -std=c11 -O2 -Wall -Wextra -Werror -pedantic -Iinclude target/linked/using.c target/lib/libthoquenry.a -o target/linked/using
-    scripts/x86 target/linked/using
+    rm -f target/linked/using-*.c
+    scripts/python-x86 -B tests/using.py target/linked
+    for block in target/linked/using-*.c; do
+        x86_64-linux-gnu-gcc -std=c11 -O2 -Wall -Wextra -Werror -pedantic -Iinclude "$block" target/lib/libthoquenry.a -o target/linked/using
+        scripts/x86 target/linked/using
+    done
     echo "ok, the examples of docs/USING.md"
 }
 

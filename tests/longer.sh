@@ -24,6 +24,8 @@ for seed in $seeds; do
     echo "longer: compare, seed $seed, $count calls"
     scripts/x86 "$compare" "$seed" "$count"
 done
+echo "longer: compare, a table of a million rows"
+scripts/x86 "$compare" --long 1000000
 for seed in $guarded_seeds; do
     echo "longer: compare beside guard pages, seed $seed, $count calls"
     scripts/x86 "$compare" --guarded "$seed" "$count"
@@ -37,7 +39,9 @@ if [ "$(uname -m)" = x86_64 ]; then
     echo "longer: Rust's tests under valgrind"
     THOQUENRY_RUNNER=$checked scripts/cargo test --quiet --tests -p thoquenry
     echo "longer: C's tests under valgrind"
-    LD_LIBRARY_PATH=$PWD/target/lib $checked target/linked/import
+    for test in tests/c/*.c; do
+        LD_LIBRARY_PATH=$PWD/target/lib $checked "target/linked/$(basename "$test" .c)"
+    done
     echo "longer: compare under valgrind, seed 8, $few calls"
     $checked "$compare" 8 "$few"
     said=$(PYTHONPATH=python/src python3 -B python/tests/speed.py) || { echo "longer: from Python, $said: TOO LONG" >&2; exit 1; }

@@ -43,14 +43,14 @@ gcc -std=c11 $strict import.c $(pkg-config --cflags --libs thoquenry) -o shared
 ./shared
 gcc -std=c11 $strict import.c $(pkg-config --cflags thoquenry) -l:libthoquenry.a -o archived
 ./archived
-ldd ./shared | grep -q 'libthoquenry.so.0.4 => /'
+ldd ./shared | grep -q 'libthoquenry.so.0.5 => /'
 ! ldd ./archived | grep -q thoquenry
 printf '#include <thoquenry.h>\nint main() { return thq_version() == THQ_VERSION_NUMBER ? 0 : 1; }\n' >version.cc
 g++ -std=c++17 $strict version.cc $(pkg-config --cflags --libs thoquenry) -o version
 ./version
 [ -f /usr/share/man/man1/layers.1.gz ] && [ -f /usr/share/man/man3/thoquenry.3.gz ]
-dpkg --verify thoquenry libthoquenry-dev libthoquenry0.4
-dpkg -P thoquenry libthoquenry-dev libthoquenry0.4 >removed.log 2>&1 || { cat removed.log; exit 1; }
+dpkg --verify thoquenry libthoquenry-dev libthoquenry0.5
+dpkg -P thoquenry libthoquenry-dev libthoquenry0.5 >removed.log 2>&1 || { cat removed.log; exit 1; }
 INSIDE
 chroot "$root" sh /try/inside
 listed >"$out/after"

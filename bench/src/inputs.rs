@@ -118,3 +118,21 @@ pub fn rows(count: usize, names: usize) -> Columns {
     }
     rows
 }
+
+/// A table of so many rows in which each layer has a row at every second row of the one below it, as they arrive, across the wrap of the clock.
+pub fn half_rate(count: usize, length: usize) -> Columns {
+    let mut rows = Columns::default();
+    let start = (1 << 33) - 400_000;
+    for picture in 0_u64.. {
+        for index in (0..count).take_while(|index| picture % (1 << index) == 0) {
+            if rows.indices.len() == length {
+                return rows;
+            }
+            let time = (start + 3600 * picture) % (1 << 33);
+            rows.indices.push(index as u8);
+            rows.decodings.push(time);
+            rows.matches.push(time);
+        }
+    }
+    unreachable!("pictures do not end")
+}

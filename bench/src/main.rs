@@ -15,7 +15,9 @@
 mod clock;
 mod inputs;
 mod measures;
+mod sets;
 mod stack;
+mod stereo;
 mod tables;
 mod times;
 

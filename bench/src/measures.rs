@@ -1,7 +1,7 @@
 //! What is measured: for each call and input, the same work done by the library and by the plain implementation.
 
-use crate::inputs;
-use plain::{Reading, Refusal, Times, Units};
+use crate::{inputs, stereo};
+use plain::{Columns, Layers, Reading, Refusal, Times, Units};
 use std::rc::Rc;
 use thoquenry_sys as raw;
 
@@ -15,7 +15,7 @@ pub struct Measure {
     pub bytes: Option<usize>,
     pub library: Side,
     pub plain: Side,
-    /// The plain search from the start of the table for every row.
+    /// The plain search from the start of the table for every row; of layer sets, everything worked out afresh.
     pub search: Option<Side>,
 }
 
@@ -34,7 +34,7 @@ impl Measure {
 }
 
 /// Hides a value from the optimiser, so that no call is left out and none is made for all.
-fn hide<T>(value: T) -> T {
+pub fn hide<T>(value: T) -> T {
     // SAFETY: the value is read once and the original forgotten.
     unsafe {
         let hidden = std::ptr::read_volatile(&value);
@@ -43,7 +43,7 @@ fn hide<T>(value: T) -> T {
     }
 }
 
-fn repeat(calls: usize, mut call: impl FnMut() -> u64) -> u64 {
+pub fn repeat(calls: usize, mut call: impl FnMut() -> u64) -> u64 {
     let mut answer = 0;
     for _ in 0..calls {
         answer = hide(call());
@@ -52,7 +52,7 @@ fn repeat(calls: usize, mut call: impl FnMut() -> u64) -> u64 {
 }
 
 /// The answer as the library gives it.
-fn answer(result: Result<usize, Refusal>) -> u64 {
+pub fn answer(result: Result<usize, Refusal>) -> u64 {
     match result {
         Ok(count) => count as u64 * 256,
         Err(Refusal { number, place }) => u64::from(number) + place as u64 * 256,
@@ -248,16 +248,47 @@ fn write_times(name: &str, times: Times, with_tref: bool) -> Measure {
 }
 
 /// The room for a summary that a call asks for.
-const SUMMARY: usize = 3;
+const SUMMARY: usize = 2;
 
-fn join(count: usize, names: usize, summary: usize) -> Measure {
-    let layers = inputs::layers(count, names);
-    let target = count as u64 - 1;
-    let rows = Rc::new(inputs::rows(count, names));
+/// The lists that joining fills, and the room for its summary.
+struct Lists {
+    numbers: Vec<u64>,
+    lags: Vec<i64>,
+    sizes: Vec<u64>,
+    summary: Vec<u64>,
+}
+
+impl Lists {
+    fn new(rows: usize, summary: usize) -> Lists {
+        Lists {
+            numbers: vec![0; rows],
+            lags: vec![0; rows],
+            sizes: vec![0; rows],
+            summary: vec![0; summary],
+        }
+    }
+
+    /// Lent to plain.
+    fn room(&mut self) -> plain::Lists<'_> {
+        plain::Lists {
+            numbers: &mut self.numbers,
+            lags: &mut self.lags,
+            sizes: &mut self.sizes,
+        }
+    }
+}
+
+/// What an accepted table counts.
+fn rows_of(units: Result<Units, Refusal>) -> u64 {
+    answer(units.map(|units| hide(units).rows))
+}
+
+/// Joins a table over layers by the library, by plain and by the search.
+fn join(name: String, layers: Layers, target: u64, rows: Columns, summary: usize) -> Measure {
+    let rows = Rc::new(rows);
+    let count = rows.indices.len();
     let given = rows.clone();
-    let mut numbers = vec![0_u64; 512];
-    let mut lags = vec![0_i64; 512];
-    let mut summary = vec![0_u64; summary];
+    let mut lists = Lists::new(count, summary);
     let library = move |calls| {
         repeat(calls, || {
             let (layers, rows) = hide((&layers, &*given));
@@ -274,52 +305,134 @@ fn join(count: usize, names: usize, summary: usize) -> Measure {
                     rows.decodings.len(),
                     rows.matches.as_ptr(),
                     rows.matches.len(),
-                    numbers.as_mut_ptr(),
-                    numbers.len(),
-                    lags.as_mut_ptr(),
-                    lags.len(),
-                    summary.as_mut_ptr(),
-                    summary.len(),
+                    lists.numbers.as_mut_ptr(),
+                    lists.numbers.len(),
+                    lists.lags.as_mut_ptr(),
+                    lists.lags.len(),
+                    lists.sizes.as_mut_ptr(),
+                    lists.sizes.len(),
+                    lists.summary.as_mut_ptr(),
+                    lists.summary.len(),
                 )
             }
         })
     };
-    let answer = |units: Result<Units, Refusal>| answer(units.map(|units| hide(units).places()));
     let given = rows.clone();
-    let mut numbers = vec![0; 512];
-    let mut lags = vec![0; 512];
+    let mut lists = Lists::new(count, 0);
     let plain = move |calls| {
         repeat(calls, || {
             let (layers, rows) = hide((&layers, given.rows()));
-            let (numbers, lags) = hide((&mut numbers[..], &mut lags[..]));
-            answer(plain::join(layers, hide(target), rows, numbers, lags))
+            rows_of(plain::join(layers, hide(target), rows, hide(lists.room())))
         })
     };
-    let mut numbers = vec![0; 512];
-    let mut lags = vec![0; 512];
+    let mut lists = Lists::new(count, 0);
     let search = move |calls| {
         repeat(calls, || {
             let (layers, rows) = hide((&layers, rows.rows()));
-            let (numbers, lags) = hide((&mut numbers[..], &mut lags[..]));
-            answer(plain::join_by_search(
-                layers,
-                hide(target),
-                rows,
-                numbers,
-                lags,
-            ))
+            let room = hide(lists.room());
+            rows_of(plain::join_by_search(layers, hide(target), rows, room))
         })
     };
-    let below = match names {
-        1 => "the one below it".to_string(),
-        names => format!("the {names} below it"),
-    };
     Measure {
-        name: format!("join 512 rows, {count} layers, each on {below}"),
+        name,
         bytes: None,
         library: Box::new(library),
         plain: Box::new(plain),
         search: Some(Box::new(search)),
+    }
+}
+
+/// A full table of whole units, each layer resting on so many below it.
+fn join_units(count: usize, names: usize, summary: usize) -> Measure {
+    let below = match names {
+        1 => "the one below it".to_string(),
+        names => format!("the {names} below it"),
+    };
+    join(
+        format!("join 512 rows, {count} layers, each on {below}"),
+        inputs::layers(count, names),
+        count as u64 - 1,
+        inputs::rows(count, names),
+        summary,
+    )
+}
+
+/// A full table in which each layer has a row at every second row of the one below it.
+fn join_half_rate(count: usize) -> Measure {
+    join(
+        format!("join 512 rows, {count} layers, each at half the rate of the one below it"),
+        inputs::layers(count, 1),
+        count as u64 - 1,
+        inputs::half_rate(count, 512),
+        SUMMARY,
+    )
+}
+
+/// A table of any length, of a base and an enhancement at every second picture.
+fn join_long(count: usize) -> Measure {
+    let layers = inputs::layers(2, 1);
+    let rows = Rc::new(inputs::half_rate(2, count));
+    let given = rows.clone();
+    let mut keys = vec![0_u64; count];
+    let mut work = vec![vec![0_usize; count]; 4];
+    let mut marks = vec![vec![false; count]; 2];
+    let mut lists = Lists::new(count, SUMMARY);
+    let library = move |calls| {
+        repeat(calls, || {
+            let (layers, rows) = hide((&layers, &*given));
+            // SAFETY: as above; the work spaces are parts of their own.
+            unsafe {
+                raw::thq_join_long(
+                    layers.present,
+                    layers.embedded.as_ptr(),
+                    layers.embedded.len(),
+                    1,
+                    rows.indices.as_ptr(),
+                    rows.indices.len(),
+                    rows.decodings.as_ptr(),
+                    rows.decodings.len(),
+                    rows.matches.as_ptr(),
+                    rows.matches.len(),
+                    work[0].as_mut_ptr(),
+                    count,
+                    keys.as_mut_ptr(),
+                    count,
+                    work[1].as_mut_ptr(),
+                    count,
+                    work[2].as_mut_ptr(),
+                    count,
+                    work[3].as_mut_ptr(),
+                    count,
+                    marks[0].as_mut_ptr(),
+                    count,
+                    marks[1].as_mut_ptr(),
+                    count,
+                    lists.numbers.as_mut_ptr(),
+                    lists.numbers.len(),
+                    lists.lags.as_mut_ptr(),
+                    lists.lags.len(),
+                    lists.sizes.as_mut_ptr(),
+                    lists.sizes.len(),
+                    lists.summary.as_mut_ptr(),
+                    lists.summary.len(),
+                )
+            }
+        })
+    };
+    let mut lists = Lists::new(count, 0);
+    let plain = move |calls| {
+        repeat(calls, || {
+            let (layers, rows) = hide((&layers, rows.rows()));
+            let room = hide(lists.room());
+            rows_of(plain::join_long(count, layers, hide(1), rows, room))
+        })
+    };
+    Measure {
+        name: format!("join {count} rows, 2 layers, the upper at half the rate"),
+        bytes: None,
+        library: Box::new(library),
+        plain: Box::new(plain),
+        search: None,
     }
 }
 
@@ -329,9 +442,7 @@ fn import(count: usize, summary: usize) -> Measure {
     let target = count as u64 - 1;
     let rows = Rc::new(inputs::rows(count, 1));
     let (given, given_rows) = (bytes.clone(), rows.clone());
-    let mut numbers = vec![0_u64; 512];
-    let mut lags = vec![0_i64; 512];
-    let mut summary = vec![0_u64; summary];
+    let mut lists = Lists::new(512, summary);
     let library = move |calls| {
         repeat(calls, || {
             let (bytes, rows) = hide((&given[..], &*given_rows));
@@ -348,25 +459,25 @@ fn import(count: usize, summary: usize) -> Measure {
                     rows.decodings.len(),
                     rows.matches.as_ptr(),
                     rows.matches.len(),
-                    numbers.as_mut_ptr(),
-                    numbers.len(),
-                    lags.as_mut_ptr(),
-                    lags.len(),
-                    summary.as_mut_ptr(),
-                    summary.len(),
+                    lists.numbers.as_mut_ptr(),
+                    lists.numbers.len(),
+                    lists.lags.as_mut_ptr(),
+                    lists.lags.len(),
+                    lists.sizes.as_mut_ptr(),
+                    lists.sizes.len(),
+                    lists.summary.as_mut_ptr(),
+                    lists.summary.len(),
                 )
             }
         })
     };
-    let mut numbers = vec![0; 512];
-    let mut lags = vec![0; 512];
+    let mut lists = Lists::new(512, 0);
     let plain = move |calls| {
         repeat(calls, || {
-            let (numbers, lags) = hide((&mut numbers[..], &mut lags[..]));
             let reading = hide(Reading::Of2015);
             let (bytes, rows) = hide((&bytes[..], rows.rows()));
-            let units = plain::import(reading, bytes, hide(target), rows, numbers, lags);
-            answer(units.map(|units| hide(units).places()))
+            let room = hide(lists.room());
+            rows_of(plain::import(reading, bytes, hide(target), rows, room))
         })
     };
     Measure {
@@ -393,7 +504,7 @@ pub fn all() -> Vec<Measure> {
         decoding: 600,
         matching: 300,
     };
-    vec![
+    let mut measures = vec![
         read_loop("loop A (37 bytes, 3 layers)", inputs::LOOP_A.to_vec()),
         read_loop("1,008 bytes, 64 hierarchy descriptors", hierarchies.clone()),
         read_loop("1,008 bytes, 46 extensions", extensions.clone()),
@@ -411,18 +522,26 @@ pub fn all() -> Vec<Measure> {
         read_times("PTS, DTS and TREF", all_three, true),
         write_times("PTS alone", alone, false),
         write_times("PTS, DTS and TREF", all_three, true),
-        join(2, 1, SUMMARY),
-        join(8, 1, SUMMARY),
-        join(32, 1, SUMMARY),
-        join(32, 2, SUMMARY),
+        join_units(2, 1, SUMMARY),
+        join_units(8, 1, SUMMARY),
+        join_units(32, 1, SUMMARY),
+        join_units(32, 2, SUMMARY),
+        join_half_rate(2),
+        join_half_rate(4),
+        join_long(1_000),
+        join_long(10_000),
+        join_long(100_000),
         import(32, SUMMARY),
-    ]
+    ];
+    measures.extend(stereo::measures());
+    measures.extend(crate::sets::all());
+    measures
 }
 
 /// What is measured for its stack alone: calls that the library refuses after all its work, for want of room for the summary, which plain does
 /// not ask for.
 pub fn without_summary() -> Vec<Measure> {
-    let mut measures = vec![join(32, 1, 0), import(32, 0)];
+    let mut measures = vec![join_units(32, 1, 0), import(32, 0)];
     for measure in &mut measures {
         measure.name += ", no room for the summary";
     }

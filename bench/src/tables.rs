@@ -98,18 +98,39 @@ pub fn instructions(measures: &[Measure], counts: &Counts) {
             beside(sides[0], before)
         );
     }
-    println!("\nJoining by the plain search from the start of the table for every row:\n");
-    println!("| Call and input | search | search / library | search / plain |");
-    println!("|---|---|---|---|");
-    for (measure, sides) in measures.iter().zip(counts.each(measures)) {
-        if let [library, plain, search] = sides {
-            let (of_library, of_plain) = (short(search / library), short(search / plain));
-            println!(
-                "| {} | {search} | {of_library} | {of_plain} |",
-                measure.name
-            );
+    for (title, third, of_sets) in THIRDS {
+        println!("\n{title}:\n");
+        third_head(third);
+        for (measure, sides) in measures.iter().zip(counts.each(measures)) {
+            if let (true, [library, plain, side]) = (of_sets == is_of_sets(measure), sides) {
+                let (of_library, of_plain) = (short(side / library), short(side / plain));
+                println!("| {} | {side} | {of_library} | {of_plain} |", measure.name);
+            }
         }
     }
+}
+
+/// What the third sides are: the title of their table, the name of the side, and whether it is of layer sets.
+const THIRDS: [(&str, &str, bool); 2] = [
+    (
+        "Joining by the plain search from the start of the table for every row",
+        "search",
+        false,
+    ),
+    (
+        "Layer sets: everything worked out afresh, by plain, where the library and plain keep what each layer rests on",
+        "afresh",
+        true,
+    ),
+];
+
+fn is_of_sets(measure: &Measure) -> bool {
+    measure.name.starts_with(crate::sets::NAME)
+}
+
+fn third_head(third: &str) {
+    println!("| Call and input | {third} | {third} / library | {third} / plain |");
+    println!("|---|---|---|---|");
 }
 
 /// Where the library's instructions are executed.
@@ -188,18 +209,19 @@ pub fn times(measures: &[Measure], times: &[Rounds]) {
             println!("| {} | {} | {} |", measure.name, rate(0), rate(1));
         }
     }
-    println!("\nJoining by the plain search from the start of the table for every row, and how many times the others are faster:\n");
-    println!("| Call and input | search | search / library | search / plain |");
-    println!("|---|---|---|---|");
-    for (measure, rounds) in measures.iter().zip(times) {
-        if measure.search.is_some() {
-            println!(
-                "| {} | {} | {} | {} |",
-                measure.name,
-                taken(rounds, 2),
-                ratio(rounds, 2, 0),
-                ratio(rounds, 2, 1)
-            );
+    for (title, third, of_sets) in THIRDS {
+        println!("\n{title}, and how many times the others are faster:\n");
+        third_head(third);
+        for (measure, rounds) in measures.iter().zip(times) {
+            if measure.search.is_some() && is_of_sets(measure) == of_sets {
+                println!(
+                    "| {} | {} | {} | {} |",
+                    measure.name,
+                    taken(rounds, 2),
+                    ratio(rounds, 2, 0),
+                    ratio(rounds, 2, 1)
+                );
+            }
         }
     }
 }

@@ -2,8 +2,11 @@
 //! leave their buffers in the call itself, so that two calls are equal when every buffer is, inputs included.
 
 use crate::memory::{Memory, Placing};
+use crate::random::Random;
+use crate::stereo;
 use plain::{
     Columns, Embedded, Entry, Extension, Hierarchy, Layers, Reading, Record, Refusal, Times,
+    MOST_ROWS,
 };
 use thoquenry_sys as raw;
 
@@ -12,8 +15,12 @@ use thoquenry_sys as raw;
 pub struct Lists {
     pub numbers: Vec<u64>,
     pub lags: Vec<i64>,
+    pub sizes: Vec<u64>,
     pub summary: Vec<u64>,
 }
+
+/// How many places each work space of a long table has: order, keys, kept, places, heads, claimed, used. What they hold says nothing.
+pub type Work = [usize; 7];
 
 /// A call.
 #[derive(Clone, Debug, PartialEq, Eq)]
@@ -51,6 +58,14 @@ pub enum Call {
         rows: Columns,
         lists: Lists,
     },
+    JoinLong {
+        present: u64,
+        embedded: Vec<u64>,
+        target: u64,
+        rows: Columns,
+        work: Work,
+        lists: Lists,
+    },
     Import {
         reading: u64,
         bytes: Vec<u8>,
@@ -58,10 +73,12 @@ pub enum Call {
         rows: Columns,
         lists: Lists,
     },
+    ReadStereo(stereo::Read),
+    WriteStereo(stereo::Write),
 }
 
 /// The names of the calls and the numbers that each can answer, 0 for an accepted call.
-pub const CALLS: [(&str, &[u64]); 7] = [
+pub const CALLS: [(&str, &[u64]); 10] = [
     ("read_loop", &[0, 1, 2, 3, 4, 5, 6, 7, 8, 9, 17, NOT_A_CALL]),
     ("write_loop", &[0, 1, 3, 6, 7, 8, 9, 17, 25]),
     (
@@ -70,13 +87,19 @@ pub const CALLS: [(&str, &[u64]); 7] = [
     ),
     ("read_times", &[0, 17, 20, 21, 22, 23, 24]),
     ("write_times", &[0, 17, 24, 25]),
-    ("join", &[0, 11, 12, 13, 14, 15, 16, 17]),
+    ("join", &[0, 11, 12, 13, 14, 15, 16, 17, 18]),
+    ("join_long", &[0, 11, 12, 13, 14, 15, 16, 17, 18]),
     (
         "import",
         &[
-            0, 1, 2, 3, 4, 5, 6, 7, 8, 9, 11, 12, 13, 14, 15, 16, 17, NOT_A_CALL,
+            0, 1, 2, 3, 4, 5, 6, 7, 8, 9, 11, 12, 13, 14, 15, 16, 17, 18, NOT_A_CALL,
         ],
     ),
+    (
+        "read_stereo",
+        &[0, 1, 2, 3, 4, 5, 6, 7, 8, 9, 17, 44, 45, 46],
+    ),
+    ("write_stereo", &[0, 1, 3, 6, 7, 8, 9, 17, 25, 44, 46]),
 ];
 
 pub const NOT_A_CALL: u64 = raw::THQ_NOT_A_CALL;
@@ -94,7 +117,7 @@ pub fn value(answer: u64) -> u64 {
     answer / 256
 }
 
-fn answer(result: Result<usize, Refusal>) -> u64 {
+pub fn answer(result: Result<usize, Refusal>) -> u64 {
     match result {
         Ok(count) => count as u64 * 256,
         Err(Refusal { number, place }) => u64::from(number) + place as u64 * 256,
@@ -111,7 +134,10 @@ impl Call {
             Call::ReadTimes { .. } => 3,
             Call::WriteTimes { .. } => 4,
             Call::Join { .. } => 5,
-            Call::Import { .. } => 6,
+            Call::JoinLong { .. } => 6,
+            Call::Import { .. } => 7,
+            Call::ReadStereo(_) => 8,
+            Call::WriteStereo(_) => 9,
         }
     }
 
@@ -126,10 +152,81 @@ impl Call {
             Call::WriteLoop { entries, .. } => entries_of(entries).and_then(|entries| {
                 plain::write_loop(&entries, &mut [0; plain::LONGEST_LOOP]).map(|_| entries)
             }),
+            Call::ReadStereo(read) => plain::read_stereo(&read.bytes).map(|set| set.entries.into()),
+            Call::WriteStereo(write) => write
+                .clone()
+                .plain()
+                .and_then(|_| entries_of(&write.entries)),
             _ => return false,
         };
         let implied = |entry: &Entry| entry.record == Some(Record::Implied);
         entries.map_or(false, |entries| entries.iter().any(implied))
+    }
+
+    /// The same call over a table that differs in rows of layers alone on which the target doesn't rest, where no row is out of range: other layers, other
+    /// times, none of them in the closure. Nothing where this one has no such row, or no closure.
+    pub fn with_other_rows(&self, random: &mut Random) -> Option<Call> {
+        let mut other = self.clone();
+        let (closure, rows) = match &mut other {
+            Call::Join {
+                present,
+                embedded,
+                target,
+                rows,
+                ..
+            }
+            | Call::JoinLong {
+                present,
+                embedded,
+                target,
+                rows,
+                ..
+            } => (plain::closure(&layers(*present, embedded), *target), rows),
+            Call::Import {
+                reading,
+                bytes,
+                target,
+                rows,
+                ..
+            } => {
+                let reading = reading_of(*reading).ok()?;
+                (plain::closure_of_loop(reading, bytes, *target), rows)
+            }
+            _ => return None,
+        };
+        let closure = closure.ok()?;
+        let is_time = |times: &[u64]| times.iter().all(|&time| time < 1 << 33);
+        let in_range = is_time(&rows.decodings) && is_time(&rows.matches);
+        if !in_range || rows.indices.iter().any(|&index| index > 63) {
+            return None;
+        }
+        let outside: Vec<u8> = (0..64).filter(|index| closure >> index & 1 == 0).collect();
+        let mut changed = false;
+        for row in 0..rows.indices.len() {
+            if closure >> rows.indices[row] & 1 == 0 {
+                changed = true;
+                rows.indices[row] = random.pick(&outside);
+                for column in [&mut rows.decodings, &mut rows.matches] {
+                    if let Some(time) = column.get_mut(row) {
+                        *time = random.next() % (1 << 33);
+                    }
+                }
+            }
+        }
+        changed.then_some(other)
+    }
+
+    /// The rows that it is over, if it joins any.
+    pub fn take_rows(&mut self, from: &Call) {
+        if let (
+            Call::Join { rows, .. } | Call::JoinLong { rows, .. } | Call::Import { rows, .. },
+            Call::Join { rows: others, .. }
+            | Call::JoinLong { rows: others, .. }
+            | Call::Import { rows: others, .. },
+        ) = (self, from)
+        {
+            rows.clone_from(others);
+        }
     }
 
     /// Makes the call to the library. An error where it has written beside a buffer.
@@ -246,12 +343,67 @@ impl Call {
                         joined.numbers.length(),
                         joined.lags.start(),
                         joined.lags.length(),
+                        joined.sizes.start(),
+                        joined.sizes.length(),
                         joined.summary.start(),
                         joined.summary.length(),
                     )
                 };
                 untouched &= given.take_back(embedded);
                 untouched &= joined.take_back(rows, lists);
+                answer
+            }
+            Call::JoinLong {
+                present,
+                embedded,
+                target,
+                rows,
+                work,
+                lists,
+            } => {
+                let given = memory.place(embedded);
+                let joined = Joined::place(memory, rows, lists);
+                let mut space = Space::of(*work);
+                let placed = space.place(memory);
+                let answer = unsafe {
+                    raw::thq_join_long(
+                        *present,
+                        given.start(),
+                        given.length(),
+                        *target,
+                        joined.indices.start(),
+                        joined.indices.length(),
+                        joined.decodings.start(),
+                        joined.decodings.length(),
+                        joined.matches.start(),
+                        joined.matches.length(),
+                        placed.order.start(),
+                        placed.order.length(),
+                        placed.keys.start(),
+                        placed.keys.length(),
+                        placed.kept.start(),
+                        placed.kept.length(),
+                        placed.places.start(),
+                        placed.places.length(),
+                        placed.heads.start(),
+                        placed.heads.length(),
+                        placed.claimed.start(),
+                        placed.claimed.length(),
+                        placed.used.start(),
+                        placed.used.length(),
+                        joined.numbers.start(),
+                        joined.numbers.length(),
+                        joined.lags.start(),
+                        joined.lags.length(),
+                        joined.sizes.start(),
+                        joined.sizes.length(),
+                        joined.summary.start(),
+                        joined.summary.length(),
+                    )
+                };
+                untouched &= given.take_back(embedded);
+                untouched &= joined.take_back(rows, lists);
+                untouched &= placed.take_back(&mut space);
                 answer
             }
             Call::Import {
@@ -279,12 +431,24 @@ impl Call {
                         joined.numbers.length(),
                         joined.lags.start(),
                         joined.lags.length(),
+                        joined.sizes.start(),
+                        joined.sizes.length(),
                         joined.summary.start(),
                         joined.summary.length(),
                     )
                 };
                 untouched &= given.take_back(bytes);
                 untouched &= joined.take_back(rows, lists);
+                answer
+            }
+            Call::ReadStereo(read) => {
+                let (answer, kept) = read.library(memory);
+                untouched &= kept;
+                answer
+            }
+            Call::WriteStereo(write) => {
+                let (answer, kept) = write.library(memory);
+                untouched &= kept;
                 answer
             }
         };
@@ -331,7 +495,18 @@ impl Call {
                 target,
                 rows,
                 lists,
-            } => join(&layers(*present, embedded), *target, rows, lists),
+            } => join(MOST_ROWS, &layers(*present, embedded), *target, rows, lists),
+            Call::JoinLong {
+                present,
+                embedded,
+                target,
+                rows,
+                work,
+                lists,
+            } => {
+                let most = work.iter().copied().min().unwrap_or(0);
+                join(most, &layers(*present, embedded), *target, rows, lists)
+            }
             Call::Import {
                 reading,
                 bytes,
@@ -340,7 +515,9 @@ impl Call {
                 lists,
             } => reading_of(*reading)
                 .and_then(|reading| plain::layers_of_loop(reading, bytes))
-                .and_then(|layers| join(&layers, *target, rows, lists)),
+                .and_then(|layers| join(MOST_ROWS, &layers, *target, rows, lists)),
+            Call::ReadStereo(read) => read.plain(),
+            Call::WriteStereo(write) => write.plain(),
         })
     }
 }
@@ -352,6 +529,7 @@ struct Joined {
     matches: crate::memory::Placed<u64>,
     numbers: crate::memory::Placed<u64>,
     lags: crate::memory::Placed<i64>,
+    sizes: crate::memory::Placed<u64>,
     summary: crate::memory::Placed<u64>,
 }
 
@@ -363,6 +541,7 @@ impl Joined {
             matches: memory.place(&rows.matches),
             numbers: memory.place(&lists.numbers),
             lags: memory.place(&lists.lags),
+            sizes: memory.place(&lists.sizes),
             summary: memory.place(&lists.summary),
         }
     }
@@ -373,7 +552,68 @@ impl Joined {
             & self.matches.take_back(&mut rows.matches)
             & self.numbers.take_back(&mut lists.numbers)
             & self.lags.take_back(&mut lists.lags)
+            & self.sizes.take_back(&mut lists.sizes)
             & self.summary.take_back(&mut lists.summary)
+    }
+}
+
+/// Work space, filled with what no table has.
+struct Space {
+    order: Vec<usize>,
+    keys: Vec<u64>,
+    kept: Vec<usize>,
+    places: Vec<usize>,
+    heads: Vec<usize>,
+    claimed: Vec<bool>,
+    used: Vec<bool>,
+}
+
+impl Space {
+    fn of([order, keys, kept, places, heads, claimed, used]: Work) -> Space {
+        Space {
+            order: vec![usize::MAX; order],
+            keys: vec![u64::MAX; keys],
+            kept: vec![usize::MAX; kept],
+            places: vec![usize::MAX; places],
+            heads: vec![usize::MAX; heads],
+            claimed: vec![true; claimed],
+            used: vec![true; used],
+        }
+    }
+
+    fn place(&self, memory: &mut Memory) -> PlacedSpace {
+        PlacedSpace {
+            order: memory.place(&self.order),
+            keys: memory.place(&self.keys),
+            kept: memory.place(&self.kept),
+            places: memory.place(&self.places),
+            heads: memory.place(&self.heads),
+            claimed: memory.place(&self.claimed),
+            used: memory.place(&self.used),
+        }
+    }
+}
+
+/// The same, placed.
+struct PlacedSpace {
+    order: crate::memory::Placed<usize>,
+    keys: crate::memory::Placed<u64>,
+    kept: crate::memory::Placed<usize>,
+    places: crate::memory::Placed<usize>,
+    heads: crate::memory::Placed<usize>,
+    claimed: crate::memory::Placed<bool>,
+    used: crate::memory::Placed<bool>,
+}
+
+impl PlacedSpace {
+    fn take_back(&self, space: &mut Space) -> bool {
+        self.order.take_back(&mut space.order)
+            & self.keys.take_back(&mut space.keys)
+            & self.kept.take_back(&mut space.kept)
+            & self.places.take_back(&mut space.places)
+            & self.heads.take_back(&mut space.heads)
+            & self.claimed.take_back(&mut space.claimed)
+            & self.used.take_back(&mut space.used)
     }
 }
 
@@ -402,7 +642,7 @@ fn write_loop(entries: &[u16], out: &mut [u8]) -> Result<usize, Refusal> {
 }
 
 /// The entries that the numbers of a list say.
-fn entries_of(numbers: &[u16]) -> Result<Vec<Entry>, Refusal> {
+pub fn entries_of(numbers: &[u16]) -> Result<Vec<Entry>, Refusal> {
     numbers.chunks_exact(ENTRY).map(entry_of).collect()
 }
 
@@ -434,19 +674,27 @@ fn write_times(times: Times, with_tref: u64, out: &mut [u8]) -> Result<usize, Re
     plain::write_times(times, with_tref == 1, out)
 }
 
-fn join(layers: &Layers, target: u64, rows: &Columns, lists: &mut Lists) -> Result<usize, Refusal> {
+fn join(
+    most: usize,
+    layers: &Layers,
+    target: u64,
+    rows: &Columns,
+    lists: &mut Lists,
+) -> Result<usize, Refusal> {
     let mut left = lists.clone();
-    let units = plain::join(
-        layers,
-        target,
-        rows.rows(),
-        &mut left.numbers,
-        &mut left.lags,
-    )?;
-    let summary = left.summary.get_mut(..3).ok_or(Refusal::of(17))?;
-    summary.copy_from_slice(&[units.closure, units.count as u64, units.left_out as u64]);
+    let room = plain::Lists {
+        numbers: &mut left.numbers,
+        lags: &mut left.lags,
+        sizes: &mut left.sizes,
+    };
+    let units = match most {
+        MOST_ROWS => plain::join(layers, target, rows.rows(), room),
+        most => plain::join_long(most, layers, target, rows.rows(), room),
+    }?;
+    let summary = left.summary.get_mut(..2).ok_or(Refusal::of(17))?;
+    summary.copy_from_slice(&[units.closure, units.count as u64]);
     *lists = left;
-    Ok(units.places())
+    Ok(units.rows)
 }
 
 /// The layers that a call of `thq_join` describes.
@@ -500,7 +748,7 @@ pub fn numbers_of(entry: &Entry) -> [u16; ENTRY] {
 }
 
 /// The entry that 80 numbers say, or 25 where one of those that are looked at is too wide for any entry.
-fn entry_of(numbers: &[u16]) -> Result<Entry, Refusal> {
+pub fn entry_of(numbers: &[u16]) -> Result<Entry, Refusal> {
     let byte = |place: usize| u8::try_from(numbers[place]).map_err(|_| Refusal::of(25));
     let flag = |place: usize| match numbers[place] {
         0 => Ok(false),

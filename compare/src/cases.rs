@@ -3,8 +3,8 @@
 use crate::calls::{self, Call, Lists, CALLS, ENTRY};
 use crate::loops::Quality;
 use crate::random::Random;
-use crate::{headers, loops, tables};
-use plain::{Columns, Layers};
+use crate::{headers, loops, stereo, tables};
+use plain::{Columns, Layers, MOST_ROWS};
 
 /// The case of this number.
 pub fn case(seed: u64, number: u64) -> (Call, Quality) {
@@ -16,12 +16,15 @@ pub fn case(seed: u64, number: u64) -> (Call, Quality) {
         3 => read_times(&mut random),
         4 => write_times(&mut random),
         5 => join(&mut random),
-        _ => import(&mut random),
+        6 => join_long(&mut random),
+        7 => import(&mut random),
+        8 => stereo::reading(&mut random),
+        _ => stereo::writing(&mut random),
     }
 }
 
 /// A buffer that is filled with a pattern.
-fn filled<T>(random: &mut Random, length: usize, number: fn(u64) -> T) -> Vec<T> {
+pub fn filled<T>(random: &mut Random, length: usize, number: fn(u64) -> T) -> Vec<T> {
     let first = random.next();
     let next = |place| number(first ^ (place as u64).wrapping_mul(0x9E37_79B9_7F4A_7C15));
     (0..length).map(next).collect()
@@ -111,13 +114,37 @@ fn join(random: &mut Random) -> (Call, Quality) {
     let (present, embedded) = tables::layers(random);
     let layers = calls::layers(present, &embedded);
     let target = tables::target(random, present);
-    let (rows, quality) = tables::rows(random, &layers, target);
+    let (rows, quality) = tables::rows(random, &layers, target, MOST_ROWS);
     let call = Call::Join {
         present,
         embedded,
         target,
         lists: lists(random, &layers, target, &rows),
         rows,
+    };
+    (call, quality)
+}
+
+/// A table of any length, and work space that is mostly long enough.
+fn join_long(random: &mut Random) -> (Call, Quality) {
+    let (present, embedded) = tables::layers(random);
+    let layers = calls::layers(present, &embedded);
+    let target = tables::target(random, present);
+    let most = random.pick(&[3, 40, 700, 2000]);
+    let (rows, quality) = tables::rows(random, &layers, target, most);
+    let needed = rows.indices.len();
+    let mut work = [needed; 7].map(|needed| needed + random.pick(&[0, 0, 1, 9]));
+    if random.once_in(8) {
+        let one = random.below(work.len());
+        work[one] = needed.saturating_sub(1);
+    }
+    let call = Call::JoinLong {
+        present,
+        embedded,
+        target,
+        lists: lists(random, &layers, target, &rows),
+        rows,
+        work,
     };
     (call, quality)
 }
@@ -131,7 +158,7 @@ fn import(random: &mut Random) -> (Call, Quality) {
     };
     let layers = layers_of(reading, &bytes);
     let target = tables::target(random, layers.present);
-    let (rows, of_rows) = tables::rows(random, &layers, target);
+    let (rows, of_rows) = tables::rows(random, &layers, target, MOST_ROWS);
     let quality = match (of_loop, of_rows) {
         (Quality::Sound, Quality::Sound) => Quality::Sound,
         (Quality::Damaged, _) | (_, Quality::Damaged) => Quality::Damaged,
@@ -156,10 +183,15 @@ fn layers_of(reading: u64, bytes: &[u8]) -> Layers {
 
 /// The output lists of joining: mostly long enough, now and then one of them short.
 fn lists(random: &mut Random, layers: &Layers, target: u64, rows: &Columns) -> Lists {
-    let mut numbers = vec![0; 512];
-    let mut lags = vec![0; 512];
-    let needed = plain::join(layers, target, rows.rows(), &mut numbers, &mut lags)
-        .map_or(5, |units| units.places());
+    let count = rows.indices.len();
+    let (mut numbers, mut lags, mut sizes) = (vec![0; count], vec![0; count], vec![0; count]);
+    let room = plain::Lists {
+        numbers: &mut numbers,
+        lags: &mut lags,
+        sizes: &mut sizes,
+    };
+    let needed =
+        plain::join_long(count, layers, target, rows.rows(), room).map_or(5, |units| units.rows);
     let mut length = |needed: usize| {
         if random.once_in(4) {
             random.room(needed)
@@ -167,10 +199,12 @@ fn lists(random: &mut Random, layers: &Layers, target: u64, rows: &Columns) -> L
             needed + random.pick(&[0, 0, 1, 9])
         }
     };
-    let (numbers, lags, summary) = (length(needed), length(needed), length(3));
+    let (numbers, lags, sizes) = (length(needed), length(needed), length(needed));
+    let summary = length(2);
     Lists {
         numbers: filled(random, numbers, |bits| bits),
         lags: filled(random, lags, |bits| bits as i64),
+        sizes: filled(random, sizes, |bits| bits),
         summary: filled(random, summary, |bits| bits),
     }
 }

@@ -35,9 +35,9 @@ const OTHER_TYPES: [u8; 12] = [
 
 /// A descriptor.
 #[derive(Clone)]
-struct Descriptor {
-    tag: u8,
-    payload: Vec<u8>,
+pub struct Descriptor {
+    pub tag: u8,
+    pub payload: Vec<u8>,
 }
 
 impl Descriptor {
@@ -57,15 +57,15 @@ impl Descriptor {
 
 /// An entry before it is laid out.
 #[derive(Clone)]
-struct Stream {
-    stream_type: u8,
-    pid: u16,
-    descriptors: Vec<Descriptor>,
+pub struct Stream {
+    pub stream_type: u8,
+    pub pid: u16,
+    pub descriptors: Vec<Descriptor>,
 }
 
 impl Stream {
     /// A stream without descriptors, whose PID is yet to come.
-    fn plain(stream_type: u8) -> Stream {
+    pub fn plain(stream_type: u8) -> Stream {
         Stream {
             stream_type,
             pid: 0,
@@ -73,7 +73,7 @@ impl Stream {
         }
     }
 
-    fn length(&self) -> usize {
+    pub fn length(&self) -> usize {
         let descriptors = self.descriptors.iter();
         5 + descriptors.map(|one| 2 + one.payload.len()).sum::<usize>()
     }
@@ -332,7 +332,7 @@ fn extension_of(random: &mut Random, index: u8, list: &[u8]) -> Descriptor {
 }
 
 /// Reserved bits: mostly 1, as they are written.
-fn reserved(random: &mut Random, bits: u8) -> u8 {
+pub fn reserved(random: &mut Random, bits: u8) -> u8 {
     if random.once_in(4) {
         random.byte() & bits
     } else {
@@ -341,7 +341,7 @@ fn reserved(random: &mut Random, bits: u8) -> u8 {
 }
 
 /// A stream that is no layer: of another type with anything in it, or of a known type without a record.
-fn other(random: &mut Random, reading: u64) -> Stream {
+pub fn other(random: &mut Random, reading: u64) -> Stream {
     let known = random.once_in(3);
     let stream_type = if known {
         random.pick(&OLD_TYPES)
@@ -366,7 +366,7 @@ fn other(random: &mut Random, reading: u64) -> Stream {
 }
 
 /// A descriptor that is skipped on a known stream.
-fn skipped(random: &mut Random, reading: u64) -> Descriptor {
+pub fn skipped(random: &mut Random, reading: u64) -> Descriptor {
     let length = if random.once_in(20) {
         random.below(256)
     } else {
@@ -386,7 +386,7 @@ fn skipped(random: &mut Random, reading: u64) -> Descriptor {
             Descriptor { tag: 63, payload }
         }
         1 => Descriptor {
-            tag: random.pick(&[3, 5, 62, 64, 0x44]),
+            tag: random.pick(&[3, 5, 49, 62, 64, 0x44]),
             payload,
         },
         _ => Descriptor {
@@ -397,7 +397,7 @@ fn skipped(random: &mut Random, reading: u64) -> Descriptor {
 }
 
 /// Lays the streams out.
-fn lay(random: &mut Random, streams: &[Stream]) -> Vec<u8> {
+pub fn lay(random: &mut Random, streams: &[Stream]) -> Vec<u8> {
     let mut bytes = Vec::new();
     for stream in streams {
         let pid = stream.pid.to_be_bytes();
@@ -414,7 +414,7 @@ fn lay(random: &mut Random, streams: &[Stream]) -> Vec<u8> {
 }
 
 /// Makes one thing wrong, or at least another.
-fn miss(random: &mut Random, streams: &mut Vec<Stream>) {
+pub fn miss(random: &mut Random, streams: &mut Vec<Stream>) {
     if streams.is_empty() {
         streams.push(other(random, 2015));
     }
@@ -586,7 +586,7 @@ fn insert(random: &mut Random, streams: &mut Vec<Stream>, mut stream: Stream) {
 }
 
 /// Makes one thing wrong in the bytes.
-fn miss_by_bytes(random: &mut Random, bytes: &mut Vec<u8>) {
+pub fn miss_by_bytes(random: &mut Random, bytes: &mut Vec<u8>) {
     match random.below(6) {
         0 => bytes.truncate(random.below(bytes.len() + 1)),
         1 => {
@@ -655,7 +655,7 @@ pub fn entries(random: &mut Random) -> (Vec<u16>, Quality) {
 }
 
 /// Fills the numbers that a writer doesn't look at.
-fn fill_unread(random: &mut Random, entry: &mut [u16; ENTRY]) {
+pub fn fill_unread(random: &mut Random, entry: &mut [u16; ENTRY]) {
     let unread: Vec<usize> = match entry[2] {
         0 | 3 => (3..ENTRY).collect(),
         1 => (12..ENTRY).collect(),
@@ -670,7 +670,7 @@ fn fill_unread(random: &mut Random, entry: &mut [u16; ENTRY]) {
 }
 
 /// Makes one number of an entry another, or adds entries.
-fn miss_by_number(random: &mut Random, entries: &mut Vec<[u16; ENTRY]>) {
+pub fn miss_by_number(random: &mut Random, entries: &mut Vec<[u16; ENTRY]>) {
     if entries.is_empty() || random.once_in(12) {
         // Up to and past the most that a loop can hold.
         let count = random.pick(&[1, 3, 60, 201, 202, 203, 260]);

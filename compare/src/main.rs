@@ -1,6 +1,8 @@
 //! Compares the library with the plain implementation of document 01 on generated inputs: answers, and every buffer in full.
 //!
-//!     compare [--guarded] [SEED COUNT]    makes COUNT calls and prints how often each number was answered
+//!     compare [--guarded] [SEED COUNT]    makes COUNT calls, and sequences of changes of layer sets beside them, and prints how often each number
+//!                                         was answered
+//!     compare --long ROWS                 joins one table of about so many rows
 //!     compare --show SEED CASE            prints one case and what the plain implementation answers, without calling the library
 //!
 //! It ends with status 1 at the first difference, which it prints with the whole input, and where a number that a call can answer was
@@ -10,29 +12,46 @@ mod calls;
 mod cases;
 mod faults;
 mod headers;
+mod long;
 mod loops;
 mod memory;
 mod random;
+mod sets;
 mod show;
+mod stereo;
 mod tables;
 
 use calls::CALLS;
 use loops::Quality;
 use memory::{Memory, Placing};
+use random::Random;
 use std::process::ExitCode;
 
 const SEED: u64 = 1;
-const COUNT: u64 = 140_000;
+/// Of each call 20,000.
+const COUNT: u64 = 20_000 * CALLS.len() as u64;
 
 /// The calls that read or write a loop.
-const CALLS_OF_LOOPS: [&str; 4] = ["read_loop", "write_loop", "closure", "import"];
+const CALLS_OF_LOOPS: [&str; 6] = [
+    "read_loop",
+    "write_loop",
+    "closure",
+    "import",
+    "read_stereo",
+    "write_stereo",
+];
+
+/// The calls that join rows.
+const CALLS_OF_ROWS: [&str; 3] = ["join", "join_long", "import"];
 
 /// What has been seen: for each call how often each number was answered, how its inputs were made, and in how many accepted loops there were
-/// two views without a hierarchy descriptor.
+/// two views without a hierarchy descriptor; and how often a table was joined again with other rows of other layers.
 struct Seen {
     numbers: [[u64; 256]; CALLS.len()],
     qualities: [[u64; Quality::NAMES.len()]; CALLS.len()],
     implied: [u64; CALLS.len()],
+    pairs: [u64; CALLS.len()],
+    sets: sets::Seen,
 }
 
 fn main() -> ExitCode {
@@ -44,15 +63,23 @@ fn main() -> ExitCode {
     };
     let guarded = has("--guarded", &mut words);
     let show_one = has("--show", &mut words);
+    let long_table = has("--long", &mut words);
     let numbers: Option<Vec<u64>> = words.iter().map(|word| word.parse().ok()).collect();
+    if let (true, Some(&[rows])) = (long_table, numbers.as_deref()) {
+        return told(long::run(rows as usize));
+    }
     let (seed, count) = match numbers.as_deref() {
         Some([]) if !show_one => (SEED, COUNT),
         Some(&[seed, count]) => (seed, count),
         _ => {
-            eprintln!("compare [--guarded] [SEED COUNT], or compare --show SEED CASE");
+            eprintln!("compare [--guarded] [SEED COUNT], compare --long ROWS, or compare --show SEED CASE");
             return ExitCode::from(2);
         }
     };
+    if show_one && count >= sets::FIRST {
+        print!("{}", sets::show(seed, count));
+        return ExitCode::SUCCESS;
+    }
     if show_one {
         let (mut call, quality) = cases::case(seed, count);
         print!("{quality:?} {}", show::call(&call));
@@ -61,6 +88,20 @@ fn main() -> ExitCode {
     }
     match run(seed, count, guarded) {
         Ok(seen) => summary(seed, count, &seen),
+        Err(difference) => {
+            println!("{difference}");
+            ExitCode::FAILURE
+        }
+    }
+}
+
+/// Prints what a comparison came to.
+fn told(outcome: Result<String, String>) -> ExitCode {
+    match outcome {
+        Ok(text) => {
+            println!("{text}");
+            ExitCode::SUCCESS
+        }
         Err(difference) => {
             println!("{difference}");
             ExitCode::FAILURE
@@ -78,6 +119,8 @@ fn run(seed: u64, count: u64, guarded: bool) -> Result<Seen, String> {
         numbers: [[0; 256]; CALLS.len()],
         qualities: [[0; Quality::NAMES.len()]; CALLS.len()],
         implied: [0; CALLS.len()],
+        pairs: [0; CALLS.len()],
+        sets: sets::run(seed, count / 3, guarded, &mut memory)?,
     };
     for number in 0..count {
         faults::note(seed, number);
@@ -108,6 +151,21 @@ fn run(seed: u64, count: u64, guarded: bool) -> Result<Seen, String> {
             }
             return Err(text);
         }
+        // Rows of layers on which the target doesn't rest move nothing.
+        let mut random = Random::new(seed ^ 0x5EED, number);
+        if let Some(mut other) = call.with_other_rows(&mut random) {
+            let alike = other.library(&mut memory, placing);
+            let mut left = other.clone();
+            left.take_rows(&library);
+            if alike != Ok(expected) || left != library {
+                let mut text =
+                    format!("compare: OTHER ROWS MATTER at seed {seed}, case {number}: ");
+                text += &show::call(&call);
+                text += &show::call(&other);
+                return Err(text);
+            }
+            seen.pairs[call.kind()] += 1;
+        }
         seen.numbers[call.kind()][calls::number(expected) as usize] += 1;
         seen.qualities[call.kind()][quality as usize] += 1;
         seen.implied[call.kind()] += u64::from(call.has_implied_layers());
@@ -115,24 +173,27 @@ fn run(seed: u64, count: u64, guarded: bool) -> Result<Seen, String> {
     Ok(seen)
 }
 
-/// Prints what was seen. A failure where a number that can be answered never was.
-fn summary(seed: u64, count: u64, seen: &Seen) -> ExitCode {
-    let line = |head: &str, cells: Vec<String>| {
-        print!("{head:<12}");
-        for cell in cells {
-            print!("{cell:>12}");
-        }
-        println!();
-    };
-    line("answered", CALLS.map(|(name, _)| name.to_string()).to_vec());
+/// Prints a line of a table.
+fn line(head: &str, cells: Vec<String>) {
+    print!("{head:<12}");
+    for cell in cells {
+        print!("{cell:>13}");
+    }
+    println!();
+}
+
+/// Prints how often each of these calls answered each number, and answers which number that a call can answer never was.
+fn answered(calls: &[(&str, &[u64])], numbers: &[[u64; 256]]) -> Vec<String> {
+    let names = calls.iter().map(|(name, _)| name.to_string());
+    line("answered", names.collect());
     let mut never = Vec::new();
     for number in 0..256 {
-        if !CALLS.iter().any(|(_, can)| can.contains(&number)) {
+        if !calls.iter().any(|(_, can)| can.contains(&number)) {
             continue;
         }
         let cell = |call: usize| {
-            let times = seen.numbers[call][number as usize];
-            if CALLS[call].1.contains(&number) {
+            let times = numbers[call][number as usize];
+            if calls[call].1.contains(&number) {
                 times.to_string()
             } else {
                 String::new()
@@ -143,14 +204,19 @@ fn summary(seed: u64, count: u64, seen: &Seen) -> ExitCode {
             calls::NOT_A_CALL => "no call".to_string(),
             number => format!("refused {number}"),
         };
-        line(&head, (0..CALLS.len()).map(cell).collect());
-        for (call, (name, can)) in CALLS.iter().enumerate() {
-            let times = seen.numbers[call][number as usize];
-            if can.contains(&number) && times == 0 {
+        line(&head, (0..calls.len()).map(cell).collect());
+        for (call, (name, can)) in calls.iter().enumerate() {
+            if can.contains(&number) && numbers[call][number as usize] == 0 {
                 never.push(format!("{name} never answered {number}"));
             }
         }
     }
+    never
+}
+
+/// Prints what was seen. A failure where a number that can be answered never was.
+fn summary(seed: u64, count: u64, seen: &Seen) -> ExitCode {
+    let mut never = answered(&CALLS, &seen.numbers);
     for (quality, name) in Quality::NAMES.iter().enumerate() {
         let cells = seen.qualities.iter().map(|one| one[quality].to_string());
         line(name, cells.collect());
@@ -161,14 +227,35 @@ fn summary(seed: u64, count: u64, seen: &Seen) -> ExitCode {
         false => String::new(),
     };
     line("two views", (0..CALLS.len()).map(cell).collect());
+    let joins = |call: usize| CALLS_OF_ROWS.contains(&CALLS[call].0);
+    let cell = |call: usize| match joins(call) {
+        true => seen.pairs[call].to_string(),
+        false => String::new(),
+    };
+    line("other rows", (0..CALLS.len()).map(cell).collect());
+    for call in (0..CALLS.len()).filter(|&call| joins(call) && seen.pairs[call] == 0) {
+        never.push(format!("{} never met other rows", CALLS[call].0));
+    }
     for call in (0..CALLS.len()).filter(|&call| of_loops(call) && seen.implied[call] == 0) {
         never.push(format!("{} never met two views", CALLS[call].0));
     }
+    println!();
+    never.extend(answered(&sets::CALLS, &seen.sets.numbers));
+    never.extend(seen.sets.never());
+    let sets::Seen {
+        steps,
+        sequences,
+        no_sets,
+        other_sets,
+        lone_views,
+        ..
+    } = seen.sets;
+    println!("sets: {steps} steps in {sequences} sequences; damaged buffers: {no_sets} held no set, {other_sets} another; one of two views alone after {lone_views} removals");
     for one in &never {
         println!("compare: {one}");
     }
     if never.is_empty() {
-        println!("compare: {count} calls of seed {seed}, library and plain implementation agree in every answer and buffer");
+        println!("compare: {count} calls of seed {seed} and {steps} steps of layer sets, library and plain implementation agree in every answer and buffer");
         ExitCode::SUCCESS
     } else {
         ExitCode::FAILURE

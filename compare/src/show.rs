@@ -13,7 +13,7 @@ pub fn answer(answer: u64) -> String {
     }
 }
 
-fn hex(bytes: &[u8]) -> String {
+pub fn hex(bytes: &[u8]) -> String {
     let mut text = format!("({} bytes)", bytes.len());
     for byte in bytes {
         write!(text, " {byte:02X}").expect("text");
@@ -21,7 +21,7 @@ fn hex(bytes: &[u8]) -> String {
     text
 }
 
-fn numbers<T: Display>(list: &[T]) -> String {
+pub fn numbers<T: Display>(list: &[T]) -> String {
     let mut text = format!("({} numbers)", list.len());
     for number in list {
         write!(text, " {number}").expect("text");
@@ -86,6 +86,23 @@ pub fn parts(call: &Call) -> Vec<(&'static str, String)> {
             parts.extend(joining(rows, lists));
             parts
         }
+        Call::JoinLong {
+            present,
+            embedded,
+            target,
+            rows,
+            work,
+            lists,
+        } => {
+            let mut parts = vec![
+                ("present", present.to_string()),
+                ("embedded", numbers(embedded)),
+                ("target", target.to_string()),
+                ("work space", numbers(work)),
+            ];
+            parts.extend(joining(rows, lists));
+            parts
+        }
         Call::Import {
             reading,
             bytes,
@@ -101,16 +118,27 @@ pub fn parts(call: &Call) -> Vec<(&'static str, String)> {
             parts.extend(joining(rows, lists));
             parts
         }
+        Call::ReadStereo(read) => vec![
+            ("bytes", hex(&read.bytes)),
+            ("entries", numbers(&read.entries)),
+            ("extensions", numbers(&read.extensions)),
+        ],
+        Call::WriteStereo(write) => vec![
+            ("entries", numbers(&write.entries)),
+            ("extensions", numbers(&write.extensions)),
+            ("out", hex(&write.out)),
+        ],
     }
 }
 
-fn joining(rows: &Columns, lists: &Lists) -> [(&'static str, String); 6] {
+fn joining(rows: &Columns, lists: &Lists) -> [(&'static str, String); 7] {
     [
         ("indices", numbers(&rows.indices)),
         ("decodings", numbers(&rows.decodings)),
         ("matches", numbers(&rows.matches)),
         ("numbers", numbers(&lists.numbers)),
         ("lags", numbers(&lists.lags)),
+        ("sizes", numbers(&lists.sizes)),
         ("summary", numbers(&lists.summary)),
     ]
 }

@@ -92,11 +92,11 @@ struct Row {
     matching: u64,
 }
 
-/// A table of rows for a target, and how it was made.
-pub fn rows(random: &mut Random, layers: &Layers, target: u64) -> (Columns, Quality) {
+/// A table of rows for a target, of up to so many where it is sound, and how it was made.
+pub fn rows(random: &mut Random, layers: &Layers, target: u64, most: usize) -> (Columns, Quality) {
     let quality = Quality::pick(random);
     let mut rows = match plain::closure(layers, target) {
-        Ok(closure) => sound(random, layers, closure, target as usize),
+        Ok(closure) => sound(random, layers, closure, most),
         Err(_) => any(random),
     };
     match quality {
@@ -148,11 +148,11 @@ fn any(random: &mut Random) -> Vec<Row> {
         .collect()
 }
 
-/// A table that joins: instants that rise, at each a unit, or some rows that no unit takes.
-fn sound(random: &mut Random, layers: &Layers, closure: u64, target: usize) -> Vec<Row> {
+/// A table that joins: instants that rise, at each a unit that some layer heads, and now and then a row of a layer that rests on nothing beside it.
+fn sound(random: &mut Random, layers: &Layers, closure: u64, longest_table: usize) -> Vec<Row> {
     let indices: Vec<usize> = (0..64).filter(|index| closure >> index & 1 != 0).collect();
     let groups = groups(layers, &indices);
-    let most = 512 / indices.len();
+    let most = longest_table / indices.len();
     let instants = match random.below(12) {
         0 => 0,
         1 => most,
@@ -182,7 +182,17 @@ fn sound(random: &mut Random, layers: &Layers, closure: u64, target: usize) -> V
         for (time, offset) in times.iter_mut().zip(offsets) {
             *time = (start + offset + instant * step + random.next() % step) % TURN;
         }
-        let unit = whole || !random.once_in(5);
+        // The layers that have a row at this instant: all that one of them rests on.
+        let top = match whole || random.once_in(2) {
+            true => closure,
+            false => {
+                let head = random.pick(&indices);
+                let own = plain::closure(layers, head as u64).unwrap_or(closure);
+                let beside = random.pick(&indices);
+                let alone = layers.below(beside) == 0 && random.once_in(3);
+                own | u64::from(alone) << beside
+            }
+        };
         for (rows, &index) in by_layer.iter_mut().zip(&indices) {
             let lower = layers.below(index).trailing_zeros() as usize;
             let decoding = times[groups[index]];
@@ -191,7 +201,7 @@ fn sound(random: &mut Random, layers: &Layers, closure: u64, target: usize) -> V
                 (false, true) => decoding,
                 (false, false) => time(random),
             };
-            if unit || index != target && random.once_in(2) {
+            if top >> index & 1 != 0 {
                 rows.push(Row {
                     index: index as u8,
                     decoding,
@@ -204,7 +214,7 @@ fn sound(random: &mut Random, layers: &Layers, closure: u64, target: usize) -> V
     if random.once_in(3) && closure != u64::MAX {
         let outside: Vec<u8> = (0..64).filter(|index| closure >> index & 1 == 0).collect();
         for _ in 0..random.below(6) {
-            if rows.len() < 512 {
+            if rows.len() < longest_table {
                 let row = Row {
                     index: random.pick(&outside),
                     decoding: time(random),

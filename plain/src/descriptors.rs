@@ -7,7 +7,7 @@ pub(crate) const HIERARCHY_TAG: u8 = 4;
 pub(crate) const EXTENSION_DESCRIPTOR_TAG: u8 = 63;
 const HIERARCHY_EXTENSION_TAG: u8 = 6;
 
-const AVC: u8 = 0x1B;
+pub(crate) const AVC: u8 = 0x1B;
 const SVC: u8 = 0x1F;
 pub(crate) const MVC: u8 = 0x20;
 const HEVC: u8 = 0x24;
@@ -131,6 +131,7 @@ fn read_extension(bytes: &[u8]) -> Option<Extension> {
 }
 
 /// How many bytes a record takes as a descriptor, tag and length included.
+#[inline(always)]
 pub(crate) fn written_length(record: &Record) -> usize {
     match record {
         Record::Hierarchy(_) => 6,
@@ -140,6 +141,7 @@ pub(crate) fn written_length(record: &Record) -> usize {
 }
 
 /// Writes a record as a descriptor, reserved bits at 1. The room is as long as `written_length` says.
+#[inline(always)]
 pub(crate) fn write(record: &Record, out: &mut [u8]) {
     match record {
         Record::Hierarchy(h) => {

@@ -10,13 +10,17 @@ mod closure;
 mod descriptors;
 mod entries;
 mod join;
+mod layer_sets;
 mod loops;
+mod stereo;
 mod times;
 
 pub use closure::{closure, closure_of_loop, layers_of, layers_of_loop, Layers};
 pub use entries::{Embedded, Entry, Extension, Hierarchy, Record};
-pub use join::{import, join, join_by_search, Columns, Rows, Units};
+pub use join::{import, join, join_by_search, join_long, Columns, Lists, Rows, Units, MOST_ROWS};
+pub use layer_sets::{KeptSet, Layer, LayerSet};
 pub use loops::{read_loop, read_loop_with, write_loop, LONGEST_LOOP};
+pub use stereo::{read_stereo, write_stereo, MvcExtension, StereoSet};
 pub use times::{distance, lag, read_times, write_times, Header, Times};
 
 /// Which edition of the standard a loop is read by.

@@ -63,7 +63,7 @@ pub fn read_loop_with(
 }
 
 /// The stream types and the descriptors of the entries one after another, as far as they fit.
-struct Heads<'a>(&'a [u8]);
+pub(crate) struct Heads<'a>(pub(crate) &'a [u8]);
 
 impl<'a> Iterator for Heads<'a> {
     type Item = (u8, &'a [u8]);
@@ -85,7 +85,7 @@ impl<'a> Iterator for Heads<'a> {
 }
 
 /// The descriptors of a stream one after another, each its tag and its payload, and nothing in place of one that doesn't fit, which is the last.
-struct Descriptors<'a>(&'a [u8]);
+pub(crate) struct Descriptors<'a>(pub(crate) &'a [u8]);
 
 impl<'a> Iterator for Descriptors<'a> {
     type Item = Option<(u8, &'a [u8])>;
@@ -188,13 +188,26 @@ fn judge(entry: &Entry, place: usize, seen: &mut Seen, faults: &mut Faults) {
 
 /// Writes a loop and answers its length, or the refusal: 25 before all else, then 1, 3, 6 to 9, 17.
 pub fn write_loop(entries: &[Entry], out: &mut [u8]) -> Result<usize, Refusal> {
+    let length = judge_entries(entries, 0)?;
+    let mut rest = out.get_mut(..length).ok_or(Refusal::of(17))?;
+    for entry in entries {
+        let (room, after) = rest.split_at_mut(written_length(entry));
+        write_entry(entry, room);
+        rest = after;
+    }
+    Ok(length)
+}
+
+/// Judges the entries of a loop that is to be written, with so many bytes more than their own: 25, then 1, 3, 6 to 9. Answers its length.
+#[inline(always)]
+pub(crate) fn judge_entries(entries: &[Entry], more: usize) -> Result<usize, Refusal> {
     let too_wide = |entry: &Entry| {
         entry.pid > 0x1FFF || entry.record.as_ref().map_or(false, descriptors::too_wide)
     };
     if entries.iter().any(too_wide) {
         return Err(Refusal::of(25));
     }
-    let length: usize = entries.iter().map(written_length).sum();
+    let length = more + entries.iter().map(written_length).sum::<usize>();
     if length > LONGEST_LOOP {
         return Err(Refusal::of(1));
     }
@@ -215,21 +228,27 @@ pub fn write_loop(entries: &[Entry], out: &mut [u8]) -> Result<usize, Refusal> {
         judge(entry, place, &mut seen, &mut faults);
     }
     faults.none()?;
-    let mut rest = out.get_mut(..length).ok_or(Refusal::of(17))?;
-    for entry in entries {
-        let (room, after) = rest.split_at_mut(written_length(entry));
-        write_entry(entry, room);
-        rest = after;
-    }
     Ok(length)
 }
 
-fn written_length(entry: &Entry) -> usize {
+#[inline(always)]
+pub(crate) fn written_length(entry: &Entry) -> usize {
     ENTRY_HEAD + entry.record.as_ref().map_or(0, descriptors::written_length)
 }
 
-/// Writes an entry into room of its own length. Reserved bits are 1, but the upper two bits of ES_info_length are 0.
+/// Writes an entry into room of its own length.
+#[inline(always)]
 fn write_entry(entry: &Entry, room: &mut [u8]) {
+    let info = write_head(entry, room);
+    if let Some(record) = &entry.record {
+        descriptors::write(record, info);
+    }
+}
+
+/// Writes the head of an entry that fills a room, and answers the rest of that, where its descriptors go. Reserved bits are 1, but the upper two bits of
+/// ES_info_length are 0.
+#[inline(always)]
+pub(crate) fn write_head<'a>(entry: &Entry, room: &'a mut [u8]) -> &'a mut [u8] {
     let (head, info) = room.split_at_mut(ENTRY_HEAD);
     let pid = (0xE000 | entry.pid).to_be_bytes();
     let info_length = (0xF000 | info.len() as u16).to_be_bytes();
@@ -240,7 +259,5 @@ fn write_entry(entry: &Entry, room: &mut [u8]) {
         info_length[0],
         info_length[1],
     ]);
-    if let Some(record) = &entry.record {
-        descriptors::write(record, info);
-    }
+    info
 }

@@ -1,33 +1,10 @@
 //! The cases of the programs `loop_cases`, `pes_cases` and `layers`, whose expected answers were derived by hand.
 
+mod common;
+
+use common::{bytes, file, same, ROOT};
 use plain::{Entry, Reading, Record, Refusal, Times};
 use std::fmt::Write;
-
-const ROOT: &str = concat!(env!("CARGO_MANIFEST_DIR"), "/../");
-
-fn file(name: &str) -> String {
-    std::fs::read_to_string(ROOT.to_string() + name).expect(name)
-}
-
-/// Two hexadecimal digits.
-fn byte(word: &str) -> Option<u8> {
-    let digit = |glyph: char| glyph.is_ascii_digit() || ('A'..='F').contains(&glyph);
-    let sound = word.len() == 2 && word.chars().all(digit);
-    u8::from_str_radix(word, 16).ok().filter(|_| sound)
-}
-
-/// The bytes that a text names, each after a blank: HH, or HH*N for N times that byte.
-fn bytes(text: &str) -> Option<Vec<u8>> {
-    if !text.is_empty() && !text.starts_with(' ') {
-        return None;
-    }
-    let mut bytes = Vec::new();
-    for word in text.split_ascii_whitespace() {
-        let (digits, times) = word.split_once('*').unwrap_or((word, "1"));
-        bytes.resize(bytes.len() + times.parse::<usize>().ok()?, byte(digits)?);
-    }
-    Some(bytes)
-}
 
 fn entry_line(entry: &Entry) -> String {
     let mut line = format!("  type {} pid {}", entry.stream_type, entry.pid);
@@ -189,19 +166,20 @@ fn listing(bytes: &[u8]) -> String {
 #[test]
 fn samples() {
     for name in [
-        "absent", "loop-a", "mv-hevc", "mvc", "refused", "sports", "svc", "twelve",
+        "absent",
+        "loop-a",
+        "mv-hevc",
+        "mvc",
+        "refused",
+        "sports",
+        "stereo",
+        "stereo-implied",
+        "svc",
+        "twelve",
     ] {
         let bytes = std::fs::read(format!("{ROOT}samples/{name}.bin")).expect(name);
         same(&listing(&bytes), &file(&format!("tests/layers/{name}.txt")));
     }
     same(&listing(&[]), &file("tests/layers/empty.txt"));
     same(&listing(&[0; 1009]), &file("tests/layers/too-long.txt"));
-}
-
-/// Compares line by line, so that a failure shows the first line that differs.
-fn same(answers: &str, expected: &str) {
-    for (number, (answer, expected)) in answers.lines().zip(expected.lines()).enumerate() {
-        assert_eq!(answer, expected, "line {}", number + 1);
-    }
-    assert_eq!(answers, expected);
 }

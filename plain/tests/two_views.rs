@@ -1,7 +1,7 @@
 //! Two views and no hierarchy descriptor: the writer's marks, right and wrong. What is read is in the cases of `loop_cases`.
 
 use plain::Reading::{Of2009, Of2015};
-use plain::{Embedded, Entry, Extension, Hierarchy, Record, Refusal, Rows};
+use plain::{Embedded, Entry, Extension, Hierarchy, Lists, Record, Refusal, Rows};
 
 const MARK: Option<Record> = Some(Record::Implied);
 
@@ -137,9 +137,15 @@ fn rows_over_two_views() {
         matches: &[9000, 9000, 12600, 12600],
     };
     for reading in [Of2009, Of2015] {
-        let (mut numbers, mut lags) = ([9; 4], [9; 4]);
-        let units = plain::import(reading, &bytes, 1, rows, &mut numbers, &mut lags).unwrap();
-        assert_eq!((units.closure, units.count, units.left_out), (0b11, 2, 0));
+        let (mut numbers, mut lags, mut sizes) = ([9; 4], [9; 4], [9; 4]);
+        let lists = Lists {
+            numbers: &mut numbers,
+            lags: &mut lags,
+            sizes: &mut sizes,
+        };
+        let units = plain::import(reading, &bytes, 1, rows, lists).unwrap();
+        assert_eq!((units.closure, units.count, units.rows), (0b11, 2, 4));
         assert_eq!((numbers, lags), ([0, 1, 2, 3], [0, 0, 600, 0]));
+        assert_eq!(sizes, [2, 2, 9, 9]);
     }
 }

@@ -1,7 +1,10 @@
 //! Document 01's worked examples.
 
+mod joining;
+
+use joining::join;
 use plain::Reading::{Of2009, Of2015};
-use plain::{Header, Layers, Reading, Refusal, Rows, Times, Units};
+use plain::{Header, Layers, Reading, Refusal, Times, Units};
 
 const LOOP_A: [u8; 37] = [
     0x1B, 0xE1, 0x00, 0xF0, 0x06, 0x04, 0x04, 0xFF, 0xC0, 0xFF, 0xC0, // the base
@@ -54,34 +57,6 @@ fn short_and_long_loops() {
     }
 }
 
-type Joining = fn(&Layers, u64, Rows, &mut [u64], &mut [i64]) -> Result<Units, Refusal>;
-type Answer = Result<(Units, Vec<u64>, Vec<i64>), Refusal>;
-
-/// Joins by both ways, which have to agree, into lists that are longer than needed.
-fn join(layers: &Layers, target: u64, table: &[(u8, u64, u64)]) -> Answer {
-    let indices: Vec<u8> = table.iter().map(|row| row.0).collect();
-    let decodings: Vec<u64> = table.iter().map(|row| row.1).collect();
-    let matches: Vec<u64> = table.iter().map(|row| row.2).collect();
-    let rows = Rows {
-        indices: &indices,
-        decodings: &decodings,
-        matches: &matches,
-    };
-    let run = |join: Joining| {
-        let mut numbers = vec![99; table.len() + 1];
-        let mut lags = vec![99; table.len() + 1];
-        let units = join(layers, target, rows, &mut numbers, &mut lags)?;
-        assert!(numbers[units.places()..].iter().all(|&number| number == 99));
-        assert!(lags[units.places()..].iter().all(|&lag| lag == 99));
-        numbers.truncate(units.places());
-        lags.truncate(units.places());
-        Ok((units, numbers, lags))
-    };
-    let answer = run(plain::join);
-    assert_eq!(answer, run(plain::join_by_search));
-    answer
-}
-
 fn loop_a() -> Layers {
     plain::layers_of_loop(Of2015, &LOOP_A).unwrap()
 }
@@ -101,20 +76,21 @@ fn units_over_loop_a() {
     let units = Units {
         closure: 0b11,
         count: 2,
-        left_out: 0,
+        rows: 4,
     };
-    let answer = Ok((units, vec![0, 1, 2, 3], vec![0, 0, 600, 0]));
+    let answer = Ok((units, vec![0, 1, 2, 3], vec![0, 0, 600, 0], vec![2, 2]));
     assert_eq!(join(&loop_a(), 1, &table(12600)), answer);
     assert_eq!(join(&loop_a(), 1, &table(12601)), Err(Refusal::at(15, 3)));
     assert_eq!(join(&loop_a(), 1, &table(9000)), Err(Refusal::at(16, 3)));
-    let none = Units {
+    // Of layer 2 there is no row: the rows of layer 0 head units of their own.
+    let lower = Units {
         closure: 0b101,
-        count: 0,
-        left_out: 2,
+        count: 2,
+        rows: 2,
     };
     assert_eq!(
         join(&loop_a(), 2, &table(12600)),
-        Ok((none, vec![], vec![]))
+        Ok((lower, vec![0, 2], vec![0, 0], vec![1, 1]))
     );
 }
 
@@ -134,6 +110,9 @@ fn order_within_one_layer() {
     assert_eq!(two(0, 4_294_967_296), Err(Refusal::at(14, 1)));
     assert_eq!(plain::lag(4_294_967_296, 0), -4_294_967_296);
     assert_eq!(plain::lag(4_294_967_295, 0), 4_294_967_295);
+    // A table that would show the lowest lag: 18.
+    let far = [(0, 4_294_967_296, 0), (1, 0, 4_294_967_296)];
+    assert_eq!(join(&loop_a(), 1, &far), Err(Refusal::of(18)));
 }
 
 #[test]

@@ -17,6 +17,5 @@ for entry in read_loop(Reading.EDITION_2015, loop):
 rows = [Row(0, 9000, 9000), Row(1, 9000, 9000), Row(0, 12600, 12600), Row(1, 12000, 12600)]
 joined = import_(Reading.EDITION_2015, loop, 1, rows)
 for unit in joined.units:
-    parts = [f"layer {layer} row {part.row} lag {part.lag}" for layer, part in zip(joined.closure, unit)]
+    parts = [f"layer {rows[part.row].layer_index} row {part.row} lag {part.lag}" for part in unit]
     print("unit", *parts)
-print("left out", joined.left_out)

@@ -9,7 +9,7 @@ from dataclasses import replace
 from unittest.mock import patch
 
 import thoquenry
-from thoquenry import (Component, Entry, Extension, Header, Hierarchy, Implied, Number, Reading, Refused, Row, Times, Units, closure, import_, join,
+from thoquenry import (Component, Entry, Extension, Header, Hierarchy, Implied, Number, Reading, Refused, Row, Times, Units, closure, import_, join, join_long,
                        read_loop, read_times, write_loop, write_times)
 from thoquenry._library import load
 
@@ -24,7 +24,7 @@ ENTRIES_OF_LOOP_A = [
                                embedded=(0,))),
 ]
 
-UNITS = Units((0, 1), [[Component(0, 0), Component(1, 0)], [Component(2, 600), Component(3, 0)]], 0)
+UNITS = Units((0, 1), [[Component(0, 0), Component(1, 0)], [Component(2, 600), Component(3, 0)]])
 
 
 # Two views without a hierarchy descriptor, and an audio stream between them.
@@ -86,6 +86,8 @@ class WorkedExamples(Answers):
     def test_values_wider_than_their_c_type_are_too_wide(self):
         self.refused(Number.TOO_WIDE, 0, write_loop, [Entry(0x1B, 65536 + 256)])
         self.refused(Number.TOO_WIDE, 0, write_loop, [Entry(0x1B + 65536, 256)])
+        extension = ENTRIES_OF_LOOP_A[2]
+        self.refused(Number.TOO_WIDE, 0, write_loop, [replace(extension, record=replace(extension.record, dimension_bits=65536))])
         self.refused(Number.TOO_WIDE, 0, write_times, Times(2**64 + 1, 1, 1), False)
         self.refused(Number.NO_SUCH_LAYER, 0, closure, Reading.EDITION_2015, LOOP_A, 2**64)
         self.refused(Number.OUT_OF_RANGE, 0, join, {0: ()}, 0, [Row(256, 0, 0)])
@@ -126,15 +128,28 @@ class WorkedExamples(Answers):
         self.assertEqual(len(two_rows(0, 4294967295)), 2)
         self.refused(Number.TIME_ORDER_BROKEN, 1, two_rows, 0, 4294967296)
 
-    def test_the_lowest_lag(self):
-        joined = join({0: (), 1: (0,)}, 1, [Row(0, 4294967296, 4294967296), Row(1, 0, 4294967296)])
-        self.assertEqual(joined.units, [[Component(0, -4294967296), Component(1, 0)]])
+    def test_lags_and_how_far_rows_lie_apart(self):
+        def joined(time):
+            return join({0: (), 1: (0,)}, 1, [Row(0, time, time), Row(1, 0, time)]).units
+        self.assertEqual(joined(4294967295), [[Component(0, 4294967295), Component(1, 0)]])
+        self.refused(Number.SPAN_TOO_WIDE, 0, joined, 4294967296)
+        self.assertEqual(joined(4294967297), [[Component(0, -4294967295), Component(1, 0)]])
+
+    def test_every_picture_of_a_base_at_full_rate(self):
+        layers = {0: (), 1: (0,)}
+        rows = [Row(0, 0, 0), Row(1, 0, 0), Row(0, 3600, 3600), Row(0, 7200, 7200), Row(1, 7000, 7200)]
+        units = Units((0, 1), [[Component(0, 0), Component(1, 0)], [Component(2, 0)], [Component(3, 200), Component(4, 0)]])
+        self.assertEqual(join(layers, 1, rows), units)
+        self.assertEqual(join_long(layers, 1, iter(rows)), units)
+        self.assertEqual(join(layers, 0, rows), Units((0,), [[Component(0, 0)], [Component(2, 0)], [Component(3, 0)]]))
 
     def test_tables_at_the_limits(self):
         rows = [Row(0, k, k) for k in range(513)]
         self.assertEqual(len(join({0: ()}, 0, rows[:512]).units), 512)
         self.refused(Number.OUT_OF_RANGE, 0, join, {0: ()}, 0, rows)
-        self.assertEqual(join({0: ()}, 0, []), Units((0,), [], 0))
+        self.assertEqual(join_long({0: ()}, 0, rows).units, [[Component(k, 0)] for k in range(513)])
+        self.assertEqual(join({0: ()}, 0, []), Units((0,), []))
+        self.assertEqual(join_long({0: ()}, 0, []), Units((0,), []))
         self.refused(Number.OUT_OF_RANGE, 1, join, {0: ()}, 0, [Row(0, 0, 0), Row(0, 1, 2**33)])
 
     def test_headers(self):
@@ -153,8 +168,8 @@ class WorkedExamples(Answers):
         self.refused(Number.TOO_WIDE, 0, write_times, Times(9000, 9000, 9000), 2)
 
     def test_every_number_has_its_name_and_its_words(self):
-        self.assertEqual([number.value for number in Number], [*range(1, 10), *range(11, 18), *range(20, 26)])
-        self.assertEqual(str(Refused(15, 3)), "15: row 3 of the target layer has no assembly")
+        self.assertEqual([number.value for number in Number], [*range(1, 10), *range(11, 19), *range(20, 26), 40, 41, 42, 44, 45, 46])
+        self.assertEqual(str(Refused(15, 3)), "15: row 3, the head of a unit, has no assembly")
         self.assertEqual(Refused(17, 0).words, "the output room is too small")
         self.assertEqual(len({Refused(number, 7).words for number in Number}), len(Number))
         self.assertFalse([number for number in Number if "{}" in str(Refused(number, 7))])
@@ -241,7 +256,7 @@ class TwoViews(Answers):
     def test_rows_are_joined_over_them(self):
         for reading in Reading:
             self.assertEqual(import_(reading, SPORTS, 1, table(12600)), UNITS)
-            self.assertEqual(import_(reading, SPORTS, 0, table(12600)), Units((0,), [[Component(0, 0)], [Component(2, 0)]], 0))
+            self.assertEqual(import_(reading, SPORTS, 0, table(12600)), Units((0,), [[Component(0, 0)], [Component(2, 0)]]))
             self.refused(Number.UNPAIRED, 3, import_, reading, SPORTS, 1, table(12601))
             self.refused(Number.USED_TWICE, 3, import_, reading, SPORTS, 1, table(9000))
 

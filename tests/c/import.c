@@ -37,35 +37,38 @@ static const uint64_t matches[] = {9000, 9000, 12600, 12600};
 
 /* The import of the first `rows` rows of each column, with so many places in each list. */
 static uint64_t import(uint64_t reading, uint64_t target, size_t rows, size_t last_column, uint64_t *numbers, int64_t *lags,
-                       size_t places, uint64_t *summary, size_t summary_length)
+                       uint64_t *sizes, size_t places, uint64_t *summary, size_t summary_length)
 {
     return thq_import(reading, loop_a, sizeof loop_a, target, indices, rows, decodings, rows, matches, last_column, numbers,
-                      places, lags, places, summary, summary_length);
+                      places, lags, places, sizes, places, summary, summary_length);
 }
 
 static void whole_import(void)
 {
     const uint64_t expected_numbers[] = {0, 1, 2, 3, 77};
     const int64_t expected_lags[] = {0, 0, 600, 0, -77};
-    const uint64_t expected_summary[] = {3, 2, 0, 77};
+    const uint64_t expected_sizes[] = {2, 2, 77, 77, 77};
+    const uint64_t expected_summary[] = {3, 2, 77};
     uint64_t numbers[] = {77, 77, 77, 77, 77};
     int64_t lags[] = {-77, -77, -77, -77, -77};
-    uint64_t summary[] = {77, 77, 77, 77};
+    uint64_t sizes[] = {77, 77, 77, 77, 77};
+    uint64_t summary[] = {77, 77, 77};
 
     /* Refusals first: each leaves the lists as they are, so the acceptance after them finds them so. */
-    EXPECT(import(2012, 1, 4, 4, numbers, lags, 5, summary, 4) == THQ_NOT_A_CALL);
-    EXPECT(import(THQ_2009, 2, 4, 3, numbers, lags, 5, summary, 4) == THQ_REFUSED_NO_SUCH_LAYER);
-    EXPECT(import(THQ_2015, UINT64_MAX, 4, 4, numbers, lags, 5, summary, 4) == THQ_REFUSED_NO_SUCH_LAYER);
-    EXPECT(import(THQ_2015, 1, 4, 3, numbers, lags, 5, summary, 4) == THQ_REFUSED_OUT_OF_RANGE);
-    EXPECT(import(THQ_2015, 1, 4, 4, numbers, lags, 3, summary, 4) == THQ_REFUSED_NO_ROOM);
-    EXPECT(import(THQ_2015, 1, 4, 4, numbers, lags, 5, summary, 2) == THQ_REFUSED_NO_ROOM);
-    EXPECT(numbers[0] == 77 && lags[0] == -77 && summary[0] == 77);
+    EXPECT(import(2012, 1, 4, 4, numbers, lags, sizes, 5, summary, 3) == THQ_NOT_A_CALL);
+    EXPECT(import(THQ_2009, 2, 4, 3, numbers, lags, sizes, 5, summary, 3) == THQ_REFUSED_NO_SUCH_LAYER);
+    EXPECT(import(THQ_2015, UINT64_MAX, 4, 4, numbers, lags, sizes, 5, summary, 3) == THQ_REFUSED_NO_SUCH_LAYER);
+    EXPECT(import(THQ_2015, 1, 4, 3, numbers, lags, sizes, 5, summary, 3) == THQ_REFUSED_OUT_OF_RANGE);
+    EXPECT(import(THQ_2015, 1, 4, 4, numbers, lags, sizes, 3, summary, 3) == THQ_REFUSED_NO_ROOM);
+    EXPECT(import(THQ_2015, 1, 4, 4, numbers, lags, sizes, 5, summary, 1) == THQ_REFUSED_NO_ROOM);
+    EXPECT(numbers[0] == 77 && lags[0] == -77 && sizes[0] == 77 && summary[0] == 77);
 
-    uint64_t answer = import(THQ_2015, 1, 4, 4, numbers, lags, 5, summary, 4);
+    uint64_t answer = import(THQ_2015, 1, 4, 4, numbers, lags, sizes, 5, summary, 3);
     EXPECT(THQ_NUMBER(answer) == 0);
     EXPECT(THQ_VALUE(answer) == 4);
     EXPECT(memcmp(numbers, expected_numbers, sizeof numbers) == 0);
     EXPECT(memcmp(lags, expected_lags, sizeof lags) == 0);
+    EXPECT(memcmp(sizes, expected_sizes, sizeof sizes) == 0);
     EXPECT(memcmp(summary, expected_summary, sizeof summary) == 0);
 }
 
@@ -75,7 +78,7 @@ static void in_steps(void)
     uint8_t again[sizeof loop_a];
     uint64_t set = 0;
     const uint64_t embedded[] = {0, 1};
-    uint64_t numbers[4], summary[3];
+    uint64_t numbers[4], sizes[4], summary[2];
     int64_t lags[4];
 
     EXPECT(thq_read_loop(THQ_2015, loop_a, sizeof loop_a, (uint16_t *)entries, 3 * THQ_ENTRY_NUMBERS) == 3 * 256);
@@ -88,10 +91,42 @@ static void in_steps(void)
     EXPECT(thq_closure(THQ_2015, loop_a, sizeof loop_a, 2, &set, 0) == 17);
     EXPECT(thq_closure(THQ_2015, loop_a, sizeof loop_a, 2, &set, 1) == 2 * 256 && set == 5);
 
-    EXPECT(thq_join(3, embedded, LENGTH(embedded), 1, indices, 4, decodings, 4, matches, 4, numbers, 4, lags, 4, summary, 3) == 4 * 256);
-    EXPECT(numbers[2] == 2 && lags[2] == 600 && summary[1] == 2);
+    EXPECT(thq_join(3, embedded, LENGTH(embedded), 1, indices, 4, decodings, 4, matches, 4, numbers, 4, lags, 4, sizes, 4, summary, 2) == 4 * 256);
+    EXPECT(numbers[2] == 2 && lags[2] == 600 && sizes[1] == 2 && summary[1] == 2);
     /* A set that is not there is empty. */
-    EXPECT(thq_join(3, embedded, 0, 1, indices, 4, decodings, 4, matches, 4, numbers, 4, lags, 4, summary, 3) == 2 * 256);
+    EXPECT(thq_join(3, embedded, 0, 1, indices, 4, decodings, 4, matches, 4, numbers, 4, lags, 4, sizes, 4, summary, 2) == 2 * 256);
+    EXPECT(numbers[0] == 1 && numbers[1] == 3 && sizes[0] == 1 && sizes[1] == 1 && summary[0] == 2 && summary[1] == 2);
+}
+
+/* A base at full rate and an enhancement at every second picture, 1,000 of these, in one table. */
+static void more_than_512_rows(void)
+{
+    enum { PICTURES = 1000, ROWS = PICTURES + PICTURES / 2 };
+    static uint8_t layer[ROWS];
+    static uint64_t decoding[ROWS], match[ROWS], keys[ROWS], numbers[ROWS], sizes[ROWS];
+    static size_t order[ROWS], kept[ROWS], places[ROWS], heads[ROWS];
+    static bool claimed[ROWS], used[ROWS];
+    static int64_t lags[ROWS];
+    const uint64_t embedded[] = {0, 1};
+    uint64_t summary[2];
+    size_t rows = 0;
+
+    for (uint64_t picture = 0; picture < PICTURES; picture++)
+        for (uint8_t index = 0; index <= (picture % 2 == 0); index++, rows++) {
+            layer[rows] = index;
+            decoding[rows] = match[rows] = 3600 * picture;
+        }
+    EXPECT(rows == ROWS);
+    for (size_t most = ROWS - 1; most <= ROWS; most++) {
+        uint64_t answer = thq_join_long(3, embedded, 2, 1, layer, ROWS, decoding, ROWS, match, ROWS, order, ROWS, keys, most, kept, ROWS, places,
+                                        ROWS, heads, ROWS, claimed, ROWS, used, ROWS, numbers, ROWS, lags, ROWS, sizes, ROWS, summary, 2);
+        EXPECT(answer == (most < ROWS ? THQ_REFUSED_OUT_OF_RANGE : 256 * ROWS));
+    }
+    EXPECT(summary[0] == 3 && summary[1] == PICTURES);
+    for (size_t k = 0; k < ROWS; k++)
+        EXPECT(numbers[k] == k && lags[k] == 0);
+    for (size_t unit = 0; unit < PICTURES; unit++)
+        EXPECT(sizes[unit] == (unit % 2 == 0 ? 2 : 1));
 }
 
 /* Every field of the struct, by values that tell the fields apart. */
@@ -151,15 +186,15 @@ static void two_views(void)
     const uint64_t readings[] = {THQ_2009, THQ_2015};
     thq_entry entries[3];
     uint8_t written[sizeof sports];
-    uint64_t set, numbers[4], summary[3];
+    uint64_t set, numbers[4], sizes[4], summary[2];
     int64_t lags[4];
 
     for (size_t k = 0; k < LENGTH(readings); k++) {
         EXPECT(thq_read_loop(readings[k], sports, sizeof sports, (uint16_t *)entries, 3 * THQ_ENTRY_NUMBERS) == 3 * 256);
         EXPECT(memcmp(entries, expected, sizeof expected) == 0);
         EXPECT(thq_closure(readings[k], sports, sizeof sports, 1, &set, 1) == 2 * 256 && set == 3);
-        EXPECT(thq_import(readings[k], sports, sizeof sports, 1, indices, 4, decodings, 4, matches, 4, numbers, 4, lags, 4, summary, 3) == 4 * 256);
-        EXPECT(numbers[2] == 2 && lags[2] == 600 && summary[0] == 3 && summary[1] == 2 && summary[2] == 0);
+        EXPECT(thq_import(readings[k], sports, sizeof sports, 1, indices, 4, decodings, 4, matches, 4, numbers, 4, lags, 4, sizes, 4, summary, 2) == 4 * 256);
+        EXPECT(numbers[2] == 2 && lags[2] == 600 && sizes[0] == 2 && summary[0] == 3 && summary[1] == 2);
     }
     EXPECT(THQ_LAYER_INDEX(expected[0]) == 0 && THQ_LAYER_INDEX(expected[2]) == 1);
 
@@ -208,7 +243,7 @@ static void times(void)
 /* A buffer of no elements may be null, in every place of every call. */
 static void null_buffers(void)
 {
-    uint64_t summary[] = {77, 77, 77};
+    uint64_t summary[] = {77, 77};
     uint64_t read[5];
 
     EXPECT(thq_read_loop(THQ_2015, NULL, 0, NULL, 0) == 0);
@@ -219,13 +254,17 @@ static void null_buffers(void)
     EXPECT(thq_read_times(NULL, 0, NULL, 0) == THQ_REFUSED_NO_ROOM);
     EXPECT(thq_read_times(NULL, 0, read, 5) == THQ_REFUSED_NOT_VIDEO_HEADER);
     EXPECT(thq_write_times(9000, 9000, 9000, 0, NULL, 0) == THQ_REFUSED_NO_ROOM);
-    EXPECT(thq_join(1, NULL, 0, 0, NULL, 0, NULL, 0, NULL, 0, NULL, 0, NULL, 0, NULL, 0) == THQ_REFUSED_NO_ROOM);
-    EXPECT(thq_join(1, NULL, 0, 0, NULL, 0, NULL, 0, NULL, 0, NULL, 0, NULL, 0, summary, 3) == 0);
-    EXPECT(summary[0] == 1 && summary[1] == 0 && summary[2] == 0);
-    EXPECT(thq_join(3, NULL, 0, 1, indices, 4, decodings, 4, matches, 4, NULL, 0, NULL, 0, summary, 3) == THQ_REFUSED_NO_ROOM);
-    EXPECT(thq_import(THQ_2015, NULL, 0, 0, NULL, 0, NULL, 0, NULL, 0, NULL, 0, NULL, 0, NULL, 0) == THQ_REFUSED_NO_SUCH_LAYER);
-    EXPECT(thq_import(THQ_2015, loop_a, sizeof loop_a, 1, NULL, 0, NULL, 0, NULL, 0, NULL, 0, NULL, 0, summary, 3) == 0);
-    EXPECT(summary[0] == 3 && summary[1] == 0 && summary[2] == 0);
+    EXPECT(thq_join(1, NULL, 0, 0, NULL, 0, NULL, 0, NULL, 0, NULL, 0, NULL, 0, NULL, 0, NULL, 0) == THQ_REFUSED_NO_ROOM);
+    EXPECT(thq_join(1, NULL, 0, 0, NULL, 0, NULL, 0, NULL, 0, NULL, 0, NULL, 0, NULL, 0, summary, 2) == 0);
+    EXPECT(summary[0] == 1 && summary[1] == 0);
+    EXPECT(thq_join(3, NULL, 0, 1, indices, 4, decodings, 4, matches, 4, NULL, 0, NULL, 0, NULL, 0, summary, 2) == THQ_REFUSED_NO_ROOM);
+    EXPECT(thq_join_long(1, NULL, 0, 0, NULL, 0, NULL, 0, NULL, 0, NULL, 0, NULL, 0, NULL, 0, NULL, 0, NULL, 0, NULL, 0, NULL, 0, NULL, 0, NULL, 0, NULL,
+                         0, summary, 2) == 0);
+    EXPECT(thq_join_long(1, NULL, 0, 0, indices, 1, decodings, 1, matches, 1, NULL, 0, NULL, 0, NULL, 0, NULL, 0, NULL, 0, NULL, 0, NULL, 0, NULL, 0, NULL,
+                         0, NULL, 0, summary, 2) == THQ_REFUSED_OUT_OF_RANGE);
+    EXPECT(thq_import(THQ_2015, NULL, 0, 0, NULL, 0, NULL, 0, NULL, 0, NULL, 0, NULL, 0, NULL, 0, NULL, 0) == THQ_REFUSED_NO_SUCH_LAYER);
+    EXPECT(thq_import(THQ_2015, loop_a, sizeof loop_a, 1, NULL, 0, NULL, 0, NULL, 0, NULL, 0, NULL, 0, NULL, 0, summary, 2) == 0);
+    EXPECT(summary[0] == 3 && summary[1] == 0);
 }
 
 /* The library that is linked is the header's. */
@@ -238,6 +277,7 @@ int main(void)
 {
     whole_import();
     in_steps();
+    more_than_512_rows();
     fields();
     two_views();
     times();

@@ -7,7 +7,6 @@ use mathlib.Core.Path.{_≡_, refl, sym, _∙_, ap, subst}
 use mathlib.Core.List.{List, map}
 use mathlib.Core.Logic.{_⊎_, inl, inr}
 use native.Mathlib.Omega.{arith}
-use lib.IntN.{ℤ}
 use Rattle.vocabulary.specs.declared.stream_types.Reading.{Reading}
 use Rattle.vocabulary.specs.declared.stream_types.Reading.the-variants.{Edition2009, Edition2015}
 use Rattle.vocabulary.specs.declared.refusal.Refusal.{Refusal}
@@ -27,7 +26,8 @@ use Rattle.rows.specs.Table.{Table}
 use Rattle.loop_layers.specs.Closures.{entriesRead}
 use Rattle.loop_layers.specs.Layers.{layersOf}
 use Rattle.loop_layers.proofs.Meant.{layers-meant, layers-only, entries-read, loop-answer-meant, loop-answer-only}
-use Rattle.importing.specs.Importing.{importedNumbers, importedLags}
+use Rattle.unit_lists.specs.Sequence.{Lists}
+use Rattle.importing.specs.Importing.{importedLists}
 use Rattle.importing.proofs.Meant.{import-meant, import-only}
 use Rattle.agreement.specs.Meaning.{Accepts, Every2009, Otherwise, Answer, Gives, NoSet, no-such-layer, embedded-layer-absent, Refuses2009, Agrees}
 use Rattle.agreement.specs.Records.{entryIn2009}
@@ -41,22 +41,21 @@ numbers-11-and-12 (embedded-layer-absent index) = inr refl
 
 -- ---- a reading gives the answer that is computed, and no other
 
-module _ (reading : Reading) (bytes : List ℕ) (target : ℕ) (t : Table) (numbers : List ℕ) (lags : List ℤ) where
-  pub answer-given : Gives reading bytes target t numbers lags (answerIn reading bytes target t numbers lags)
+module _ (reading : Reading) (bytes : List ℕ) (target : ℕ) (t : Table) (before : Lists) where
+  pub answer-given : Gives reading bytes target t before (answerIn reading bytes target t before)
   answer-given =
       record {
         right-closure = loop-answer-meant reading bytes target;
-        right-import = import-meant reading bytes target t numbers lags (record { is-answer = refl; is-numbers = refl; is-lags = refl });
+        right-import = import-meant reading bytes target t before (record { is-answer = refl; is-after = refl });
       }
 
-  given-only : {a : Answer} → Gives reading bytes target t numbers lags a → a ≡ answerIn reading bytes target t numbers lags
+  given-only : {a : Answer} → Gives reading bytes target t before a → a ≡ answerIn reading bytes target t before
   given-only g =
-      let p = import-only reading bytes target t numbers lags (g .right-import) in
+      let p = import-only reading bytes target t before (g .right-import) in
       same-answer (loop-answer-only reading bytes target (g .right-closure)) (p .is-answer)
-      (p .is-numbers ∙ ap (λ (j : Joined). importedNumbers reading bytes target t j numbers) (p .is-answer))
-      (p .is-lags ∙ ap (λ (j : Joined). importedLags reading bytes target t j lags) (p .is-answer))
+      (p .is-after ∙ ap (λ (j : Joined). importedLists reading bytes t j before) (p .is-answer))
 
-  pub one-answer : {a b : Answer} → Gives reading bytes target t numbers lags a → Gives reading bytes target t numbers lags b → a ≡ b
+  pub one-answer : {a b : Answer} → Gives reading bytes target t before a → Gives reading bytes target t before b → a ≡ b
   one-answer g h = given-only g ∙ sym (given-only h)
 
 -- ---- what is accepted, as it is computed
@@ -111,20 +110,20 @@ module _ {bytes : List ℕ} {entries : List Entry} {layers : Layers} (a : Accept
     agreement =
         over-computed (λ es ls. Agrees bytes es ls target)
         (record {
-          identical = λ every t numbers lags b. (
-            λ g. as-computed Edition2015 t numbers lags (given-only Edition2009 bytes target t numbers lags g ∙ same every t numbers lags),
-            λ g. as-computed Edition2009 t numbers lags (given-only Edition2015 bytes target t numbers lags g ∙ sym (same every t numbers lags)),
+          identical = λ every t before b. (
+            λ g. as-computed Edition2015 t before (given-only Edition2009 bytes target t before g ∙ same every t before),
+            λ g. as-computed Edition2009 t before (given-only Edition2015 bytes target t before g ∙ sym (same every t before)),
           );
           otherwise = λ other. refused (always-refused bytes (outcome-is a) target other);
         })
       where
-        as-computed : (reading : Reading) (t : Table) (numbers : List ℕ) (lags : List ℤ) {b : Answer} → b ≡ answerIn reading bytes target t numbers lags
-            → Gives reading bytes target t numbers lags b
-        as-computed reading t numbers lags e =
-            subst (Gives reading bytes target t numbers lags) (sym e) (answer-given reading bytes target t numbers lags)
+        as-computed : (reading : Reading) (t : Table) (before : Lists) {b : Answer} → b ≡ answerIn reading bytes target t before
+            → Gives reading bytes target t before b
+        as-computed reading t before e =
+            subst (Gives reading bytes target t before) (sym e) (answer-given reading bytes target t before)
 
-        same : Every2009 (entriesIn Edition2015 bytes) (layersIn Edition2015 bytes) target → (t : Table) (numbers : List ℕ) (lags : List ℤ)
-            → answerIn Edition2009 bytes target t numbers lags ≡ answerIn Edition2015 bytes target t numbers lags
+        same : Every2009 (entriesIn Edition2015 bytes) (layersIn Edition2015 bytes) target → (t : Table) (before : Lists)
+            → answerIn Edition2009 bytes target t before ≡ answerIn Edition2015 bytes target t before
         same = identical-answer bytes (outcome-is a) target
 
         refused : AlwaysRefused bytes target → Refuses2009 bytes target
@@ -132,7 +131,7 @@ module _ {bytes : List ℕ} {entries : List Entry} {layers : Layers} (a : Accept
             record {
               refusal = r .refusal;
               is-11-or-12 = r .is-11-or-12;
-              always = λ t numbers lags. as-computed Edition2009 t numbers lags (sym (r .always t numbers lags));
+              always = λ t before. as-computed Edition2009 t before (sym (r .always t before));
             }
 
     -- One or the other is so.

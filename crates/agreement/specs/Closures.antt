@@ -11,10 +11,12 @@ use Rattle.vocabulary.specs.declared.refusal.Refusal.the-variants.{NoSuchLayer,
 use Rattle.closure.specs.declared.Layers.{Layers}
 use Rattle.closure.specs.declared.Closure.{Closure}
 use Rattle.closure.specs.declared.Closure.the-variants.{Complete, Refused}
-use Rattle.closure.specs.Closures.{isLayer, closureOf}
+use Rattle.closure.specs.Closures.{isLayer, restedOn, closureOf}
 use Rattle.closure.specs.Meaning.{Names, RestsOn, itself, by, Missing, WholeClosure, Answers, no-such-layer, absent, complete}
 use Rattle.agreement.specs.Meaning.{NoSet, no-such-layer as eleven, embedded-layer-absent as twelve}
 use Rattle.closure.proofs.Meant.{closure-meant, closure-only, given-complete}
+use Rattle.closure.proofs.Reached.{member-rests-on, rests-on-member}
+use Rattle.assembling.proofs.Own.{rests-further}
 
 pub record PartOf (few all : Layers) : Type 0 where
   pub in-all : (i : ℕ) → isLayer few i ≡ true → isLayer all i ≡ true
@@ -82,6 +84,19 @@ module _ (few all : Layers) (part : PartOf few all) (target : ℕ) where
 
     pub every-kept : (j : ℕ) → RestsOn all target j → isLayer few j ≡ true
     every-kept j r = whole .in-loop j (rests-in-few r)
+
+-- WHAT A LAYER OF A COMPLETE CLOSURE RESTS ON is complete too.
+pub own-complete : (layers : Layers) (target closure : ℕ) → closureOf layers target ≡ Complete closure → (i : ℕ) → has closure i ≡ true
+    → closureOf layers i ≡ Complete (restedOn layers i)
+own-complete layers target closure e i h =
+    let w = given-complete layers target closure .0 e .1 in
+    let r = w .members i .0 h in
+    sym (closure-only layers i
+    (complete (w .in-loop i r)
+    (record {
+      members = λ j. (member-rests-on layers i j, rests-on-member layers i j);
+      in-loop = λ j s. w .in-loop j (rests-further layers target i j r s);
+    })))
 
 -- ---- an answer is a complete closure, or 11 or 12
 

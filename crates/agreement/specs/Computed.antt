@@ -7,8 +7,7 @@ use mathlib.Core.Bool.{true}
 use mathlib.Core.List.{List}
 use mathlib.Core.Logic.{_⊎_, inl, inr}
 use native.Mathlib.Omega.{arith}
-use lib.IntN.{ℤ}
-use lib.ListN.{length, getD}
+use lib.ListN.{getD}
 use Rattle.sets.specs.Sets.{has}
 use Rattle.vocabulary.specs.declared.stream_types.Reading.{Reading}
 use Rattle.vocabulary.specs.declared.stream_types.Reading.the-variants.{Edition2009, Edition2015}
@@ -17,7 +16,7 @@ use Rattle.es_loop.specs.declared.reader.Outcome.{Outcome}
 use Rattle.closure.specs.declared.Layers.{Layers}
 use Rattle.closure.specs.declared.Closure.{Closure}
 use Rattle.closure.specs.declared.Closure.the-variants.{Complete, Refused as NoClosure}
-use Rattle.closure.specs.Closures.{isLayer, closureOf}
+use Rattle.closure.specs.Closures.{isLayer, restedOn, closureOf}
 use Rattle.closure.specs.Meaning.{RestsOn}
 use Rattle.closure.specs.Meaning as Target
 use Rattle.closure.proofs.Meant.{closure-meant, closure-only, given-complete}
@@ -25,51 +24,52 @@ use Rattle.loop_layers.specs.Closures.{closureFor, loopClosure}
 use Rattle.loop_layers.specs.Layers.{layersOf}
 use Rattle.joining.specs.declared.answer.Joined.{Joined}
 use Rattle.joining.specs.declared.answer.Joined.the-variants.{Refused}
-use Rattle.rows.specs.Table.{Table}
-use Rattle.joining.specs.Joining.{joinedIn, joinedOf, numbersAfter, lagsAfter}
-use Rattle.importing.specs.Importing.{importFor, importOf, importedNumbers, importedLags}
+use Rattle.rows.specs.Table.{Table, mostRows}
+use Rattle.unit_lists.specs.Sequence.{Lists}
+use Rattle.joining.specs.Joining.{roomOf, joinedIn, joinedOf, listsAfter}
+use Rattle.importing.specs.Importing.{importFor, importOf, importedLists}
 use Rattle.agreement.specs.Meaning.{Every2009, Otherwise, another-type, no-complete-set, Answer, answerOf, NoSet}
 use Rattle.agreement.specs.Entries.{IsAccepted, entriesIn, accepted-in-2009}
 use Rattle.agreement.specs.Layers.{layers-in-2009, layers-in-2015, same-embedded, has-layer, one-type}
-use Rattle.agreement.specs.Closures.{PartOf, same-closure, every-kept, Found, found, not-found, find}
-use Rattle.agreement.specs.Joined.{joined-alike, numbers-alike, lags-alike}
+use Rattle.assembling.proofs.Own.{rests-further}
+use Rattle.agreement.specs.Closures.{PartOf, own-complete, same-closure, every-kept, Found, found, not-found, find}
+use Rattle.agreement.specs.Joined.{joined-alike, lists-alike}
 
 -- the layers of a loop's entries
 abbrev pub layersIn : Reading → List ℕ → Layers
 layersIn reading bytes = layersOf (entriesIn reading bytes)
 
 -- the answer of the import for the bytes of a loop
-abbrev pub answerIn : Reading → List ℕ → ℕ → Table → List ℕ → List ℤ → Answer
-answerIn reading bytes target t numbers lags =
-    let joined : Joined = importOf reading bytes target t (length numbers) (length lags) in
-    answerOf (loopClosure reading bytes target) joined (importedNumbers reading bytes target t joined numbers) (importedLags reading bytes target t joined lags)
+abbrev pub answerIn : Reading → List ℕ → ℕ → Table → Lists → Answer
+answerIn reading bytes target t before =
+    let joined : Joined = importOf reading bytes target t (roomOf before) in
+    answerOf (loopClosure reading bytes target) joined (importedLists reading bytes t joined before)
 
 -- the same in the layers of an accepted loop
-abbrev inLayers : Layers → ℕ → Table → List ℕ → List ℤ → Answer
-inLayers layers target t numbers lags =
-    let joined : Joined = joinedOf layers target t (length numbers) (length lags) in
-    answerOf (closureOf layers target) joined (numbersAfter layers target t joined numbers) (lagsAfter layers target t joined lags)
+abbrev inLayers : Layers → ℕ → Table → Lists → Answer
+inLayers layers target t before =
+    let joined : Joined = joinedOf mostRows layers target t (roomOf before) in
+    answerOf (closureOf layers target) joined (listsAfter layers t joined before)
 
-in-layers : (reading : Reading) (bytes : List ℕ) → IsAccepted reading bytes → (target : ℕ) (t : Table) (numbers : List ℕ) (lags : List ℤ)
-    → answerIn reading bytes target t numbers lags ≡ inLayers (layersIn reading bytes) target t numbers lags
-in-layers reading bytes e target t numbers lags =
+in-layers : (reading : Reading) (bytes : List ℕ) → IsAccepted reading bytes → (target : ℕ) (t : Table) (before : Lists)
+    → answerIn reading bytes target t before ≡ inLayers (layersIn reading bytes) target t before
+in-layers reading bytes e target t before =
     ap
     (λ (o : Outcome).
     let layers : Layers = layersIn reading bytes in
-    let joined : Joined = importFor o layers target t (length numbers) (length lags) in
-    answerOf (closureFor o layers target) joined (numbersAfter layers target t joined numbers) (lagsAfter layers target t joined lags))
+    let joined : Joined = importFor o layers target t (roomOf before) in
+    answerOf (closureFor o layers target) joined (listsAfter layers t joined before))
     e
 
-pub same-answer : {c d : Closure} {j k : Joined} {m n : List ℕ} {a b : List ℤ} → c ≡ d → j ≡ k → m ≡ n → a ≡ b → answerOf c j m a ≡ answerOf d k n b
-same-answer {c} {d} {j} {k} {m} {n} {a} {b} p q r s =
-    ap₂ (λ (x : Closure) (y : Joined). answerOf x y m a) p q ∙ ap₂ (λ (x : List ℕ) (y : List ℤ). answerOf d k x y) r s
+pub same-answer : {c d : Closure} {j k : Joined} {m n : Lists} → c ≡ d → j ≡ k → m ≡ n → answerOf c j m ≡ answerOf d k n
+same-answer {c} {d} {j} {k} {m} {n} p q r = ap₂ (λ (x : Closure) (y : Joined). answerOf x y m) p q ∙ ap (answerOf d k) r
 
 -- the 2009 reading refuses, with one refusal for every row table and both lists
 pub record AlwaysRefused (bytes : List ℕ) (target : ℕ) : Type 0 where
   pub refusal : Refusal
   pub is-11-or-12 : NoSet refusal
-  pub always : (t : Table) (numbers : List ℕ) (lags : List ℤ)
-      → answerIn Edition2009 bytes target t numbers lags ≡ answerOf (NoClosure refusal) (Refused refusal) numbers lags
+  pub always : (t : Table) (before : Lists)
+      → answerIn Edition2009 bytes target t before ≡ answerOf (NoClosure refusal) (Refused refusal) before
 
 module _ (bytes : List ℕ) (is-accepted : IsAccepted Edition2015 bytes) (target : ℕ) where
   abbrev few : Layers
@@ -93,11 +93,10 @@ module _ (bytes : List ℕ) (is-accepted : IsAccepted Edition2015 bytes) (target
       layers-in-2009 bytes is-accepted j .1
       (record { place = l .layer .place; entry = l .entry; layer = at-place; type = every .has-type (l .layer .place) j (l .entry) r at-place })
 
-  alike : Every2009 (entriesIn Edition2015 bytes) all target → (t : Table) (numbers : List ℕ) (lags : List ℤ) → inLayers few target t numbers lags ≡ inLayers all target t numbers lags
-  alike every t numbers lags =
-      same-answer closures (joined-alike few all target closures same t (length numbers) (length lags))
-      (numbers-alike few all target closures same t (length numbers) (length lags) numbers)
-      (lags-alike few all target closures same t (length numbers) (length lags) lags)
+  alike : Every2009 (entriesIn Edition2015 bytes) all target → (t : Table) (before : Lists) → inLayers few target t before ≡ inLayers all target t before
+  alike every t before =
+      same-answer closures (joined-alike few all target closures same own t (roomOf before))
+      (lists-alike few all target closures same own t (roomOf before) before)
     where
       closures : closureOf few target ≡ closureOf all target
       closures = same-closure few all part target (kept every)
@@ -109,17 +108,26 @@ module _ (bytes : List ℕ) (is-accepted : IsAccepted Edition2015 bytes) (target
           let r = w .members i .0 h in
           same-embedded bytes is-accepted i (kept every i r (w .in-loop i r))
 
+      same-own : {a b : ℕ} → Complete a ≡ Complete b → a ≡ b
+      same-own e = cc
+
+      own : (closure : ℕ) → closureOf all target ≡ Complete closure → (i : ℕ) → has closure i ≡ true → restedOn few i ≡ restedOn all i
+      own closure e i h =
+          let r = given-complete all target closure .0 e .1 .members i .0 h in
+          let same-set = same-closure few all part i (λ j s. kept every j (rests-further all target i j r s)) in
+          same-own (sym (own-complete few target closure (closures ∙ e) i h) ∙ same-set ∙ own-complete all target closure e i h)
+
   -- where the 2009 reading finds no closure, it refuses, whatever the row table and the lists hold
   refused : (refusal : Refusal) → NoSet refusal → closureOf few target ≡ NoClosure refusal → AlwaysRefused bytes target
   refused refusal is e =
       record {
         refusal = refusal;
         is-11-or-12 = is;
-        always = λ t numbers lags. in-layers Edition2009 bytes (accepted-in-2009 bytes is-accepted) target t numbers lags
+        always = λ t before. in-layers Edition2009 bytes (accepted-in-2009 bytes is-accepted) target t before
             ∙ ap
             (λ (c : Closure).
-            let joined : Joined = joinedIn few target t (length numbers) (length lags) c in
-            answerOf c joined (numbersAfter few target t joined numbers) (lagsAfter few target t joined lags))
+            let joined : Joined = joinedIn mostRows few t (roomOf before) c in
+            answerOf c joined (listsAfter few t joined before))
             e;
       }
 
@@ -137,12 +145,12 @@ module _ (bytes : List ℕ) (is-accepted : IsAccepted Edition2015 bytes) (target
   not-otherwise set e (no-complete-set none) = none set (complete-too set e)
 
   -- THE IDENTICAL ANSWER,
-  pub identical-answer : Every2009 (entriesIn Edition2015 bytes) all target → (t : Table) (numbers : List ℕ) (lags : List ℤ)
-      → answerIn Edition2009 bytes target t numbers lags ≡ answerIn Edition2015 bytes target t numbers lags
-  identical-answer every t numbers lags =
-      in-layers Edition2009 bytes (accepted-in-2009 bytes is-accepted) target t numbers lags
-      ∙ alike every t numbers lags
-      ∙ sym (in-layers Edition2015 bytes is-accepted target t numbers lags)
+  pub identical-answer : Every2009 (entriesIn Edition2015 bytes) all target → (t : Table) (before : Lists)
+      → answerIn Edition2009 bytes target t before ≡ answerIn Edition2015 bytes target t before
+  identical-answer every t before =
+      in-layers Edition2009 bytes (accepted-in-2009 bytes is-accepted) target t before
+      ∙ alike every t before
+      ∙ sym (in-layers Edition2015 bytes is-accepted target t before)
 
   -- or 11 or 12.
   pub always-refused : Otherwise (entriesIn Edition2015 bytes) all target → AlwaysRefused bytes target

@@ -1,34 +1,34 @@
 -- JOINING LOOKS AT THE LAYERS OF THE CLOSURE ALONE. Two sets of layers that give a target the same closure, in which each layer has the same
--- embedded layers, give it the same answer of joining and leave the same in both lists, for every row table and every output room.
+-- embedded layers and rests on the same, give it the same answer of joining and leave the same in the lists, for every row table and every output room.
 -- Assumes nothing.
-use Prim.Native.Nat.{ℕ, zero, suc, _<_}
-use mathlib.Core.Path.{_≡_, refl, sym, _∙_, ap}
+use Prim.Native.Nat.{ℕ, zero, suc}
+use mathlib.Core.Path.{_≡_, refl, sym, _∙_, ap, ap₂, fun-ext}
 use mathlib.Core.Bool.{Bool, true, false, cond, _&&_}
 use mathlib.Core.List.{List}
-use native.Mathlib.Omega.{arith}
-use lib.Dec.{ltb}
-use lib.IntN.{ℤ}
+use lib.Dec.{eqb, ltb}
 use lib.ListN.{getD}
+use Rattle.combinators.specs.Below.{some}
 use Rattle.combinators.specs.Those.{those-alike}
 use Rattle.sets.specs.Sets.{has}
 use Rattle.vocabulary.specs.declared.refusal.Refusal.{Refusal}
-use Rattle.vocabulary.specs.declared.refusal.Refusal.the-variants.{OutOfRange, TimeOrderBroken}
 use Rattle.closure.specs.declared.Layers.{Layers}
 use Rattle.closure.specs.declared.Closure.{Closure}
 use Rattle.closure.specs.declared.Closure.the-variants.{Complete, Refused as NoClosure}
-use Rattle.closure.specs.Closures.{closureOf}
+use Rattle.closure.specs.Closures.{namedBy, restedOn, closureOf}
+use Rattle.rows.specs.Table.{Table, rowsIn, layerOf, decodingOf, matchOf, mostRows}
+use Rattle.rows.specs.Verdicts.{verdictOf}
+use Rattle.assembling.specs.Assemblies.{upperOf, lowerOf, isEdge, edgesOf}
+use Rattle.claims.specs.Claims.{embeds, claimed}
+use Rattle.heads.specs.Units.{Frame, frame}
 use Rattle.joining.specs.declared.answer.Joined.{Joined}
 use Rattle.joining.specs.declared.answer.Joined.the-variants.{Units, Refused}
-use Rattle.rows.specs.Table.{Table, rowsIn, wrongShape, firstOutOfRange, firstBroken}
-use Rattle.assembling.specs.Assemblies.{upperOf, lowerOf, isEdge, edgesOf, membersOf}
-use Rattle.joining.specs.Units.{Frame, frame, rowsBelow, lagsBelow, firstUnpaired, firstShared, frameOf}
-use Rattle.buffers.specs.Buffers.{over}
-use Rattle.rows.specs.Verdicts.{verdictOf}
+use Rattle.unit_lists.specs.Sequence.{Lists, listsOver}
+use Rattle.joining.specs.Joining.{tabulated, ownSet, frameOf, Room, unitsJoined, joinedBy, joinedIn, joinedOf, listsAfter}
 use Rattle.joining.proofs.Cases.{IsOver, units-over, refused, is-over}
-use Rattle.joining.specs.Joining.{unitsJoined, joinedBy, joinedIn, joinedOf, numbersAfter, lagsAfter}
 
 module _ (few all : Layers) (closure : ℕ)
-    (same : (i : ℕ) → has closure i ≡ true → getD (few .embedded) i 0 ≡ getD (all .embedded) i 0) where
+    (same : (i : ℕ) → has closure i ≡ true → getD (few .embedded) i 0 ≡ getD (all .embedded) i 0)
+    (own : (i : ℕ) → has closure i ≡ true → restedOn few i ≡ restedOn all i) where
   -- an edge leads down from a layer of the closure
   edge-alike : (edge : ℕ) → isEdge few closure edge ≡ isEdge all closure edge
   edge-alike edge = go (has closure (upperOf edge)) refl
@@ -46,48 +46,68 @@ module _ (few all : Layers) (closure : ℕ)
   unfolding edgesOf
   edges-alike = those-alike (isEdge few closure) (isEdge all closure) 4096 (λ k h. edge-alike k)
 
-  frames-alike : (target : ℕ) → frameOf few closure target ≡ frameOf all closure target
-  frames-alike target = ap (frame target (membersOf closure)) edges-alike
+  -- and so does a claim
+  embeds-alike : embeds few closure ≡ embeds all closure
+  embeds-alike = fun-ext (λ upper. fun-ext (λ lower. go upper lower (has closure upper) refl))
+    where
+      named : ℕ → ℕ → ℕ → Bool → Bool
+      named upper lower embedded b = has (namedBy b embedded upper) lower
+
+      go : (upper lower : ℕ) (b : Bool) → has closure upper ≡ b → embeds few closure upper lower ≡ embeds all closure upper lower
+      go upper lower true p = ap (λ (embedded : ℕ). named upper lower embedded (has closure upper)) (same upper p)
+      go upper lower false p =
+          ap (named upper lower (getD (few .embedded) upper 0)) p ∙ sym (ap (named upper lower (getD (all .embedded) upper 0)) p)
+
+  claims-alike : (t : Table) → claimed few closure t ≡ claimed all closure t
+  claims-alike t = ap claimedWith embeds-alike
+    where
+      claimedWith : (ℕ → ℕ → Bool) → ℕ → Bool
+      claimedWith names k = some (λ j. names (layerOf t j) (layerOf t k) && eqb (decodingOf t k) (matchOf t j)) (rowsIn t)
+
+  owns-alike : ownSet few closure ≡ ownSet all closure
+  owns-alike = fun-ext (λ layer. go layer (has closure layer) refl)
+    where
+      go : (layer : ℕ) (b : Bool) → has closure layer ≡ b → ownSet few closure layer ≡ ownSet all closure layer
+      go layer true p = ap (λ (set : ℕ). cond (has closure layer) set 0) (own layer p)
+      go layer false p = ap (λ (b : Bool). cond b (restedOn few layer) 0) p ∙ sym (ap (λ (b : Bool). cond b (restedOn all layer) 0) p)
+
+  frames-alike : (t : Table) → frameOf few closure t ≡ frameOf all closure t
+  frames-alike t =
+      ap₂ (λ (c : ℕ → Bool) (o : ℕ → ℕ). frame closure (tabulated c (rowsIn t)) (tabulated o 64) (edgesOf few closure)) (claims-alike t) owns-alike
+      ∙ ap (frame closure (tabulated (claimed all closure t) (rowsIn t)) (tabulated (ownSet all closure) 64)) edges-alike
 
 module _ (few all : Layers) (target : ℕ) (same-closure : closureOf few target ≡ closureOf all target)
     (same : (closure : ℕ) → closureOf all target ≡ Complete closure
     → (i : ℕ) → has closure i ≡ true → getD (few .embedded) i 0 ≡ getD (all .embedded) i 0)
-    (t : Table) (numberRoom lagRoom : ℕ) where
-  in-closure : (c : Closure) → closureOf all target ≡ c → joinedIn few target t numberRoom lagRoom c ≡ joinedIn all target t numberRoom lagRoom c
+    (own : (closure : ℕ) → closureOf all target ≡ Complete closure → (i : ℕ) → has closure i ≡ true → restedOn few i ≡ restedOn all i)
+    (t : Table) (room : Room) where
+  in-closure : (c : Closure) → closureOf all target ≡ c → joinedIn mostRows few t room c ≡ joinedIn mostRows all t room c
   in-closure (Complete closure) e =
-      ap (λ (f : Frame). joinedBy (unitsJoined t closure f numberRoom lagRoom) (verdictOf t closure)) (frames-alike few all closure (same closure e) target)
+      ap (λ (f : Frame). joinedBy (unitsJoined t f room) (verdictOf mostRows t closure)) (frames-alike few all closure (same closure e) (own closure e) t)
   in-closure (NoClosure refusal) e = refl
 
   -- THE SAME ANSWER,
-  pub joined-alike : joinedOf few target t numberRoom lagRoom ≡ joinedOf all target t numberRoom lagRoom
-  joined-alike = ap (joinedIn few target t numberRoom lagRoom) same-closure ∙ in-closure (closureOf all target) refl
+  pub joined-alike : joinedOf mostRows few target t room ≡ joinedOf mostRows all target t room
+  joined-alike = ap (joinedIn mostRows few t room) same-closure ∙ in-closure (closureOf all target) refl
 
   -- what holds of every refusal, and of units over the closure, holds of the answer
-  of-answer : (P : Joined → Type 0) → ((closure units left : ℕ) → closureOf all target ≡ Complete closure → P (Units closure units left))
-      → ((refusal : Refusal) → P (Refused refusal)) → P (joinedOf all target t numberRoom lagRoom)
+  of-answer : (P : Joined → Type 0) → ((closure units rows : ℕ) → closureOf all target ≡ Complete closure → P (Units closure units rows))
+      → ((refusal : Refusal) → P (Refused refusal)) → P (joinedOf mostRows all target t room)
   of-answer P with-units with-refusal = go (closureOf all target) refl
     where
       from-over : (closure : ℕ) → closureOf all target ≡ Complete closure → {j : Joined} → IsOver closure j → P j
-      from-over closure e (units-over {units} {left}) = with-units closure units left e
+      from-over closure e (units-over {units} {rows}) = with-units closure units rows e
       from-over closure e (refused {refusal}) = with-refusal refusal
 
-      go : (c : Closure) → closureOf all target ≡ c → P (joinedIn all target t numberRoom lagRoom c)
-      go (Complete closure) e = from-over closure e (is-over all target t closure numberRoom lagRoom)
+      go : (c : Closure) → closureOf all target ≡ c → P (joinedIn mostRows all t room c)
+      go (Complete closure) e = from-over closure e (is-over mostRows all t closure room)
       go (NoClosure refusal) e = with-refusal refusal
 
-  -- and the same in both lists.
-  pub numbers-alike : (before : List ℕ) → numbersAfter few target t (joinedOf few target t numberRoom lagRoom) before
-      ≡ numbersAfter all target t (joinedOf all target t numberRoom lagRoom) before
-  numbers-alike before =
-      ap (λ (j : Joined). numbersAfter few target t j before) joined-alike
-      ∙ of-answer (λ j. numbersAfter few target t j before ≡ numbersAfter all target t j before)
-      (λ closure units left e. ap (λ (f : Frame). over (rowsBelow t f (rowsIn t)) before) (frames-alike few all closure (same closure e) target))
-      (λ refusal. refl)
-
-  pub lags-alike : (before : List ℤ) → lagsAfter few target t (joinedOf few target t numberRoom lagRoom) before
-      ≡ lagsAfter all target t (joinedOf all target t numberRoom lagRoom) before
-  lags-alike before =
-      ap (λ (j : Joined). lagsAfter few target t j before) joined-alike
-      ∙ of-answer (λ j. lagsAfter few target t j before ≡ lagsAfter all target t j before)
-      (λ closure units left e. ap (λ (f : Frame). over (lagsBelow t f (rowsIn t)) before) (frames-alike few all closure (same closure e) target))
+  -- and the same in the lists.
+  pub lists-alike : (before : Lists) → listsAfter few t (joinedOf mostRows few target t room) before
+      ≡ listsAfter all t (joinedOf mostRows all target t room) before
+  lists-alike before =
+      ap (λ (j : Joined). listsAfter few t j before) joined-alike
+      ∙ of-answer (λ j. listsAfter few t j before ≡ listsAfter all t j before)
+      (λ closure units rows e. ap (λ (f : Frame). listsOver t f before) (frames-alike few all closure (same closure e) (own closure e) t))
       (λ refusal. refl)

@@ -8,7 +8,6 @@ use Prim.Native.Nat.{ℕ}
 use mathlib.Core.List.{List, map}
 use mathlib.Core.Logic.{_↔_}
 use mathlib.Core.Path.{_≡_}
-use lib.IntN.{ℤ}
 use Rattle.vocabulary.specs.declared.LayerIndex.{LayerIndex}
 use Rattle.vocabulary.specs.declared.stream_types.Reading.{Reading}
 use Rattle.vocabulary.specs.declared.stream_types.Reading.the-variants.{Edition2009, Edition2015}
@@ -29,6 +28,7 @@ use Rattle.loop_layers.specs.Meaning as LoopClosure
 use Rattle.joining.specs.declared.answer.Joined.{Joined}
 use Rattle.joining.specs.declared.answer.Joined.the-variants.{Refused}
 use Rattle.rows.specs.Table.{Table}
+use Rattle.unit_lists.specs.Sequence.{Lists}
 use Rattle.importing.specs.Meaning as Import
 
 -- 'any loop that the 2015 reading accepts': a reading accepts the bytes, answers these entries, and they have these layers.
@@ -55,22 +55,21 @@ module _ (entries : List Entry) (layers : Layers) (target : ℕ) where
     another-type : (Every2009 → ⊥) → Otherwise
     no-complete-set : ((set : ℕ) → Target.Answers layers target (Complete set) → ⊥) → Otherwise
 
--- 'In demand 3 the answer is the closure with the answer of joining, or the refusal with its place'; and with it goes what the two lists then
+-- 'In demand 3 the answer is the closure with the answer of joining, or the refusal with its place'; and with it goes what the three lists then
 -- hold, of which the lengths are the output room.
 pub record Answer : Type 0 where
   pub closure : Closure
   pub joined : Joined
-  pub numbers : List ℕ
-  pub lags : List ℤ
+  pub after : Lists
 
-abbrev pub answerOf : Closure → Joined → List ℕ → List ℤ → Answer
-answerOf closure joined numbers lags = record { closure = closure; joined = joined; numbers = numbers; lags = lags }
+abbrev pub answerOf : Closure → Joined → Lists → Answer
+answerOf closure joined after = record { closure = closure; joined = joined; after = after }
 
--- A reading gives an answer for a loop's bytes, a target, a row table and two lists: it is the right closure, and the right answer of the
+-- A reading gives an answer for a loop's bytes, a target, a row table and three lists: it is the right closure, and the right answer of the
 -- import with the right content of the lists.
-pub record Gives (reading : Reading) (bytes : List ℕ) (target : ℕ) (t : Table) (numbers : List ℕ) (lags : List ℤ) (a : Answer) : Type 0 where
+pub record Gives (reading : Reading) (bytes : List ℕ) (target : ℕ) (t : Table) (before : Lists) (a : Answer) : Type 0 where
   pub right-closure : LoopClosure.Answers reading bytes target (a .closure)
-  pub right-import : Import.Answers reading bytes target t numbers lags (a .joined) (a .numbers) (a .lags)
+  pub right-import : Import.Answers reading bytes target t before (a .joined) (a .after)
 
 -- '"no such layer" or "embedded layer absent"', 11 and 12
 pub data NoSet : Refusal → Type 0 where
@@ -78,15 +77,14 @@ pub data NoSet : Refusal → Type 0 where
   embedded-layer-absent : (index : LayerIndex) → NoSet (EmbeddedLayerAbsent index)
 
 -- 'the 2009 reading refuses with "no such layer" or "embedded layer absent", for every content of the row table and every output room': with one
--- and the same refusal for all of them, and both lists hold what they held before. (A reading gives one answer: `one-answer` of Agreement.)
+-- and the same refusal for all of them, and the lists hold what they held before. (A reading gives one answer: `one-answer` of Agreement.)
 pub record Refuses2009 (bytes : List ℕ) (target : ℕ) : Type 0 where
   pub refusal : Refusal
   pub is-11-or-12 : NoSet refusal
-  pub always : (t : Table) (numbers : List ℕ) (lags : List ℤ)
-      → Gives Edition2009 bytes target t numbers lags (answerOf (NoClosure refusal) (Refused refusal) numbers lags)
+  pub always : (t : Table) (before : Lists) → Gives Edition2009 bytes target t before (answerOf (NoClosure refusal) (Refused refusal) before)
 
 -- THE DEMAND, of one loop, with its entries and layers in the 2015 reading, and one target.
 pub record Agrees (bytes : List ℕ) (entries : List Entry) (layers : Layers) (target : ℕ) : Type 0 where
-  pub identical : Every2009 entries layers target → (t : Table) (numbers : List ℕ) (lags : List ℤ) (a : Answer)
-      → Gives Edition2009 bytes target t numbers lags a ↔ Gives Edition2015 bytes target t numbers lags a
+  pub identical : Every2009 entries layers target → (t : Table) (before : Lists) (a : Answer)
+      → Gives Edition2009 bytes target t before a ↔ Gives Edition2015 bytes target t before a
   pub otherwise : Otherwise entries layers target → Refuses2009 bytes target

@@ -13,7 +13,7 @@ use assembling::row_at;
 use closure::Layers;
 
 // Takes away what stands at the first `count` places.
-fn clear(marks: &mut [bool], count: usize)
+pub fn clear(marks: &mut [bool], count: usize)
     requires { ⌜ count ≤ length (now marks) ⌝ }
     ensures { λ _. ⌜ Stands count (λ _. false) (now (marks .entry)) (now (marks .exit)) ⌝ }
 {

@@ -33,7 +33,7 @@ pub fn named(present: u64, embedded: u64, index: usize) -> u64
 
 // The set of the indices that the target rests on, its own among them. One scan down is enough, since a layer names lower ones only: when
 // the scan comes to an index, every layer that could name it has been followed.
-fn rested_on(layers: Layers, target: usize) -> u64
+pub fn rested_on(layers: Layers, target: usize) -> u64
     requires { ⌜ target < 64 ⌝ }
     ensures { λ r. ⌜ r ≡ restedOn layers target ⌝ }
 {

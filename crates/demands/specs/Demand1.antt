@@ -1,19 +1,26 @@
 -- DEMAND 1. 'Every loop, packet header, row table and output buffer gets an answer that ends, whether the bytes are sound or damaged. The refusal
 -- is one of the listed numbers, given exactly under its listed condition, and the output buffers then hold what they held before.'
 --
--- One statement for all calls that refuse, the seven functions for C among them: each keeps the promise of Calls for whatever it is handed. The calls
+-- One statement for all calls that refuse, the eight functions for C among them: each keeps the promise of Calls for whatever it is handed. The calls
 -- that refuse nothing are bound beside them, each to the one definition that it equals. (The tests of `judging`, which reading and writing a loop are
--- made of, are not said again.) `joining::join_table` asks for the target's closure, and keeps
--- the promise wherever it is handed that.
+-- made of, are not said again.) `joining::join_table` asks for the target's closure and for work space, and keeps
+-- the promise wherever it is handed these.
 -- Assumes nothing.
 use Rattle.promised.specs.Calls.{Promised}
 use Rattle.promised.specs.Readers.{readLoop, loop-read, closureOfTarget, closure-found, closureOfLoop, loop-closure-found, readTimes, times-read}
 use Rattle.promised.specs.Writers.{writeLoop, loop-written, writeTimes, times-written}
-use Rattle.promised.specs.Joiners.{joinTable, table-joined, joinRows, rows-joined, importLoop, loop-imported}
+use Rattle.promised.specs.Joiners.{joinTable, table-joined, joinRows, rows-joined, joinLong, long-joined, importLoop, loop-imported}
 use Rattle.demands.specs.Told.{forC}
 use Rattle.demands.specs.Others.{RefuseNothing, refuse-nothing}
-use Rattle.demands.specs.ForC.{thqReadLoop, thqWriteLoop, thqClosure, thqReadTimes, thqWriteTimes, thqJoin, thqImport}
-use Rattle.demands.specs.ForCShown.{thq-loop-read, thq-loop-written, thq-closure-found, thq-times-read, thq-times-written, thq-rows-joined, thq-loop-imported}
+use Rattle.demands.specs.ForC.{thqReadLoop, thqWriteLoop, thqClosure, thqReadTimes, thqWriteTimes}
+use Rattle.demands.specs.JoinsForC.{thqJoin, thqJoinLong, thqImport}
+use Rattle.demands.specs.ForCShown.{thq-loop-read, thq-loop-written, thq-closure-found, thq-times-read, thq-times-written}
+use Rattle.demands.specs.JoinsForCShown.{thq-rows-joined, thq-long-joined, thq-loop-imported}
+use Rattle.demands.specs.Stereo.{thqReadStereo, thqWriteStereo}
+use Rattle.demands.specs.StereoShown.{thq-stereo-read, thq-stereo-written}
+use Rattle.demands.specs.Sets.{readLayerSet, addLayer, removeLayer, thqSetRead, thqSetAdd, thqSetRemove, thqSetClosure}
+use Rattle.demands.specs.SetsShown.{set-read, layer-added, layer-removed}
+use Rattle.demands.specs.SetsShown as shown
 
 pub record Demand-1 : Type 0 where
   -- 1 to 9
@@ -28,11 +35,12 @@ pub record Demand-1 : Type 0 where
   pub reading-times : Promised readTimes
   -- 17, 24, 25
   pub writing-times : Promised writeTimes
-  -- 13 to 17, over the closure that was found
+  -- 13 to 18, over the closure that was found
   pub joining-a-table : Promised joinTable
-  -- 11 to 17
+  -- 11 to 18, of at most 512 rows, and of as many as the work space has places for
   pub joining-rows : Promised joinRows
-  -- 1 to 9, 11 to 17
+  pub joining-long-tables : Promised joinLong
+  -- 1 to 9, 11 to 18
   pub importing : Promised importLoop
   -- 1 to 9, 17, 255
   pub thq-read-loop : Promised (forC thqReadLoop)
@@ -44,10 +52,29 @@ pub record Demand-1 : Type 0 where
   pub thq-read-times : Promised (forC thqReadTimes)
   -- 17, 24, 25
   pub thq-write-times : Promised (forC thqWriteTimes)
-  -- 11 to 17
+  -- 11 to 18
   pub thq-join : Promised (forC thqJoin)
-  -- 1 to 9, 11 to 17, 255
+  pub thq-join-long : Promised (forC thqJoinLong)
+  -- 1 to 9, 11 to 18, 255
   pub thq-import : Promised (forC thqImport)
+  -- 1 to 9, 17, 44 to 46
+  pub thq-read-stereo : Promised (forC thqReadStereo)
+  -- 1, 3, 6 to 9, 17, 25, 44, 46
+  pub thq-write-stereo : Promised (forC thqWriteStereo)
+  -- 1 to 9
+  pub reading-a-layer-set : Promised readLayerSet
+  -- 3, 6 to 9, 25, of a layer set
+  pub adding-a-layer : Promised addLayer
+  -- 11, of a layer set
+  pub removing-a-layer : Promised removeLayer
+  -- 1 to 9, 255
+  pub thq-set-read : Promised (forC thqSetRead)
+  -- 3, 6 to 9, 25, 255
+  pub thq-set-add : Promised (forC thqSetAdd)
+  -- 11, 255
+  pub thq-set-remove : Promised (forC thqSetRemove)
+  -- 11, 12, 17, 255
+  pub thq-set-closure : Promised (forC thqSetClosure)
   -- none
   pub others : RefuseNothing
 
@@ -62,6 +89,7 @@ demand-1 =
       writing-times = times-written;
       joining-a-table = table-joined;
       joining-rows = rows-joined;
+      joining-long-tables = long-joined;
       importing = loop-imported;
       thq-read-loop = thq-loop-read;
       thq-write-loop = thq-loop-written;
@@ -69,6 +97,16 @@ demand-1 =
       thq-read-times = thq-times-read;
       thq-write-times = thq-times-written;
       thq-join = thq-rows-joined;
+      thq-join-long = thq-long-joined;
       thq-import = thq-loop-imported;
+      thq-read-stereo = thq-stereo-read;
+      thq-write-stereo = thq-stereo-written;
+      reading-a-layer-set = set-read;
+      adding-a-layer = layer-added;
+      removing-a-layer = layer-removed;
+      thq-set-read = shown.thq-set-read;
+      thq-set-add = shown.thq-set-add;
+      thq-set-remove = shown.thq-set-remove;
+      thq-set-closure = shown.thq-set-closure;
       others = refuse-nothing;
     }

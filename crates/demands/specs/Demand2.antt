@@ -1,5 +1,5 @@
 -- DEMAND 2. 'Descriptors and packet times are read and written as H.222.0 and its layered-video amendments lay them out, under the reading rules
--- of document 01. Each component of the chosen layer yields one unit: one component from every layer it rests on, paired by TREF or else by
+-- of document 01. Each component of the chosen layer yields one unit' (in W-204's words 'each unclaimed row'): 'one component from every layer it rests on, paired by TREF or else by
 -- decoding time, in rising layer index. Where no refusal listed before it applies, the whole is refused as unpaired exactly when some unit
 -- has no such choice, and otherwise as used twice exactly when two units would share a component.'
 --
@@ -11,7 +11,6 @@ use mathlib.Core.Bool.{Bool}
 use mathlib.Core.List.{List, [], map}
 use mathlib.Core.Logic.{_↔_}
 use mathlib.Core.Path.{_≡_, sym, _∙_, ap, ap₂}
-use lib.IntN.{ℤ}
 use lib.ListN.{length, take}
 use Rattle.buffers.specs.Buffers.{over}
 use Rattle.combinators.specs.Padding.{padTo}
@@ -48,15 +47,20 @@ use Rattle.closure.specs.Meaning.{RestsOn, Answers as ClosureAnswers}
 use Rattle.loop_layers.specs.Meaning.{LayersOf}
 use Rattle.joining.specs.declared.answer.Joined.{Joined}
 use Rattle.joining.specs.declared.answer.Joined.the-variants.{Units, Refused}
-use Rattle.rows.specs.Table.{Table}
-use Rattle.joining.specs.Meaning.{FirstRow, NoRow, InOrder, Assembles, NoAssembly, SharesRow, TargetRow, Accepted}
+use Rattle.rows.specs.Table.{Table, layerOf, mostRows}
+use Rattle.rows.specs.Meaning.{FirstRow, NoRow, InOrder}
+use Rattle.claims.specs.Meaning.{Head}
+use Rattle.spans.specs.Meaning.{SpansTooFar}
+use Rattle.heads.specs.Meaning.{AssemblesOwn, NoAssembly, SharesRow}
+use Rattle.unit_lists.specs.Sequence.{Lists, lists}
+use Rattle.joining.specs.Meaning.{Accepted}
 use Rattle.joining.specs.Meaning as Joining
 use Rattle.joining.proofs.Meant as joining
 use Rattle.importing.specs.Meaning as Import
 use Rattle.promised.specs.Calls.{Promised}
 use Rattle.promised.specs.Readers.{LoopGiven, readLoop, loopReadComputed, loop-read, readTimes, times-read}
 use Rattle.promised.specs.Writers.{EntriesGiven, writeLoop, loopWrittenComputed, loop-written, writeTimes, times-written}
-use Rattle.promised.specs.Joiners.{Lists, RowsGiven, joinRows, rowsJoinedComputed, rows-joined, ImportGiven, importLoop, loop-imported}
+use Rattle.promised.specs.Joiners.{RowsGiven, joinRows, rows-joined, joinLong, long-joined, ImportGiven, importLoop, loop-imported}
 
 -- the entries that a writer is given, and what reading them answers: each as it was given, but for what its record does not have (`normal`)
 abbrev pub entriesOf : EntriesGiven → List Entry
@@ -100,52 +104,59 @@ pub record ReadAndWritten : Type 0 where
       → (writeOf (header .times) (header .«tref_sent») (length out) ≡ Header.Bytes (length bytes))
       × (bufferOf (Header.Bytes (length bytes)) (headerOf (header .times) (header .«tref_sent»)) out ≡ over bytes out)
 
--- THE UNITS of an accepted table, and what the two lists then hold: over a closure, a table in range and in order, and no row in two units
-pub record OneUnitEach (given : RowsGiven) (closure units left : ℕ) (after : Lists) : Type 0 where
+-- the layers of a loop in place of its bytes
+abbrev pub overLayers : ImportGiven → Layers → RowsGiven
+overLayers given layers = record { most = mostRows; layers = layers; target = given .target; rows = given .rows; before = given .before }
+
+-- THE UNITS of an accepted table, and what the three lists then hold: over a closure, a table in range and in order, no row in two units, and the closure rows no
+-- farther apart than half the clock
+pub record OneUnitEach (given : RowsGiven) (closure units rows : ℕ) (after : Lists) : Type 0 where
   pub closed : ClosureAnswers (given .layers) (given .target) (Complete closure)
-  pub in-order : InOrder (given .layers) (given .target) (given .rows)
+  pub in-order : InOrder (given .most) (given .layers) (given .target) (given .rows)
   pub in-one-unit : NoRow (given .rows) (SharesRow (given .layers) (given .target) (given .rows))
-  pub accepted : Accepted (given .layers) (given .target) (given .rows) (given .lists .numbers) (given .lists .lags) units left (after .numbers) (after .lags)
+  pub near : SpansTooFar (given .layers) (given .target) (given .rows) → ⊥
+  pub accepted : Accepted (given .layers) (given .target) (given .rows) (given .before) units rows after
 
 -- the same from the bytes of a loop: in the layers of its entries
-pub record OneUnitEachOfLoop (given : ImportGiven) (closure units left : ℕ) (after : Lists) : Type 0 where
+pub record OneUnitEachOfLoop (given : ImportGiven) (closure units rows : ℕ) (after : Lists) : Type 0 where
   pub streams : List Stream
   pub layers : Layers
   pub loop-accepted : LoopMeaning.Answers (given .reading) (given .bytes) (accepted streams)
   pub layers-of-loop : LayersOf (map entryOf streams) layers
-  pub one-unit-each : OneUnitEach (record { layers = layers; target = given .target; rows = given .rows; lists = given .lists }) closure units left after
+  pub one-unit-each : OneUnitEach (overLayers given layers) closure units rows after
 
--- 'unpaired exactly when some unit has no such choice': at the first target row that has none
+-- 'unpaired exactly when some unit has no such choice': at the first head that has none
 pub record FirstUnpaired (given : RowsGiven) (row : ℕ) : Type 0 where
   pub closure : ℕ
   pub closed : ClosureAnswers (given .layers) (given .target) (Complete closure)
-  pub in-order : InOrder (given .layers) (given .target) (given .rows)
+  pub in-order : InOrder (given .most) (given .layers) (given .target) (given .rows)
   pub first : FirstRow (given .rows) (NoAssembly (given .layers) (given .target) (given .rows)) row
 
--- 'otherwise as used twice exactly when two units would share a component': at the first target row whose unit shares one with an earlier
+-- 'otherwise as used twice exactly when two units would share a component': at the first head whose unit shares one with a head before it
 pub record FirstSharing (given : RowsGiven) (row : ℕ) : Type 0 where
   pub closure : ℕ
   pub closed : ClosureAnswers (given .layers) (given .target) (Complete closure)
-  pub in-order : InOrder (given .layers) (given .target) (given .rows)
+  pub in-order : InOrder (given .most) (given .layers) (given .target) (given .rows)
   pub all-paired : NoRow (given .rows) (NoAssembly (given .layers) (given .target) (given .rows))
   pub first : FirstRow (given .rows) (SharesRow (given .layers) (given .target) (given .rows)) row
 
--- Of every run of the functions that join, by their contracts:
+-- What the answer of joining says: units answered and written, neither alone is enough, 15 and 16 each exactly when.
+pub record Says (given : RowsGiven) (answer : Joined) (left : Lists) : Type 0 where
+  pub units : (closure units rows : ℕ) (after : Lists) → ((answer ≡ Units closure units rows) × (left ≡ after)) ↔ OneUnitEach given closure units rows after
+  pub unpaired : (row : ℕ) → (answer ≡ Refused (Unpaired row)) ↔ FirstUnpaired given row
+  pub used-twice : (row : ℕ) → (answer ≡ Refused (UsedTwice row)) ↔ FirstSharing given row
+
+-- Of every run of the functions that join, by their contracts, 'each unclaimed row' yields one unit:
 pub record Joins : Type 0 where
-  -- answered and written: neither alone is enough
-  pub units : (run : joinRows .Ran) → joinRows .Ensures run → (closure units left : ℕ) (after : Lists)
-      → ((joinRows .answer run ≡ Units closure units left) × (joinRows .after run ≡ after)) ↔ OneUnitEach (joinRows .given run) closure units left after
-  pub units-of-loop : (run : importLoop .Ran) → importLoop .Ensures run → (closure units left : ℕ) (after : Lists)
-      → ((importLoop .answer run ≡ Units closure units left) × (importLoop .after run ≡ after))
-      ↔ OneUnitEachOfLoop (importLoop .given run) closure units left after
-  pub unpaired : (run : joinRows .Ran) → joinRows .Ensures run → (row : ℕ)
-      → (joinRows .answer run ≡ Refused (Unpaired row)) ↔ FirstUnpaired (joinRows .given run) row
-  pub used-twice : (run : joinRows .Ran) → joinRows .Ensures run → (row : ℕ)
-      → (joinRows .answer run ≡ Refused (UsedTwice row)) ↔ FirstSharing (joinRows .given run) row
-  -- a target row has no two assemblies
-  pub one-choice : (layers : Layers) (target closure : ℕ) (rows : Table) → ClosureAnswers layers target (Complete closure) → InOrder layers target rows
-      → (head : ℕ) → TargetRow target rows head → (choice other : ℕ → ℕ) → Assembles layers target rows head choice → Assembles layers target rows head other
-      → (layer : ℕ) → RestsOn layers target layer → choice layer ≡ other layer
+  pub of-512-rows : (run : joinRows .Ran) → joinRows .Ensures run → Says (joinRows .given run) (joinRows .answer run) (joinRows .after run)
+  pub of-any-length : (run : joinLong .Ran) → joinLong .Ensures run → Says (joinLong .given run) (joinLong .answer run) (joinLong .after run)
+  pub units-of-loop : (run : importLoop .Ran) → importLoop .Ensures run → (closure units rows : ℕ) (after : Lists)
+      → ((importLoop .answer run ≡ Units closure units rows) × (importLoop .after run ≡ after))
+      ↔ OneUnitEachOfLoop (importLoop .given run) closure units rows after
+  -- a head has no two assemblies
+  pub one-choice : (most : ℕ) (layers : Layers) (target closure : ℕ) (rows : Table) → ClosureAnswers layers target (Complete closure)
+      → InOrder most layers target rows → (head : ℕ) → Head layers target rows head → (choice other : ℕ → ℕ) → AssemblesOwn layers rows head choice
+      → AssemblesOwn layers rows head other → (layer : ℕ) → RestsOn layers (layerOf rows head) layer → choice layer ≡ other layer
 
 pub record Demand-2 : Type 0 where
   pub read-and-written : ReadAndWritten
@@ -178,30 +189,42 @@ rewritten read ensured in-2015 bytes own is-accepted wrote written same-count sa
     )
 
 -- what the meaning says of units
-one-unit-each : {given : RowsGiven} {after : Lists} {closure units left : ℕ} → joinRows .Means given (Units closure units left) after
-    → OneUnitEach given closure units left after
-one-unit-each (Joining.over-closure c (Joining.joined o s a)) = record { closed = c; in-order = o; in-one-unit = s; accepted = a }
+one-unit-each : {given : RowsGiven} {after : Lists} {closure units rows : ℕ} → joinRows .Means given (Units closure units rows) after
+    → OneUnitEach given closure units rows after
+one-unit-each (Joining.over-closure c (Joining.joined o s n a)) = record { closed = c; in-order = o; in-one-unit = s; near = n; accepted = a }
 
-units-meant : {given : RowsGiven} {answer : Joined} {lists after : Lists} {closure units left : ℕ} → joinRows .Means given answer lists
-    → answer ≡ Units closure units left → lists ≡ after → OneUnitEach given closure units left after
+units-meant : {given : RowsGiven} {answer : Joined} {left after : Lists} {closure units rows : ℕ} → joinRows .Means given answer left
+    → answer ≡ Units closure units rows → left ≡ after → OneUnitEach given closure units rows after
 units-meant {given} means is-answer is-after = one-unit-each {given = given} (rw (is-answer, is-after) at means)
 
-imported-meant : {given : ImportGiven} {answer : Joined} {lists after : Lists} {closure units left : ℕ} → importLoop .Means given answer lists
-    → answer ≡ Units closure units left → lists ≡ after → OneUnitEachOfLoop given closure units left after
+imported-meant : {given : ImportGiven} {answer : Joined} {left after : Lists} {closure units rows : ℕ} → importLoop .Means given answer left
+    → answer ≡ Units closure units rows → left ≡ after → OneUnitEachOfLoop given closure units rows after
 imported-meant {given} means is-answer is-after = go (rw (is-answer, is-after) at means)
   where
-    go : {closure units left : ℕ} {after : Lists}
-        → Import.Answers (given .reading) (given .bytes) (given .target) (given .rows) (given .lists .numbers) (given .lists .lags)
-        (Units closure units left) (after .numbers) (after .lags)
-        → OneUnitEachOfLoop given closure units left after
+    go : {closure units rows : ℕ} {after : Lists}
+        → Import.Answers (given .reading) (given .bytes) (given .target) (given .rows) (given .before) (Units closure units rows) after
+        → OneUnitEachOfLoop given closure units rows after
     go (Import.loop-accepted streams {layers} a m j) =
-        record {
-          streams = streams;
-          layers = layers;
-          loop-accepted = a;
-          layers-of-loop = m;
-          one-unit-each = one-unit-each {given = record { layers = layers; target = given .target; rows = given .rows; lists = given .lists }} j;
-        }
+        record { streams = streams; layers = layers; loop-accepted = a; layers-of-loop = m; one-unit-each = one-unit-each {given = overLayers given layers} j }
+
+-- whatever is right says so
+says : (given : RowsGiven) {answer : Joined} {left : Lists} → joinRows .Means given answer left → Says given answer left
+says given {answer} {left} means =
+    let computed = joining.joined-only (given .most) (given .layers) (given .target) (given .rows) (given .before) means .is-answer in
+    record {
+      units = λ closure units rows after. (
+        λ e. units-meant {given = given} means (e .0) (e .1),
+        λ u. rows-joined .no-other given {beside = after} means (Joining.over-closure (u .closed) (Joining.joined (u .in-order) (u .in-one-unit) (u .near) (u .accepted))),
+      );
+      unpaired = λ row. (let law = joining.given-15 (given .most) (given .layers) (given .target) (given .rows) (given .before) row in (
+        λ e. (let w = law .0 (sym computed ∙ e) in record { closure = w .0; closed = w .1; in-order = w .2; first = w .3 }),
+        λ u. computed ∙ law .1 (u .closure, u .closed, u .in-order, u .first),
+      ));
+      used-twice = λ row. (let law = joining.given-16 (given .most) (given .layers) (given .target) (given .rows) (given .before) row in (
+        λ e. (let w = law .0 (sym computed ∙ e) in record { closure = w .0; closed = w .1; in-order = w .2; all-paired = w .3; first = w .4 }),
+        λ u. computed ∙ law .1 (u .closure, u .closed, u .in-order, u .all-paired, u .first),
+      ));
+    }
 
 pub demand-2 : Demand-2
 demand-2 =
@@ -217,28 +240,16 @@ demand-2 =
         times-rewritten = λ own header read out room. times.rewritten own header read out room;
       };
       joins = record {
-        units = λ run ensured closure units left after. (
-          λ e. units-meant {given = joinRows .given run} (rows-joined .right run ensured) (e .0) (e .1),
-          λ u. rows-joined .no-other (joinRows .given run) {beside = after} (rows-joined .right run ensured)
-              (Joining.over-closure (u .closed) (Joining.joined (u .in-order) (u .in-one-unit) (u .accepted))),
-        );
-        units-of-loop = λ run ensured closure units left after. (
+        of-512-rows = λ run ensured. says (joinRows .given run) (rows-joined .right run ensured);
+        of-any-length = λ run ensured. says (joinLong .given run) (long-joined .right run ensured);
+        units-of-loop = λ run ensured closure units rows after. (
           λ e. imported-meant {given = importLoop .given run} (loop-imported .right run ensured) (e .0) (e .1),
           λ u. (let each = u .one-unit-each in
               loop-imported .no-other (importLoop .given run) {beside = after} (loop-imported .right run ensured)
               (Import.loop-accepted (u .streams) (u .loop-accepted) (u .layers-of-loop)
-              (Joining.over-closure (each .closed) (Joining.joined (each .in-order) (each .in-one-unit) (each .accepted))))),
+              (Joining.over-closure (each .closed) (Joining.joined (each .in-order) (each .in-one-unit) (each .near) (each .accepted))))),
         );
-        unpaired = λ run ensured row. (let same = rowsJoinedComputed .ensured run ensured .0 in (
-          λ e. (let w = joining.given-15 (joinRows .given run .layers) (joinRows .given run .target) (joinRows .given run .rows) (joinRows .given run .lists .numbers) (joinRows .given run .lists .lags) row .0 (sym same ∙ e) in record { closure = w .0; closed = w .1; in-order = w .2; first = w .3 }),
-          λ u. same ∙ joining.given-15 (joinRows .given run .layers) (joinRows .given run .target) (joinRows .given run .rows) (joinRows .given run .lists .numbers) (joinRows .given run .lists .lags) row .1 (u .closure, u .closed, u .in-order, u .first),
-        ));
-        used-twice = λ run ensured row. (let same = rowsJoinedComputed .ensured run ensured .0 in (
-          λ e. (let w = joining.given-16 (joinRows .given run .layers) (joinRows .given run .target) (joinRows .given run .rows) (joinRows .given run .lists .numbers) (joinRows .given run .lists .lags) row .0 (sym same ∙ e) in
-              record { closure = w .0; closed = w .1; in-order = w .2; all-paired = w .3; first = w .4 }),
-          λ u. same ∙ joining.given-16 (joinRows .given run .layers) (joinRows .given run .target) (joinRows .given run .rows) (joinRows .given run .lists .numbers) (joinRows .given run .lists .lags) row .1 (u .closure, u .closed, u .in-order, u .all-paired, u .first),
-        ));
-        one-choice = λ layers target closure rows closed ordered head is-target choice other a b layer rests.
-            joining.at-most-one-assembly layers target rows [] [] closure closed ordered head is-target choice other a b layer rests;
+        one-choice = λ most layers target closure rows closed ordered head is-head choice other a b layer rests.
+            joining.at-most-one-assembly most layers target rows (lists [] [] []) closure closed ordered head is-head choice other a b layer rests;
       };
     }

@@ -47,10 +47,17 @@ use Rattle.embedding.proofs.Long.{long-lists}
 use Rattle.promised.specs.Calls.{Call, isListed, Promised}
 use Rattle.promised.specs.Readers.{readLoop, loop-read, closureOfTarget, closure-found, closureOfLoop, loop-closure-found, readTimes, times-read}
 use Rattle.promised.specs.Writers.{writeLoop, loop-written, writeTimes, times-written}
-use Rattle.promised.specs.Joiners.{joinTable, table-joined, joinRows, rows-joined, importLoop, loop-imported}
+use Rattle.promised.specs.Joiners.{joinTable, table-joined, joinRows, rows-joined, joinLong, long-joined, importLoop, loop-imported}
 use Rattle.demands.specs.Told.{forC}
-use Rattle.demands.specs.ForC.{thqReadLoop, thqWriteLoop, thqClosure, thqReadTimes, thqWriteTimes, thqJoin, thqImport}
-use Rattle.demands.specs.ForCShown.{thq-loop-read, thq-loop-written, thq-closure-found, thq-times-read, thq-times-written, thq-rows-joined, thq-loop-imported}
+use Rattle.demands.specs.ForC.{thqReadLoop, thqWriteLoop, thqClosure, thqReadTimes, thqWriteTimes}
+use Rattle.demands.specs.JoinsForC.{thqJoin, thqJoinLong, thqImport}
+use Rattle.demands.specs.ForCShown.{thq-loop-read, thq-loop-written, thq-closure-found, thq-times-read, thq-times-written}
+use Rattle.demands.specs.JoinsForCShown.{thq-rows-joined, thq-long-joined, thq-loop-imported}
+use Rattle.demands.specs.Sets.{readLayerSet, addLayer, removeLayer, thqSetRead, thqSetAdd, thqSetRemove, thqSetClosure}
+use Rattle.demands.specs.SetsShown.{set-read, layer-added, layer-removed}
+use Rattle.demands.specs.SetsShown as shown
+use Rattle.demands.specs.Stereo.{thqReadStereo, thqWriteStereo}
+use Rattle.demands.specs.StereoShown.{thq-stereo-read, thq-stereo-written}
 use Rattle.demands.specs.Demand2.{entriesOf, asGiven, LoopRewritten, read-back, rewritten}
 
 -- ---- 'Show that in the new build refusal 10 never occurs.'
@@ -70,6 +77,7 @@ pub record TenNever : Type 0 where
   pub writing-times : Never10 writeTimes
   pub joining-a-table : Never10 joinTable
   pub joining-rows : Never10 joinRows
+  pub joining-long-tables : Never10 joinLong
   pub importing : Never10 importLoop
   -- the functions for C, which answer the number as a number
   pub thq-read-loop : Never10 (forC thqReadLoop)
@@ -78,7 +86,18 @@ pub record TenNever : Type 0 where
   pub thq-read-times : Never10 (forC thqReadTimes)
   pub thq-write-times : Never10 (forC thqWriteTimes)
   pub thq-join : Never10 (forC thqJoin)
+  pub thq-join-long : Never10 (forC thqJoinLong)
   pub thq-import : Never10 (forC thqImport)
+  -- layer sets
+  pub reading-a-layer-set : Never10 readLayerSet
+  pub adding-a-layer : Never10 addLayer
+  pub removing-a-layer : Never10 removeLayer
+  pub thq-set-read : Never10 (forC thqSetRead)
+  pub thq-set-add : Never10 (forC thqSetAdd)
+  pub thq-set-remove : Never10 (forC thqSetRemove)
+  pub thq-set-closure : Never10 (forC thqSetClosure)
+  pub thq-read-stereo : Never10 (forC thqReadStereo)
+  pub thq-write-stereo : Never10 (forC thqWriteStereo)
   -- the listing, and with it the program `layers`, which prints it
   pub listing : (reading : Reading) (bytes rest : List ℕ) → loopText reading bytes ≡ ascii "refused 10 " ++ rest → ⊥
 
@@ -146,6 +165,7 @@ ten-never =
       writing-times = never times-written refl;
       joining-a-table = never table-joined refl;
       joining-rows = never rows-joined refl;
+      joining-long-tables = never long-joined refl;
       importing = never loop-imported refl;
       thq-read-loop = never thq-loop-read refl;
       thq-write-loop = never thq-loop-written refl;
@@ -153,7 +173,17 @@ ten-never =
       thq-read-times = never thq-times-read refl;
       thq-write-times = never thq-times-written refl;
       thq-join = never thq-rows-joined refl;
+      thq-join-long = never thq-long-joined refl;
       thq-import = never thq-loop-imported refl;
+      reading-a-layer-set = never set-read refl;
+      adding-a-layer = never layer-added refl;
+      removing-a-layer = never layer-removed refl;
+      thq-set-read = never shown.thq-set-read refl;
+      thq-set-add = never shown.thq-set-add refl;
+      thq-set-remove = never shown.thq-set-remove refl;
+      thq-set-closure = never shown.thq-set-closure refl;
+      thq-read-stereo = never thq-stereo-read refl;
+      thq-write-stereo = never thq-stereo-written refl;
       listing = never-in-text;
     }
 

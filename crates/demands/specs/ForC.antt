@@ -4,7 +4,6 @@ use Prim.Native.Nat.{ℕ, _*_}
 use mathlib.Core.Bool.{cond}
 use mathlib.Core.List.{List, [], _∷_, _++_}
 use lib.Dec.{eqb, ltb}
-use lib.IntN.{ℤ}
 use lib.ListN.{length, take}
 use denote.Ref.{now}
 use Rattle.buffers.specs.Buffers.{over}
@@ -22,11 +21,7 @@ use Rattle.pes_reader.specs.declared.Answer.{Answer}
 use Rattle.pes_reader.specs.declared.Answer.the-variants as Answer
 use Rattle.pes_writer.specs.declared.Written.{Written as TimesWritten}
 use Rattle.pes_writer.specs.declared.Written.the-variants as TimesWritten
-use Rattle.joining.specs.declared.answer.Joined.{Joined}
-use Rattle.joining.specs.declared.answer.Joined.the-variants as Joined
-use Rattle.rows.specs.Table.{Table, table}
 use Rattle.entry_rows.specs.Rows.{rowsOf, someTooWide, rowCount, entriesIn}
-use Rattle.thoquenry.specs.Joins.{layersGiven}
 use Rattle.thoquenry.proofs.thq_read_loop.Kinds as read-loop-kinds
 use Rattle.thoquenry.proofs.thq_read_loop.Reads as read-loop
 use Rattle.thoquenry.proofs.thq_write_loop.Kinds as write-loop-kinds
@@ -37,15 +32,10 @@ use Rattle.thoquenry.proofs.thq_read_times.Kinds as read-times-kinds
 use Rattle.thoquenry.proofs.thq_read_times.Reads as read-times
 use Rattle.thoquenry.proofs.thq_write_times.Kinds as write-times-kinds
 use Rattle.thoquenry.proofs.thq_write_times.Reads as write-times
-use Rattle.thoquenry.proofs.thq_join.Kinds as join-kinds
-use Rattle.thoquenry.proofs.thq_join.Reads as join
-use Rattle.thoquenry.proofs.thq_import.Kinds as import-kinds
-use Rattle.thoquenry.proofs.thq_import.Reads as imports
 use Rattle.promised.specs.Calls.{Run}
 use Rattle.demands.specs.Told.{ForC, Told, counts, refuses, not-a-call, Says, Retells, If, ByYear}
 use Rattle.promised.specs.Readers.{readLoop, closureOfLoop, readTimes}
 use Rattle.promised.specs.Writers.{writeLoop, TimesGiven, writeTimes}
-use Rattle.promised.specs.Joiners.{Lists, joinRows, importLoop}
 
 -- ---- thq_read_loop
 
@@ -222,106 +212,4 @@ thqWriteTimes =
       numbers = writeTimes .numbers;
       Means = λ given answer after. If (ltb 1 (given .withTref)) (Says (refuses TooWide) (given .out) answer after)
           (Retells writeTimes (timesGiven given) timesWrittenTold (given .out) answer after);
-    }
-
--- ---- thq_join and thq_import
-
--- the three lists
-pub record Three : Type 0 where
-  pub numbers : List ℕ
-  pub lags : List ℤ
-  pub summary : List ℕ
-
--- '`summary` receives three numbers: the set of the closure's layer indices, the number of units, and the number of closure rows in no unit. `numbers`
--- receives the row numbers of the units ..; `lags` a lag beside each. Counts the places written to each of the two.' '17 where one of the three
--- lists is too short.'
-abbrev pub joinedTold : Joined → Lists → List ℕ → Told Three
-joinedTold (Joined.Refused refusal) lists summary = refuses refusal
-joinedTold (Joined.Units set units leftOut) lists summary =
-    cond (ltb (length summary) 3) (refuses NoRoom)
-    (counts (units * size set) (record { numbers = lists .numbers; lags = lists .lags; summary = over (set ∷ units ∷ leftOut ∷ []) summary }))
-
-abbrev pub two : Three → Lists
-two three = record { numbers = three .numbers; lags = three .lags }
-
-pub record JoinGiven : Type 0 where
-  pub present : ℕ
-  pub embedded : List ℕ
-  pub target : ℕ
-  pub rows : Table
-  pub lists : Three
-
--- 'Refusals: 11, 12; then 13 to 16; then 17'
-abbrev pub thqJoin : ForC
-thqJoin =
-    record {
-      Ran = Run 7 join-kinds.ps join-kinds.r;
-      Asks = λ run. join.Pre (run .lifetimes) (run .handed);
-      Ensures = λ run. join.Post (run .lifetimes) (run .handed) (run .answer) (run .left);
-      Given = JoinGiven;
-      Buffers = Three;
-      given = λ run. record {
-        present = run .handed .0;
-        embedded = now (run .handed .1 .0);
-        target = run .handed .1 .1 .0;
-        rows = table (now (run .handed .1 .1 .1 .0)) (now (run .handed .1 .1 .1 .1 .0)) (now (run .handed .1 .1 .1 .1 .1 .0));
-        lists = record {
-          numbers = now (run .handed .1 .1 .1 .1 .1 .1 .0);
-          lags = now (run .handed .1 .1 .1 .1 .1 .1 .1 .0);
-          summary = now (run .handed .1 .1 .1 .1 .1 .1 .1 .1 .0);
-        };
-      };
-      answer = λ run. run .answer;
-      before = λ given. given .lists;
-      after = λ run. record {
-        numbers = now (run .left .1 .1 .1 .1 .1 .1 .0);
-        lags = now (run .left .1 .1 .1 .1 .1 .1 .1 .0);
-        summary = now (run .left .1 .1 .1 .1 .1 .1 .1 .1 .0);
-      };
-      numbers = joinRows .numbers;
-      Means = λ given. Retells joinRows
-          (record { layers = layersGiven (given .present) (given .embedded); target = given .target; rows = given .rows; lists = two (given .lists) })
-          (λ joined lists. joinedTold joined lists (given .lists .summary)) (given .lists);
-    }
-
-pub record ImportGiven : Type 0 where
-  pub reading : ℕ
-  pub bytes : List ℕ
-  pub target : ℕ
-  pub rows : Table
-  pub lists : Three
-
--- 'Refusals: 1 to 9, 11, 12; then 13 to 16; then 17'
-abbrev pub thqImport : ForC
-thqImport =
-    record {
-      Ran = Run 7 import-kinds.ps import-kinds.r;
-      Asks = λ run. imports.Pre (run .lifetimes) (run .handed);
-      Ensures = λ run. imports.Post (run .lifetimes) (run .handed) (run .answer) (run .left);
-      Given = ImportGiven;
-      Buffers = Three;
-      given = λ run. record {
-        reading = run .handed .0;
-        bytes = now (run .handed .1 .0);
-        target = run .handed .1 .1 .0;
-        rows = table (now (run .handed .1 .1 .1 .0)) (now (run .handed .1 .1 .1 .1 .0)) (now (run .handed .1 .1 .1 .1 .1 .0));
-        lists = record {
-          numbers = now (run .handed .1 .1 .1 .1 .1 .1 .0);
-          lags = now (run .handed .1 .1 .1 .1 .1 .1 .1 .0);
-          summary = now (run .handed .1 .1 .1 .1 .1 .1 .1 .1 .0);
-        };
-      };
-      answer = λ run. run .answer;
-      before = λ given. given .lists;
-      after = λ run. record {
-        numbers = now (run .left .1 .1 .1 .1 .1 .1 .0);
-        lags = now (run .left .1 .1 .1 .1 .1 .1 .1 .0);
-        summary = now (run .left .1 .1 .1 .1 .1 .1 .1 .1 .0);
-      };
-      numbers = importLoop .numbers ++ 255 ∷ [];
-      Means = λ given answer after. ByYear (given .reading)
-          (λ known. Retells importLoop
-          (record { reading = known; bytes = given .bytes; target = given .target; rows = given .rows; lists = two (given .lists) })
-          (λ joined lists. joinedTold joined lists (given .lists .summary)) (given .lists) answer after)
-          (Says not-a-call (given .lists) answer after);
     }

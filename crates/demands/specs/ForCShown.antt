@@ -18,7 +18,6 @@ use Rattle.es_loop.specs.declared.entries.Entry.{Entry}
 use Rattle.es_loop.specs.declared.reader.Outcome.{Outcome}
 use Rattle.es_loop.specs.declared.reader.Outcome.the-variants as Outcome
 use Rattle.es_loop.specs.Reading.{loopRead}
-use Rattle.closure.specs.declared.Layers.{Layers}
 use Rattle.closure.specs.declared.Closure.{Closure}
 use Rattle.closure.specs.declared.Closure.the-variants as Closure
 use Rattle.loop_layers.specs.Closures.{loopClosure}
@@ -32,26 +31,19 @@ use Rattle.pes_reader.specs.Reading.{readOf}
 use Rattle.pes_writer.specs.declared.Written.{Written as TimesWritten}
 use Rattle.pes_writer.specs.declared.Written.the-variants as TimesWritten
 use Rattle.pes_writer.specs.Writing.{headerOf, writeOf, bufferOf}
-use Rattle.joining.specs.declared.answer.Joined.{Joined}
-use Rattle.joining.specs.declared.answer.Joined.the-variants as Joined
-use Rattle.rows.specs.Table.{Table}
-use Rattle.joining.specs.Joining.{joinedOf, numbersAfter, lagsAfter}
-use Rattle.importing.specs.Importing.{layersRead, importOf}
 use Rattle.entry_rows.specs.Rows.{rowsOf, someTooWide, rowCount, entriesIn}
 use Rattle.c_answers.specs.declared.Asked.{Asked}
-use Rattle.c_answers.specs.Answers.{accepted, askedFor, Reply, reply, unchanged}
+use Rattle.c_answers.specs.Answers.{accepted, Reply, reply, unchanged}
 use Rattle.thoquenry.specs.Loops.{loopLaid, rowsAsked, readLoop as cReadLoop, loopWritten, writeLoop as cWriteLoop, closureLaid, closureAsked, closureCall}
 use Rattle.thoquenry.specs.Times.{timesRead, readTimes as cReadTimes, bytesWritten, timesWritten, writeTimes as cWriteTimes}
-use Rattle.thoquenry.specs.Joins.{JoinReply, layersGiven, withSummary, joinReply, joinCall, importAsked}
-use Rattle.thoquenry.specs.Bounds.{SmallTimes, small-read, SmallHeader, small-header, SmallOutcome, small-loop, SmallWritten, small-written, SmallClosure, small-closure, size-short, Few, few-joined, few-imported, few-places}
+use Rattle.thoquenry.specs.Bounds.{SmallTimes, small-read, SmallHeader, small-header, SmallOutcome, small-loop, SmallWritten, small-written, SmallClosure, small-closure, size-short}
 use Rattle.promised.specs.Calls.{isListed, Promised}
 use Rattle.promised.specs.Shown.{listed-first, listed-second}
 use Rattle.demands.specs.Told.{Told, counts, refuses, forC}
 use Rattle.demands.specs.ToldShown.{code, leaves, numberTold, Fits, told-promised, if-told, retold, toldByYear, each-year, by-year, asked}
 use Rattle.promised.specs.Readers.{outcomeNumber, readLoop, loopReadComputed, LoopTargetGiven, closureNumber, closureOfLoop, loopClosureComputed, timesNumber, readTimes, timesReadComputed}
 use Rattle.promised.specs.Writers.{EntriesGiven, TimesGiven, writtenNumber, writeLoop, loopWrittenComputed, timesWrittenNumber, writeTimes, timesWrittenComputed}
-use Rattle.promised.specs.Joiners.{Lists, RowsGiven, joinedNumber, joinRows, rowsJoinedComputed, ImportGiven as BaseImportGiven, importLoop, importComputed}
-use Rattle.demands.specs.ForC.{ReadLoopGiven, loopTold, loopReadTold, thqReadLoop, WriteLoopGiven, writtenTold, thqWriteLoop, ClosureGiven, closureTold, thqClosure, ReadTimesGiven, timesTold, thqReadTimes, WriteTimesGiven, timesGiven, timesWrittenTold, thqWriteTimes, Three, two, joinedTold, JoinGiven, thqJoin, ImportGiven, thqImport}
+use Rattle.demands.specs.ForC.{ReadLoopGiven, loopTold, loopReadTold, thqReadLoop, WriteLoopGiven, writtenTold, thqWriteLoop, ClosureGiven, closureTold, thqClosure, ReadTimesGiven, timesTold, thqReadTimes, WriteTimesGiven, timesGiven, timesWrittenTold, thqWriteTimes}
 
 -- ---- one buffer
 
@@ -73,9 +65,9 @@ loop-tells Outcome.Accepted count entries room =
     (unchanged NoRoom room) (reply (accepted count) (over (rowsOf entries) room)) (refl, refl) (refl, refl)
 
 loop-fits : (outcome : Outcome) (count : ℕ) (entries : List Entry) (room : List ℕ) → SmallOutcome outcome → count ≤ 32768 → Fits (loopTold outcome count entries room)
-loop-fits (Outcome.Refused refusal) count entries room h k = h
+loop-fits (Outcome.Refused refusal) count entries room h k = omega arith
 loop-fits Outcome.Accepted count entries room h k =
-    either-way Fits (ltb (length room) (length entries * 80)) (refuses NoRoom) (counts count (over (rowsOf entries) room)) (omega arith) k
+    either-way Fits (ltb (length room) (length entries * 80)) (refuses NoRoom) (counts count (over (rowsOf entries) room)) (omega arith) (omega arith)
 
 loop-listed : (outcome : Outcome) (count : ℕ) (entries : List Entry) (room : List ℕ) → isListed (readLoop .numbers) (outcomeNumber outcome) ≡ true
     → isListed (thqReadLoop .numbers) (numberTold (loopTold outcome count entries room)) ≡ true
@@ -136,9 +128,9 @@ written-tells : (written : Written) (bytes out : List ℕ)
 written-tells (Written.Bytes count) bytes out = (refl, refl)
 written-tells (Written.Refused refusal) bytes out = (refl, refl)
 
-written-fits : (written : Written) (left : List ℕ) → SmallWritten written → Fits (writtenTold written left)
-written-fits (Written.Bytes count) left h = h
-written-fits (Written.Refused refusal) left h = h
+pub written-fits : (written : Written) (left : List ℕ) → SmallWritten written → Fits (writtenTold written left)
+written-fits (Written.Bytes count) left h = omega arith
+written-fits (Written.Refused refusal) left h = omega arith
 
 written-listed : (written : Written) (left : List ℕ) → isListed (writeLoop .numbers) (writtenNumber written) ≡ true
     → isListed (writeLoop .numbers) (numberTold (writtenTold written left)) ≡ true
@@ -174,12 +166,11 @@ closure-tells (Closure.Complete members) room =
     tells-either (ltb (length room) 1) (refuses NoRoom) (counts (size members) (over (members ∷ []) room)) room
     (unchanged NoRoom room) (reply (accepted (size members)) (over (members ∷ []) room)) (refl, refl) (refl, refl)
 
-closure-fits : (found : Closure) (room : List ℕ) → SmallClosure found → Fits (closureTold found room)
-closure-fits (Closure.Refused refusal) room h = h
+pub closure-fits : (found : Closure) (room : List ℕ) → SmallClosure found → Fits (closureTold found room)
+closure-fits (Closure.Refused refusal) room h = omega arith
 closure-fits (Closure.Complete members) room h =
     let small : size members ≤ 64 = size-short members in
-    let few : size members ≤ 32768 = omega arith in
-    either-way Fits (ltb (length room) 1) (refuses NoRoom) (counts (size members) (over (members ∷ []) room)) (omega arith) few
+    either-way Fits (ltb (length room) 1) (refuses NoRoom) (counts (size members) (over (members ∷ []) room)) (omega arith) (omega arith)
 
 closure-listed : (found : Closure) (room : List ℕ) → isListed (closureOfLoop .numbers) (closureNumber found) ≡ true
     → isListed (thqClosure .numbers) (numberTold (closureTold found room)) ≡ true
@@ -227,7 +218,7 @@ times-tells (Answer.Refused refusal) room = (refl, refl)
 
 times-fits : (read : Answer) (room : List ℕ) → SmallTimes read → Fits (timesTold read room)
 times-fits (Answer.Read header) room h = omega arith
-times-fits (Answer.Refused refusal) room h = h
+times-fits (Answer.Refused refusal) room h = omega arith
 
 times-listed : (read : Answer) (room : List ℕ) → isListed (readTimes .numbers) (timesNumber read) ≡ true
     → isListed (thqReadTimes .numbers) (numberTold (timesTold read room)) ≡ true
@@ -286,8 +277,8 @@ write-times-replied given =
     (unchanged TooWide (given .out)) (timesWritten (header .times) (header .withTref) (given .out)) (refl, refl) (header-tells header (headerWritten header))
 
 header-fits : (written : TimesWritten) (left : List ℕ) → SmallHeader written → Fits (timesWrittenTold written left)
-header-fits (TimesWritten.Bytes count) left h = h
-header-fits (TimesWritten.Refused refusal) left h = h
+header-fits (TimesWritten.Bytes count) left h = omega arith
+header-fits (TimesWritten.Refused refusal) left h = omega arith
 
 header-listed : (written : TimesWritten) (left : List ℕ) → isListed (writeTimes .numbers) (timesWrittenNumber written) ≡ true
     → isListed (writeTimes .numbers) (numberTold (timesWrittenTold written left)) ≡ true
@@ -308,128 +299,5 @@ thq-times-written =
           (headerSaid (timesGiven given)) refl
           (let header : TimesGiven = timesGiven given in
           header-listed (headerWritten header) (headerBy header (headerWritten header)) (timesWrittenComputed .listed header));
-      without-0 = refl;
-    })
-
--- ---- thq_join and thq_import
-
--- the reply that the function's contract names tells this, with its three lists
-abbrev TellsThree : Told Three → Three → JoinReply → Type 0
-TellsThree t before reply =
-    (reply .answer ≡ code t) × (reply .numbers ≡ leaves t before .numbers) × (reply .lags ≡ leaves t before .lags) × (reply .summary ≡ leaves t before .summary)
-
-module _ (layers : Layers) (target : ℕ) (rows : Table) (lists : Three) where
-  abbrev listsBy : Joined → Lists
-  listsBy joined = record { numbers = numbersAfter layers target rows joined (lists .numbers); lags = lagsAfter layers target rows joined (lists .lags) }
-
-  abbrev joinedSaid : Joined → Told Three
-  joinedSaid joined = joinedTold joined (listsBy joined) (lists .summary)
-
-  joined-tells : (joined : Joined)
-      → TellsThree (joinedSaid joined) lists (joinReply layers target rows (withSummary (length (lists .summary)) joined) (lists .numbers) (lists .lags) (lists .summary))
-  joined-tells (Joined.Refused refusal) = (refl, refl, refl, refl)
-  joined-tells (Joined.Units set units leftOut) = by (ltb (length (lists .summary)) 3)
-    where
-      by : (short : Bool) → TellsThree
-          (cond short (refuses NoRoom) (counts (units * size set) (record {
-            numbers = listsBy (Joined.Units set units leftOut) .numbers;
-            lags = listsBy (Joined.Units set units leftOut) .lags;
-            summary = over (set ∷ units ∷ leftOut ∷ []) (lists .summary);
-          }))) lists
-          (joinReply layers target rows (cond short (Joined.Refused NoRoom) (Joined.Units set units leftOut)) (lists .numbers) (lists .lags) (lists .summary))
-      by true = (refl, refl, refl, refl)
-      by false = (refl, refl, refl, refl)
-
-joined-fits : (joined : Joined) (lists : Lists) (summary : List ℕ) → Few joined → Fits (joinedTold joined lists summary)
-joined-fits (Joined.Refused refusal) lists summary h = h
-joined-fits (Joined.Units set units leftOut) lists summary h =
-    either-way Fits (ltb (length summary) 3) (refuses NoRoom) _ (omega arith) (few-places units (size set) h (size-short set))
-
-joined-listed : (numbers : List ℕ) → isListed numbers (some 17) ≡ true → (joined : Joined) (lists : Lists) (summary : List ℕ)
-    → isListed numbers (joinedNumber joined) ≡ true → isListed numbers (numberTold (joinedTold joined lists summary)) ≡ true
-joined-listed numbers no-room (Joined.Refused refusal) lists summary e = e
-joined-listed numbers no-room (Joined.Units set units leftOut) lists summary e =
-    either-way (λ (t : Told Three). isListed numbers (numberTold t) ≡ true) (ltb (length summary) 3) (refuses NoRoom) _ no-room refl
-
--- what the contract ensures, by the reply that it names
-by-reply : (t : Told Three) (before : Three) (reply : JoinReply) (answer : ℕ) (after : Three) → TellsThree t before reply
-    → (answer ≡ reply .answer) × (after .numbers ≡ reply .numbers) × (after .lags ≡ reply .lags) × (after .summary ≡ reply .summary)
-    → (answer ≡ code t) × (after ≡ leaves t before)
-by-reply t before reply answer after p e = (
-  e .0 ∙ p .0,
-  λ i. record { numbers = (e .1 ∙ p .1) i; lags = (e .2 ∙ p .2) i; summary = (e .3 ∙ p .3) i },
-)
-
-abbrev rowsGiven : JoinGiven → RowsGiven
-rowsGiven given =
-    record { layers = layersGiven (given .present) (given .embedded); target = given .target; rows = given .rows; lists = two (given .lists) }
-
-abbrev rowsJoined : JoinGiven → Joined
-rowsJoined given =
-    joinedOf (layersGiven (given .present) (given .embedded)) (given .target) (given .rows) (length (given .lists .numbers)) (length (given .lists .lags))
-
-abbrev toldJoin : JoinGiven → Told Three
-toldJoin given = joinedSaid (layersGiven (given .present) (given .embedded)) (given .target) (given .rows) (given .lists) (rowsJoined given)
-
-abbrev joinFor : JoinGiven → JoinReply
-joinFor given =
-    joinCall (given .present) (given .embedded) (given .target) (given .rows) (given .lists .numbers) (given .lists .lags) (given .lists .summary)
-
-join-replied : (given : JoinGiven) → TellsThree (toldJoin given) (given .lists) (joinFor given)
-join-replied given =
-    joined-tells (layersGiven (given .present) (given .embedded)) (given .target) (given .rows) (given .lists) (rowsJoined given)
-
-pub thq-rows-joined : Promised (forC thqJoin)
-thq-rows-joined =
-    told-promised thqJoin toldJoin (record {
-      asks-nothing = λ run. tt;
-      ensured = λ run e. by-reply (toldJoin (thqJoin .given run)) (thqJoin .before (thqJoin .given run)) (joinFor (thqJoin .given run)) (thqJoin .answer run)
-          (thqJoin .after run) (join-replied (thqJoin .given run)) (e .0, e .1 .0, e .1 .1 .0, e .1 .1 .1);
-      exactly = λ given answer after. retold rowsJoinedComputed (rowsGiven given) (λ joined lists. joinedTold joined lists (given .lists .summary)) (given .lists) answer after;
-      fits = λ given. joined-fits (rowsJoined given) _ (given .lists .summary)
-          (few-joined (layersGiven (given .present) (given .embedded)) (given .target) (given .rows) (length (given .lists .numbers)) (length (given .lists .lags)));
-      listed = λ given. joined-listed (joinRows .numbers) refl (rowsJoined given) _ (given .lists .summary) (rowsJoinedComputed .listed (rowsGiven given));
-      without-0 = refl;
-    })
-
-abbrev loopGiven : ImportGiven → Reading → BaseImportGiven
-loopGiven given reading = record { reading = reading; bytes = given .bytes; target = given .target; rows = given .rows; lists = two (given .lists) }
-
-abbrev importedUnder : ImportGiven → Reading → Joined
-importedUnder given reading =
-    importOf reading (given .bytes) (given .target) (given .rows) (length (given .lists .numbers)) (length (given .lists .lags))
-
-abbrev importUnder : ImportGiven → Reading → Told Three
-importUnder given reading =
-    joinedSaid (layersRead (loopRead reading (given .bytes))) (given .target) (given .rows) (given .lists) (importedUnder given reading)
-
-abbrev toldImport : ImportGiven → Told Three
-toldImport given = toldByYear (given .reading) (importUnder given)
-
-abbrev importFor : ImportGiven → Asked → JoinReply
-importFor given a =
-    importAsked a (given .bytes) (given .target) (given .rows) (given .lists .numbers) (given .lists .lags) (given .lists .summary)
-
-import-replied : (given : ImportGiven) → TellsThree (toldImport given) (given .lists) (importFor given (askedFor (given .reading)))
-import-replied given =
-    asked (λ (a : Asked) (t : Told Three). TellsThree t (given .lists) (importFor given a)) (importUnder given) (given .reading)
-    (λ reading. joined-tells (layersRead (loopRead reading (given .bytes))) (given .target) (given .rows) (given .lists) (importedUnder given reading))
-    (refl, refl, refl, refl)
-
-pub thq-loop-imported : Promised (forC thqImport)
-thq-loop-imported =
-    told-promised thqImport toldImport (record {
-      asks-nothing = λ run. tt;
-      ensured = λ run e. (let given = thqImport .given run in
-          by-reply (toldImport given) (given .lists) (importFor given (askedFor (given .reading))) (thqImport .answer run) (thqImport .after run)
-          (import-replied given) (e .0, e .1 .0, e .1 .1 .0, e .1 .1 .1));
-      exactly = λ given answer after. by-year (given .reading) (importUnder given) (given .lists) answer after
-          (λ reading. retold importComputed (loopGiven given reading) (λ joined lists. joinedTold joined lists (given .lists .summary)) (given .lists) answer after);
-      fits = λ given. each-year Fits (given .reading) (importUnder given)
-          (λ reading. joined-fits (importedUnder given reading) _ (given .lists .summary)
-          (few-imported reading (given .bytes) (given .target) (given .rows) (length (given .lists .numbers)) (length (given .lists .lags)))) tt;
-      listed = λ given. each-year (λ (t : Told Three). isListed (thqImport .numbers) (numberTold t) ≡ true) (given .reading) (importUnder given)
-          (λ reading. joined-listed (thqImport .numbers) refl (importedUnder given reading) _ (given .lists .summary)
-          (listed-first (importLoop .numbers) (255 ∷ []) (joinedNumber (importedUnder given reading)) (importComputed .listed (loopGiven given reading)))) refl;
       without-0 = refl;
     })

@@ -5,7 +5,7 @@
 use Prim.Native.Nat.{ℕ, _+_, _*_}
 use mathlib.Core.List.{List, [], _∷_, _++_}
 use mathlib.Core.Path.{_≡_, refl}
-use lib.IntN.{ℤ, pos, negsuc}
+use lib.IntN.{pos}
 use lib.ListN.{take, drop, replicate}
 use Rattle.sets.specs.Sets.{size}
 use Rattle.assembling.specs.Assemblies.{edgesOf, membersOf}
@@ -14,22 +14,27 @@ use Rattle.entry_rows.specs.Rows.{headOf, tailOf, rowTooWide, entryIn}
 use Rattle.c_answers.specs.Answers.{Reply, reply}
 use Rattle.thoquenry.specs.Loops.{readLoop, writeLoop, closureCall}
 use Rattle.thoquenry.specs.Times.{readTimes}
-use Rattle.thoquenry.specs.Joins.{JoinReply, joinCall, importCall}
+use Rattle.unit_lists.specs.Sequence.{headsByLayer, Lists, lists}
+use Rattle.thoquenry_joins.specs.Joins.{JoinReply, joinCall, joinLongCall, importCall}
 use Rattle.word_pins.specs.Words.{WordsPinned, words-pinned}
 use Rattle.record_pins.specs.Records.{RecordsPinned, records-pinned}
 use Rattle.call_pins.specs.Loops.{distinct, LoopsPinned, loops-pinned}
 use Rattle.call_pins.specs.Times.{TimesPinned, times-pinned}
-use Rattle.call_pins.specs.Rows.{spare, RowsPinned, rows-pinned}
+use Rattle.call_pins.specs.Rows.{spare, fives, spareUnits, RowsPinned, rows-pinned}
 
--- what thq_join and thq_import leave: the number, the row numbers, the lags, and the summary
-abbrev pub leaves : ℕ → List ℕ → List ℤ → List ℕ → JoinReply
-leaves answer numbers lags summary = record { answer = answer; numbers = numbers; lags = lags; summary = summary }
+-- what thq_join, thq_join_long and thq_import leave: the number, the row numbers with their lags and the sizes, and the summary
+abbrev pub leaves : ℕ → Lists → List ℕ → JoinReply
+leaves answer after summary = record { answer = answer; after = after; summary = summary }
+
+abbrev fours : Lists
+fours = lists (5 ∷ 5 ∷ 5 ∷ 5 ∷ []) (pos 5 ∷ pos 5 ∷ pos 5 ∷ pos 5 ∷ []) (5 ∷ 5 ∷ 5 ∷ 5 ∷ [])
 
 -- two layers, the second on the first, and four rows, the last with this match time
+abbrev rowsUpTo : ℕ → Table
+rowsUpTo last = table (0 ∷ 1 ∷ 0 ∷ 1 ∷ []) (9000 ∷ 9000 ∷ 12600 ∷ 12000 ∷ []) (9000 ∷ 9000 ∷ 12600 ∷ last ∷ [])
+
 abbrev pub joins : ℕ → List ℕ → JoinReply
-joins last summary =
-    joinCall 0b11 (0 ∷ 0b1 ∷ []) 1 (table (0 ∷ 1 ∷ 0 ∷ 1 ∷ []) (9000 ∷ 9000 ∷ 12600 ∷ 12000 ∷ []) (9000 ∷ 9000 ∷ 12600 ∷ last ∷ []))
-    (5 ∷ 5 ∷ 5 ∷ 5 ∷ []) (pos 5 ∷ pos 5 ∷ pos 5 ∷ pos 5 ∷ []) summary
+joins last summary = joinCall 0b11 (0 ∷ 0b1 ∷ []) 1 (rowsUpTo last) fours summary
 
 -- a plain 0x1B of PID 256 and a plain 0x20 of PID 257, and their rows of numbers
 abbrev twoViews : List ℕ
@@ -62,13 +67,17 @@ pub record ForCPinned : Type 0 where
   pub times : readTimes
       (0x00 ∷ 0x00 ∷ 0x01 ∷ 0xE0 ∷ 0x00 ∷ 0x00 ∷ 0x84 ∷ 0xC1 ∷ 0x12 ∷ 0x31 ∷ 0x00 ∷ 0x01 ∷ 0x07 ∷ 0x09 ∷ 0x11 ∷ 0x00 ∷ 0x01 ∷ 0x04 ∷ 0xB1 ∷ 0x0F ∷ 0x86 ∷ 0xFE ∷ 0xF1 ∷ 0x00 ∷ 0x01 ∷ 0x02 ∷ 0x59 ∷ [])
       (5 ∷ 5 ∷ 5 ∷ 5 ∷ 5 ∷ 5 ∷ []) ≡ reply (0 + 256 * 5) (900 ∷ 600 ∷ 300 ∷ 1 ∷ 27 ∷ 5 ∷ [])
-  -- the closure's set, one unit, and two closure rows in none; two places written to each list
-  pub imported : importCall 2015 distinct 9 spare (5 ∷ 5 ∷ 5 ∷ []) (pos 5 ∷ pos 5 ∷ []) (5 ∷ 5 ∷ 5 ∷ 5 ∷ [])
-      ≡ leaves (0 + 256 * 2) (0 ∷ 1 ∷ 5 ∷ []) (negsuc 9 ∷ pos 0 ∷ []) (0b1010000000 ∷ 1 ∷ 2 ∷ 5 ∷ [])
-  pub joined : joins 12600 (5 ∷ 5 ∷ 5 ∷ []) ≡ leaves (0 + 256 * 4) (0 ∷ 1 ∷ 2 ∷ 3 ∷ []) (pos 0 ∷ pos 0 ∷ pos 600 ∷ pos 0 ∷ []) (0b11 ∷ 2 ∷ 0 ∷ [])
-  pub unpaired : joins 12601 (5 ∷ 5 ∷ 5 ∷ []) ≡ leaves (15 + 256 * 3) (5 ∷ 5 ∷ 5 ∷ 5 ∷ []) (pos 5 ∷ pos 5 ∷ pos 5 ∷ pos 5 ∷ []) (5 ∷ 5 ∷ 5 ∷ [])
-  pub used-twice : joins 9000 (5 ∷ 5 ∷ 5 ∷ []) ≡ leaves (16 + 256 * 3) (5 ∷ 5 ∷ 5 ∷ 5 ∷ []) (pos 5 ∷ pos 5 ∷ pos 5 ∷ pos 5 ∷ []) (5 ∷ 5 ∷ 5 ∷ [])
-  pub no-room-for-summary : joins 12600 (5 ∷ 5 ∷ []) ≡ leaves (17 + 256 * 0) (5 ∷ 5 ∷ 5 ∷ 5 ∷ []) (pos 5 ∷ pos 5 ∷ pos 5 ∷ pos 5 ∷ []) (5 ∷ 5 ∷ [])
+  -- the closure's set and three units; four places written to the first two lists, and three sizes
+  pub imported : importCall 2015 distinct 9 spare fives (5 ∷ 5 ∷ 5 ∷ []) ≡ leaves (0 + 256 * 4) spareUnits (0b1010000000 ∷ 3 ∷ 5 ∷ [])
+  pub joined : joins 12600 (5 ∷ 5 ∷ [])
+      ≡ leaves (0 + 256 * 4) (lists (0 ∷ 1 ∷ 2 ∷ 3 ∷ []) (pos 0 ∷ pos 0 ∷ pos 600 ∷ pos 0 ∷ []) (2 ∷ 2 ∷ 5 ∷ 5 ∷ [])) (0b11 ∷ 2 ∷ [])
+  pub unpaired : joins 12601 (5 ∷ 5 ∷ 5 ∷ []) ≡ leaves (15 + 256 * 3) fours (5 ∷ 5 ∷ 5 ∷ [])
+  pub used-twice : joins 9000 (5 ∷ 5 ∷ 5 ∷ []) ≡ leaves (16 + 256 * 3) fours (5 ∷ 5 ∷ 5 ∷ [])
+  pub no-room-for-summary : joins 12600 (5 ∷ []) ≡ leaves (17 + 256 * 0) fours (5 ∷ [])
+  -- a work space for four rows, and for three
+  pub joined-long : joinLongCall 4 0b11 (0 ∷ 0b1 ∷ []) 1 (rowsUpTo 12600) fours (5 ∷ 5 ∷ [])
+      ≡ leaves (0 + 256 * 4) (lists (0 ∷ 1 ∷ 2 ∷ 3 ∷ []) (pos 0 ∷ pos 0 ∷ pos 600 ∷ pos 0 ∷ []) (2 ∷ 2 ∷ 5 ∷ 5 ∷ [])) (0b11 ∷ 2 ∷ [])
+  pub too-long : joinLongCall 3 0b11 (0 ∷ 0b1 ∷ []) 1 (rowsUpTo 12600) fours (5 ∷ 5 ∷ []) ≡ leaves (13 + 256 * 0) fours (5 ∷ 5 ∷ [])
 
 pub record Pinned : Type 0 where
   pub words : WordsPinned
@@ -79,7 +88,7 @@ pub record Pinned : Type 0 where
   pub for-c : ForCPinned
 
 for-c-pinned : ForCPinned
-unfolding size edgesOf membersOf headOf tailOf rowTooWide entryIn
+unfolding size edgesOf membersOf headsByLayer headOf tailOf rowTooWide entryIn
 for-c-pinned =
     record {
       closure = refl;
@@ -101,6 +110,8 @@ for-c-pinned =
       unpaired = refl;
       used-twice = refl;
       no-room-for-summary = refl;
+      joined-long = refl;
+      too-long = refl;
     }
 
 -- THE STATEMENT: every pin holds.

@@ -1,6 +1,6 @@
 -- How the promise of a function for C is shown: by what it tells of a call of the library, whose promise is shown.
 -- Assumes nothing.
-use Prim.Native.Nat.{ℕ, _≤_}
+use Prim.Native.Nat.{ℕ, _<_, _^_}
 use mathlib.Core.Bool.{Bool, true, false, cond}
 use mathlib.Core.List.{List}
 use mathlib.Core.Logic.{_↔_}
@@ -13,12 +13,11 @@ use Rattle.combinators.specs.Bools.{both-ways, either-way}
 use Rattle.combinators.specs.Members.{member}
 use Rattle.vocabulary.specs.declared.stream_types.Reading.{Reading}
 use Rattle.vocabulary.specs.declared.stream_types.Reading.the-variants.{Edition2009, Edition2015}
-use Rattle.vocabulary.specs.Refusals.{numberOf}
+use Rattle.vocabulary.specs.Refusals.{numberOf, placeOf}
 use Rattle.c_answers.specs.declared.Asked.{Asked}
 use Rattle.c_answers.specs.declared.Asked.the-variants.{Known, Neither}
 use Rattle.c_answers.specs.Answers.{accepted, refused, notACall, askedFor}
 use Rattle.c_answers.proofs.Macros.{refused-number, refused-place, accepted-number, accepted-count}
-use Rattle.thoquenry.specs.Bounds.{Placed}
 use Rattle.promised.specs.Calls.{Call, isListed, Promised}
 use Rattle.promised.specs.Shown.{Computed, promised, not-refused}
 use Rattle.demands.specs.Told.{Told, counts, refuses, not-a-call, Reads, Says, Retells, If, ByYear, ForC, toldNumber, forC}
@@ -42,13 +41,13 @@ module _ {B : Type 0} where
 
   -- a value that a caller gets back whole
   abbrev pub Fits : Told B → Type 0
-  Fits (counts count left) = count ≤ 32768
-  Fits (refuses refusal) = Placed refusal
+  Fits (counts count left) = count < 2 ^ 56
+  Fits (refuses refusal) = placeOf refusal < 2 ^ 56
   Fits not-a-call = Unit {0}
 
   says : (t : Told B) (before : B) → Fits t → Says t before (code t) (leaves t before)
-  says (counts count left) before h = record { number-read = accepted-number count; value-read = accepted-count count (omega arith); left-so = refl }
-  says (refuses refusal) before h = record { number-read = refused-number refusal; value-read = refused-place refusal (omega arith); left-so = refl }
+  says (counts count left) before h = record { number-read = accepted-number count; value-read = accepted-count count h; left-so = refl }
+  says (refuses refusal) before h = record { number-read = refused-number refusal; value-read = refused-place refusal h; left-so = refl }
   says not-a-call before h = record { number-read = refl; value-read = refl; left-so = refl }
 
   reads-one : {number value : ℕ} {left : B} {answer other : ℕ} {after beside : B} → Reads number value left answer after

@@ -2,7 +2,6 @@
 -- Assumes nothing.
 use Prim.Native.Nat.{ℕ}
 use mathlib.Core.List.{List}
-use lib.IntN.{ℤ}
 use Rattle.vocabulary.specs.declared.stream_types.Reading.{Reading}
 use Rattle.es_loop.specs.declared.entries.Entry.{Entry}
 use Rattle.es_loop.specs.declared.entries.Stream.{Stream}
@@ -12,6 +11,7 @@ use Rattle.loop_writer.specs.declared.writer.Written.the-variants.{Bytes}
 use Rattle.loop_writer.specs.Meaning as Writer
 use Rattle.loop_layers.specs.Meaning as LoopClosure
 use Rattle.rows.specs.Table.{Table}
+use Rattle.unit_lists.specs.Sequence.{Lists}
 use Rattle.importing.specs.Meaning as Import
 use Rattle.agreement.specs.Meaning.{Answer, Gives}
 use Rattle.embedding.specs.Before.{accepted}
@@ -23,8 +23,8 @@ entries-kept : {reading : Reading} {bytes : List ℕ} {streams : List Stream} �
     → Loop.Answers reading bytes (acceptedNow streams)
 entries-kept (Read.accepts short cuts none) = Loop.accepts short cuts (λ n k now. none n k (Read.as-now now))
 
-given-still : {reading : Reading} {bytes : List ℕ} {target : ℕ} {t : Table} {numbers : List ℕ} {lags : List ℤ} {a : Answer}
-    → Gave reading bytes target t numbers lags a → Gives reading bytes target t numbers lags a
+given-still : {reading : Reading} {bytes : List ℕ} {target : ℕ} {t : Table} {before : Lists} {a : Answer}
+    → Gave reading bytes target t before a → Gives reading bytes target t before a
 given-still gave =
     let read = entries-kept (gave .loop-accepted) in
     record {

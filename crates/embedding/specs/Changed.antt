@@ -5,7 +5,6 @@
 use Prim.Native.Nat.{ℕ, _<_}
 use mathlib.Core.List.{List, map}
 use mathlib.Core.Path.{_≡_}
-use lib.IntN.{ℤ}
 use Rattle.combinators.specs.Lists.{Nth}
 use Rattle.vocabulary.specs.declared.stream_types.Reading.{Reading}
 use Rattle.vocabulary.specs.declared.stream_types.Reading.the-variants.{Edition2009, Edition2015}
@@ -19,7 +18,8 @@ use Rattle.loop_writer.specs.Meaning as Writer
 use Rattle.closure.specs.declared.Layers.{Layers}
 use Rattle.closure.specs.Meaning as Target
 use Rattle.loop_layers.specs.Meaning.{LayersOf}
-use Rattle.rows.specs.Table.{Table}
+use Rattle.rows.specs.Table.{Table, mostRows}
+use Rattle.unit_lists.specs.Sequence.{Lists}
 use Rattle.joining.specs.Meaning as Joining
 use Rattle.agreement.specs.Meaning.{Answer, Gives}
 use Rattle.embedding.specs.Before.{MoreThan8, Told, refused, accepted}
@@ -28,23 +28,23 @@ use Rattle.embedding.specs.WritingBefore as Written
 
 -- ---- 'Every loop that was accepted keeps its bytes and its answers.'
 
--- What a reading of before gave for a loop that it accepted, a target, a row table and two lists: in the layers of the entries that it answered, the
+-- What a reading of before gave for a loop that it accepted, a target, a row table and three lists: in the layers of the entries that it answered, the
 -- closure, and the answer of joining with what the lists then held.
-pub record Gave (reading : Reading) (bytes : List ℕ) (target : ℕ) (t : Table) (numbers : List ℕ) (lags : List ℤ) (a : Answer) : Type 0 where
+pub record Gave (reading : Reading) (bytes : List ℕ) (target : ℕ) (t : Table) (before : Lists) (a : Answer) : Type 0 where
   pub streams : List Stream
   pub loop-accepted : Read.Answers reading bytes (accepted streams)
   pub layers : Layers
   pub layers-of-loop : LayersOf (map entryOf streams) layers
   pub closure : Target.Answers layers target (a .closure)
-  pub joined : Joining.Answers layers target t numbers lags (a .joined) (a .numbers) (a .lags)
+  pub joined : Joining.Answers mostRows layers target t before (a .joined) (a .after)
 
 -- Both readings answer the entries that they answered, and give the closure and the import that they gave, the content of the lists included; and the
 -- writer writes the bytes that it wrote.
 pub record AnswersKept : Type 0 where
   pub entries : {reading : Reading} {bytes : List ℕ} {streams : List Stream} → Read.Answers reading bytes (accepted streams)
       → Loop.Answers reading bytes (acceptedNow streams)
-  pub closure-and-import : {reading : Reading} {bytes : List ℕ} {target : ℕ} {t : Table} {numbers : List ℕ} {lags : List ℤ} {a : Answer}
-      → Gave reading bytes target t numbers lags a → Gives reading bytes target t numbers lags a
+  pub closure-and-import : {reading : Reading} {bytes : List ℕ} {target : ℕ} {t : Table} {before : Lists} {a : Answer}
+      → Gave reading bytes target t before a → Gives reading bytes target t before a
   pub bytes-written : {count n : ℕ} {array : List Entry} {old new : List ℕ} → Written.Answers count array old (accepted n) new
       → Writer.Answers count array old (Bytes n) new
 

@@ -177,7 +177,7 @@ fn lay_tail(row: &mut [u16], record: Record, embedded: [LayerIndex; 63])
     }
 }
 
-fn lay_row(row: &mut [u16], entry: Entry)
+pub fn lay_row(row: &mut [u16], entry: Entry)
     requires { ⌜ length (now row) ≡ 80 ⌝ }
     ensures { λ r. ⌜ now (row .exit) ≡ rowOf entry ⌝ }
 {

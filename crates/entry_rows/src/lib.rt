@@ -5,6 +5,10 @@ mod laying;
 mod taking;
 mod writing;
 
+pub use laying::lay_row;
 pub use laying::put_rows;
+pub use taking::entry_in;
 pub use taking::some_too_wide;
+pub use writing::pair_in;
+pub use writing::weigh_rows;
 pub use writing::write_rows;

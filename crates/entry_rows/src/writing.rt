@@ -21,7 +21,7 @@ use loop_writer::weigh_next;
 use vocabulary::Refusal;
 
 // Whether the rows have the two views without a hierarchy descriptor, which are to be implied layers.
-fn pair_in(numbers: &[u16]) -> bool
+pub fn pair_in(numbers: &[u16]) -> bool
     requires { ⌜ someTooWide (now numbers) ≡ false ⌝ }
     ensures { λ r. ⌜ r ≡ pairFor (entriesBelow (now (numbers .entry)) (rowCount (now (numbers .entry)))) ⌝ }
 {
@@ -38,7 +38,7 @@ fn pair_in(numbers: &[u16]) -> bool
 }
 
 // What the entries of the rows come to, by whether they have the two views.
-fn weigh_rows(pair: bool, numbers: &[u16]) -> Weighed
+pub fn weigh_rows(pair: bool, numbers: &[u16]) -> Weighed
     requires { ⌜ (rowCount (now numbers) ≤ 201) × (someTooWide (now numbers) ≡ false) × (pair ≡ pairFor (entriesBelow (now numbers) (rowCount (now numbers)))) ⌝ }
     ensures { λ r. ⌜ Weighs (entriesBelow (now (numbers .entry)) (rowCount (now (numbers .entry)))) r ⌝ }
 {

@@ -17,6 +17,7 @@ pub use entries::read_layer;
 pub use entries::read_stream;
 pub use faults::Fault;
 pub use faults::NO_FAULT;
+pub use faults::lowest_fault;
 pub use faults::refusal_of;
 pub use faults::slot_of;
 pub use reader::LoopRead;

@@ -1,28 +1,26 @@
 -- Closure rows: one row of a layer has a decoding time, and a row is claimed or heads a unit.
 -- Assumes nothing.
 use Prim.Native.Nat.{ℕ, _<_}
-use mathlib.Core.Bool.{Bool, true, false, _&&_, _||_, true≢false}
+use mathlib.Core.Bool.{Bool, true, false, true≢false}
 use mathlib.Core.Path.{_≡_, refl, sym, _∙_, ap, ap₂, subst}
 use mathlib.Core.Logic.{_⊎_, inl, inr}
 use native.Mathlib.Decide.{decLt}
 use native.Mathlib.Omega.{arith}
-use borrow.Author.Tests.{eq-eqb, eqb-true, lt-ltb, ltb-true, leb-false}
-use lib.Dec.{eqb, leb, ltb}
-use lib.ListN.{getD}
-use Rattle.clock.specs.Clock.{half, distanceOf}
+use Rattle.clock.specs.Clock.{distanceOf}
 use Rattle.closure.specs.declared.Layers.{Layers}
-use Rattle.closure.specs.Closures.{isLayer}
 use Rattle.closure.specs.Meaning.{RestsOn, itself, by, WholeClosure}
-use Rattle.closure.proofs.Reached.{rests-on-at-most}
-use Rattle.combinators.specs.Below.{some, some-which, none-at, seek-first}
-use Rattle.combinators.specs.Bools.{both-left, both-right, neither-left}
-use Rattle.sets.specs.Sets.{has}
-use Rattle.rows.specs.Table.{Table, rowsIn, layerOf, decodingOf, matchOf, firstRow, ahead, passed, breaksOrder}
-use Rattle.joining.specs.Meaning.{NoRow, BreaksOrder}
-use Rattle.joining.proofs.FirstRows.{is-none}
-use Rattle.joining.proofs.Ordering.{means-breaks, breaks-means, farther}
+use Rattle.rows.specs.Table.{Table, layerOf, decodingOf, matchOf, firstRow, ahead}
+use Rattle.rows.specs.Meaning.{NoRow, BreaksOrder}
+use Rattle.rows.proofs.Meant.{farther, unbroken}
+use Rattle.claims.specs.Claims.{claimed}
+use Rattle.claims.specs.Meaning.{Claimed, Head}
+use Rattle.claims.proofs.Meant.{claimed-meant, claimed-only}
 use Rattle.spans.specs.Meaning.{ClosureRow}
-use Rattle.every_row.specs.Meaning.{Claimed, Head, AssemblesOwn}
+use Rattle.heads.specs.Meaning.{AssemblesOwn}
+
+-- a head is a closure row
+pub head-row : {layers : Layers} {target : ℕ} {t : Table} {k : ℕ} → Head layers target t k → ClosureRow layers target t k
+head-row head = record { inside = head .inside; in-closure = head .closure-row }
 
 -- what a layer of the closure rests on is in the closure
 pub rests-through : {layers : Layers} {target layer lower : ℕ} → RestsOn layers target layer → RestsOn layers layer lower → RestsOn layers target lower
@@ -33,21 +31,9 @@ module _ (layers : Layers) (target closure : ℕ) (whole : WholeClosure layers t
   -- ---- 14: the rows of a closure layer lie farther and farther ahead, by less than half the clock, so that one row of it has a decoding time
 
   module _ (ordered : NoRow t (BreaksOrder layers target t)) where
-    unbroken : (k : ℕ) → k < rowsIn t → breaksOrder t closure k ≡ false
-    unbroken k h =
-        let none = is-none t (BreaksOrder layers target t) (breaksOrder t closure) (breaks-means t layers target closure whole)
-        (means-breaks t layers target closure whole) ordered in
-        seek-first (breaksOrder t closure) (rowsIn t) .before k (omega arith)
-
     pub rises : (j k : ℕ) → j < k → ClosureRow layers target t k → layerOf t j ≡ layerOf t k → ahead t j < ahead t k
-    rises j k h c same = farther t closure j k (whole .members (layerOf t k) .1 (c .in-closure)) (unbroken k (c .inside)) h same
-
-    pub near : (k : ℕ) → ClosureRow layers target t k → ahead t k < half
-    near k c =
-        leb-false half (ahead t k)
-        (neither-left (leb half (ahead t k)) (passed t (layerOf t k) (ahead t k) k)
-        (sym (ap (λ (b : Bool). b && (leb half (ahead t k) || passed t (layerOf t k) (ahead t k) k)) (whole .members (layerOf t k) .1 (c .in-closure)))
-        ∙ unbroken k (c .inside)))
+    rises j k h c same =
+        farther t closure j k (whole .members (layerOf t k) .1 (c .in-closure)) (unbroken layers target closure whole t ordered k (c .inside)) h same
 
     apart-in-time : (j k : ℕ) → j < k → ClosureRow layers target t k → layerOf t j ≡ layerOf t k → decodingOf t j ≡ decodingOf t k → ⊥
     apart-in-time j k h c same timed =
@@ -83,56 +69,15 @@ module _ (layers : Layers) (target closure : ℕ) (whole : WholeClosure layers t
 
   -- ---- a closure row is claimed, or heads a unit
 
-  claims : ℕ → ℕ → Bool
-  claims k j =
-      has closure (layerOf t j) && (isLayer layers (layerOf t j) && (has (getD (layers .embedded) (layerOf t j) 0) (layerOf t k)
-      && (ltb (layerOf t k) (layerOf t j) && eqb (matchOf t j) (decodingOf t k))))
-
-  claims-means : (k j : ℕ) → j < rowsIn t → claims k j ≡ true → Claimed layers target t k
-  unfolding claims
-  claims-means k j h e =
-      let in-closure = both-left (has closure (layerOf t j)) _ e in
-      let e₁ = both-right (has closure (layerOf t j)) _ e in
-      let in-loop = both-left (isLayer layers (layerOf t j)) _ e₁ in
-      let e₂ = both-right (isLayer layers (layerOf t j)) _ e₁ in
-      let embedded = both-left (has (getD (layers .embedded) (layerOf t j) 0) (layerOf t k)) _ e₂ in
-      let e₃ = both-right (has (getD (layers .embedded) (layerOf t j) 0) (layerOf t k)) _ e₂ in
-      let lower = both-left (ltb (layerOf t k) (layerOf t j)) (eqb (matchOf t j) (decodingOf t k)) e₃ in
-      let timed = both-right (ltb (layerOf t k) (layerOf t j)) (eqb (matchOf t j) (decodingOf t k)) e₃ in
-      record {
-        claimer = j;
-        of-closure-layer = record { inside = h; in-closure = whole .members (layerOf t j) .0 in-closure };
-        embeds-its-layer = record { in-loop = in-loop; embedded = embedded; lower = ltb-true (layerOf t k) (layerOf t j) lower };
-        equal-times = eqb-true (matchOf t j) (decodingOf t k) timed;
-      }
-
-  means-claims : (k : ℕ) (c : Claimed layers target t k) → claims k (c .claimer) ≡ true
-  unfolding claims
-  means-claims k c =
-      all (whole .members (layerOf t (c .claimer)) .1 (c .of-closure-layer .in-closure)) (c .embeds-its-layer .in-loop) (c .embeds-its-layer .embedded)
-      (lt-ltb (layerOf t k) (layerOf t (c .claimer)) (c .embeds-its-layer .lower)) (eq-eqb (matchOf t (c .claimer)) (decodingOf t k) (c .equal-times))
-    where
-      all : {p q r s u : Bool} → p ≡ true → q ≡ true → r ≡ true → s ≡ true → u ≡ true → (p && (q && (r && (s && u)))) ≡ true
-      all a b c d e = rw (a, b, c, d, e)
-
   pub claimed-or-head : (k : ℕ) → ClosureRow layers target t k → Claimed layers target t k ⊎ Head layers target t k
-  claimed-or-head k row = go (some (claims k) (rowsIn t)) refl
+  claimed-or-head k row = go (claimed layers closure t k) refl
     where
-      go : (b : Bool) → some (claims k) (rowsIn t) ≡ b → Claimed layers target t k ⊎ Head layers target t k
-      go true e = let w = some-which (claims k) (rowsIn t) e in inl (claims-means k (w .0) (w .1) (w .2))
+      go : (b : Bool) → claimed layers closure t k ≡ b → Claimed layers target t k ⊎ Head layers target t k
+      go true e = inl (claimed-meant layers target closure whole t k e)
       go false e =
           inr
           record {
-            closure-row = row;
-            unclaimed = λ c. true≢false
-                (sym (means-claims k c) ∙ none-at (claims k) (rowsIn t) e (c .claimer) (c .of-closure-layer .inside));
+            inside = row .inside;
+            closure-row = row .in-closure;
+            unclaimed = λ c. true≢false (sym (claimed-only layers target closure whole t k c) ∙ e);
           }
-
-  -- 'target rows are never claimed': nothing in the closure embeds the target
-  pub target-heads : (k : ℕ) → k < rowsIn t → layerOf t k ≡ target → Head layers target t k
-  target-heads k h own =
-      record {
-        closure-row = record { inside = h; in-closure = subst (RestsOn layers target) (sym own) itself };
-        unclaimed = λ c. (let low = c .embeds-its-layer .lower in
-            let high = rests-on-at-most layers target (layerOf t (c .claimer)) (c .of-closure-layer .in-closure) in absurd (omega arith));
-      }

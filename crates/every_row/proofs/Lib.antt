@@ -3,4 +3,3 @@ pub mod Standing
 pub mod Order
 pub mod Sizes
 pub mod Unique
-pub mod Keyed

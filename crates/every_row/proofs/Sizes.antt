@@ -18,12 +18,15 @@ use Rattle.combinators.specs.Lists.{any, any-which, nth-getD, nth-inside, getD-
 use Rattle.combinators.specs.Members.{member, member-at, member-which, member-append}
 use Rattle.combinators.specs.Once.{Once, once-places, once-append, once-count}
 use Rattle.rows.specs.Table.{Table, rowsIn, layerOf}
-use Rattle.joining.specs.Meaning.{NoRow, BreaksOrder, UnitOf}
+use Rattle.rows.specs.Meaning.{NoRow, BreaksOrder}
+use Rattle.claims.specs.Meaning.{Head}
 use Rattle.spans.specs.Meaning.{ClosureRow}
-use Rattle.every_row.specs.Meaning.{Head, AssemblesOwn, InUnitOf, SharesRow, ComesBefore, HeadsInOrder, UnitsOf, no-unit, next-unit}
+use Rattle.heads.specs.Meaning.{AssemblesOwn, InUnitOf, SharesRow, UnitOf}
+use Rattle.unit_lists.specs.Meaning.{ComesBefore, HeadsInOrder, UnitsOf, no-unit, next-unit}
+use Rattle.unit_lists.proofs.Meant.{assembly-of}
 use Rattle.every_row.specs.Statements.{Judged, total, EachOnce}
 use Rattle.every_row.proofs.Standing.{unit-rows, in-some-unit, one-head}
-use Rattle.every_row.proofs.Claims.{one-assembly}
+use Rattle.every_row.proofs.Claims.{head-row, one-assembly}
 use Rattle.every_row.proofs.Order.{total-order}
 
 -- ---- one unit
@@ -105,13 +108,6 @@ sizes-long layers t no-unit = refl
 sizes-long layers t (next-unit {unit = unit} {sizes = sizes} {rows = rows} u units) =
     ap (λ (n : ℕ). length unit + n) (sizes-long layers t units) ∙ sym (length-append unit rows)
 
--- each of the heads has an assembly
-heads-assembled : (layers : Layers) (t : Table) {heads sizes rows : List ℕ} {lags : List ℤ} → UnitsOf layers t heads sizes rows lags → (i : ℕ)
-    → i < length heads → (choice : ℕ → ℕ) × AssemblesOwn layers t (getD heads i 0) choice
-heads-assembled layers t no-unit i h = absurd (omega arith)
-heads-assembled layers t (next-unit u units) zero h = (u .choice, u .assembles)
-heads-assembled layers t (next-unit u units) (suc i) h = heads-assembled layers t units i (omega arith)
-
 -- ---- in an accepted answer
 
 module _ (layers : Layers) (target closure : ℕ) (whole : WholeClosure layers target closure) (t : Table)
@@ -122,7 +118,7 @@ module _ (layers : Layers) (target closure : ℕ) (whole : WholeClosure layers t
       record {
         in-order = ordered;
         assembled = λ k h. (let w = all-heads .all k h in
-            subst (λ (head : ℕ). (choice : ℕ → ℕ) × AssemblesOwn layers t head choice) (w .2) (heads-assembled layers t units (w .0) (w .1)));
+            subst (λ (head : ℕ). (choice : ℕ → ℕ) × AssemblesOwn layers t head choice) (w .2) (assembly-of units (w .0) (w .1)));
         apart = apart;
       }
 
@@ -138,7 +134,7 @@ module _ (layers : Layers) (target closure : ℕ) (whole : WholeClosure layers t
       here =
           let w = u .closure-layers .all (s .layer) (s .in-closure) in
           let place : w .0 < length unit = subst (λ (n : ℕ). w .0 < n) (sym (unit-long layers t head unit beside u)) (w .1) in
-          let same = one-assembly layers target closure whole t ordered head (each 0 (omega arith) .closure-row) (u .choice) (s .choice) (u .assembles)
+          let same = one-assembly layers target closure whole t ordered head (head-row (each 0 (omega arith))) (u .choice) (s .choice) (u .assembles)
           (s .assembles) (s .layer) (s .in-closure) in
           subst (λ (r : ℕ). member r unit ≡ true)
           (unit-at layers t head unit beside u (w .0) place ∙ ap (u .choice) (w .2) ∙ same ∙ s .chosen) (member-at unit (w .0) place)

@@ -11,7 +11,8 @@ use Rattle.closure.specs.Meaning.{RestsOn, itself, by, WholeClosure}
 use Rattle.closure.proofs.Reached.{rests-on-at-most}
 use Rattle.rows.specs.Table.{Table, rowsIn, layerOf, decodingOf, matchOf}
 use Rattle.spans.specs.Meaning.{ClosureRow}
-use Rattle.every_row.specs.Meaning.{Claimed, Head, InUnitOf}
+use Rattle.claims.specs.Meaning.{Claimed, Head}
+use Rattle.heads.specs.Meaning.{InUnitOf}
 use Rattle.every_row.specs.Statements.{Judged, InOneUnit}
 use Rattle.every_row.proofs.Claims.{rests-through, one-row, claimed-or-head}
 
@@ -23,7 +24,7 @@ unit-rows layers target t head row h u =
       inside = subst (λ (r : ℕ). r < rowsIn t) (u .chosen) (u .assembles .row (u .layer) (u .in-closure));
       in-closure = subst (RestsOn layers target)
           (sym (u .assembles .of-layer (u .layer) (u .in-closure)) ∙ ap (layerOf t) (u .chosen))
-          (rests-through (h .closure-row .in-closure) (u .in-closure));
+          (rests-through (h .closure-row) (u .in-closure));
     }
 
 module _ (layers : Layers) (target closure : ℕ) (whole : WholeClosure layers target closure) (t : Table) (judged : Judged layers target t) where
@@ -49,14 +50,14 @@ module _ (layers : Layers) (target closure : ℕ) (whole : WholeClosure layers t
       let upper : u .layer ≡ layerOf t (c .claimer) = sym (u .assembles .of-layer (u .layer) (u .in-closure)) ∙ ap (layerOf t) (u .chosen) in
       let claimer-layer : RestsOn layers (layerOf t (s .head)) (layerOf t (c .claimer)) = subst (RestsOn layers (layerOf t (s .head))) upper (u .in-closure) in
       let chosen-claimer : u .choice (layerOf t (c .claimer)) ≡ c .claimer = ap (u .choice) (sym upper) ∙ u .chosen in
-      let own-layer : RestsOn layers (layerOf t (s .head)) (layerOf t k) = by claimer-layer (c .embeds-its-layer) in
+      let own-layer : RestsOn layers (layerOf t (s .head)) (layerOf t k) = by claimer-layer (c .claims .embeds) in
       let own : layerOf t (u .choice (layerOf t k)) ≡ layerOf t k = u .assembles .of-layer (layerOf t k) own-layer in
       let partner : ClosureRow layers target t (u .choice (layerOf t k)) =
       record { inside = u .assembles .row (layerOf t k) own-layer; in-closure = subst (RestsOn layers target) (sym own) (row .in-closure) } in
       let timed : decodingOf t (u .choice (layerOf t k)) ≡ decodingOf t k =
-      u .assembles .paired (layerOf t (c .claimer)) (layerOf t k) claimer-layer (c .embeds-its-layer)
+      u .assembles .paired (layerOf t (c .claimer)) (layerOf t k) claimer-layer (c .claims .embeds)
       ∙ ap (matchOf t) chosen-claimer
-      ∙ c .equal-times in
+      ∙ c .claims .match-time in
       record {
         head = s .head;
         is-head = s .is-head;
@@ -75,15 +76,15 @@ module _ (layers : Layers) (target closure : ℕ) (whole : WholeClosure layers t
     where
       go : Claimed layers target t k ⊎ Head layers target t k → InSomeUnit k
       go (inl c) =
-          absurd (let low = c .embeds-its-layer .lower in
-          let high = rests-on-at-most layers target (layerOf t (c .claimer)) (c .of-closure-layer .in-closure) in omega arith)
+          absurd (let low = c .claims .embeds .lower in
+          let high = rests-on-at-most layers target (layerOf t (c .claimer)) (c .claims .closure-layer) in omega arith)
       go (inr head) = heads-its-own k head
   from-the-top (suc depth) k row h = go (from-the-top depth) (claimed-or-head layers target closure whole t k row)
     where
       go : ((j : ℕ) → ClosureRow layers target t j → target ≤ layerOf t j + depth → InSomeUnit j)
           → Claimed layers target t k ⊎ Head layers target t k → InSomeUnit k
       go above (inl c) =
-          with-its-claimer k row c (above (c .claimer) (c .of-closure-layer) (let low = c .embeds-its-layer .lower in omega arith))
+          with-its-claimer k row c (above (c .claimer) (record { inside = c .claims .inside; in-closure = c .claims .closure-layer }) (let low = c .claims .embeds .lower in omega arith))
       go above (inr head) = heads-its-own k head
 
   pub in-some-unit : (k : ℕ) → ClosureRow layers target t k → InSomeUnit k
@@ -96,10 +97,10 @@ module _ (layers : Layers) (target closure : ℕ) (whole : WholeClosure layers t
     where
       go : Dec (head < other) → Dec (other < head) → other ≡ head
       go (yes l) d =
-          absurd (judged .apart other (o .closure-row .inside)
+          absurd (judged .apart other (o .inside)
           record { is-head = o; earlier = head; before = l; earlier-head = h; row = row; in-unit = v; in-earlier-unit = u })
       go (no n) (yes l) =
-          absurd (judged .apart head (h .closure-row .inside)
+          absurd (judged .apart head (h .inside)
           record { is-head = h; earlier = other; before = l; earlier-head = o; row = row; in-unit = u; in-earlier-unit = v })
       go (no n) (no m) = omega arith
 

@@ -1,6 +1,6 @@
 -- What is shown of units headed by unclaimed rows: proofs/Lib.antt names the laws.
 -- Assumes nothing.
-use Prim.Native.Nat.{ℕ, _+_}
+use Prim.Native.Nat.{ℕ, _+_, _<_}
 use mathlib.Core.Bool.{true}
 use mathlib.Core.List.{List, [], _∷_}
 use mathlib.Core.Logic.{_⊎_, _↔_}
@@ -9,10 +9,12 @@ use Rattle.closure.specs.declared.Layers.{Layers}
 use Rattle.combinators.specs.Ascending.{Ascending}
 use Rattle.combinators.specs.Members.{member}
 use Rattle.combinators.specs.Once.{Once}
-use Rattle.rows.specs.Table.{Table, layerOf}
-use Rattle.joining.specs.Meaning.{NoRow, BreaksOrder, TargetRow}
+use Rattle.rows.specs.Table.{Table, rowsIn, layerOf}
+use Rattle.rows.specs.Meaning.{NoRow, BreaksOrder}
+use Rattle.claims.specs.Meaning.{Head}
 use Rattle.spans.specs.Meaning.{ClosureRow, SpansTooFar}
-use Rattle.every_row.specs.Meaning.{Head, AssemblesOwn, InUnitOf, SharesRow, ComesBefore, HeadsInOrder}
+use Rattle.heads.specs.Meaning.{AssemblesOwn, InUnitOf, SharesRow}
+use Rattle.unit_lists.specs.Meaning.{ComesBefore, HeadsInOrder}
 
 -- What 14, 15 and 16 leave: closure layers in time order, an assembly for every head, and no head that shares a row with a head before it.
 pub record Judged (layers : Layers) (target : ℕ) (t : Table) : Type 0 where
@@ -44,6 +46,11 @@ pub record TotalOrder (layers : Layers) (target : ℕ) (t : Table) : Type 0 wher
       → ComesBefore layers target t i k
   pub either-way : (j k : ℕ) → Head layers target t j → Head layers target t k → (j ≡ k → ⊥)
       → ComesBefore layers target t j k ⊎ ComesBefore layers target t k j
+
+-- a row of the target
+pub record TargetRow (target : ℕ) (t : Table) (k : ℕ) : Type 0 where
+  pub inside : k < rowsIn t
+  pub of-target : layerOf t k ≡ target
 
 -- 'Where every unclaimed row is a target row, the units come in target row order', as long as the rows do not span too far (18): the heads in the
 -- order of their units are the target rows in the order of the table.

@@ -1,138 +1,105 @@
--- The answer, way by way: each return of the code is a case of the definition, given what its calls answer.
+-- The answer, way by way: each return of the code is a case of the definition, given what its calls answer; and the lists that are lent are those of the frame.
 -- Assumes nothing.
-use Prim.Native.Nat.{ℕ, _-_, _*_, _≤_, _<_}
-use mathlib.Core.Path.{_≡_, refl, sym, _∙_, ap, ap₂, subst}
-use mathlib.Core.Bool.{Bool, true, false, not, cond, _&&_}
+use Prim.Native.Nat.{ℕ, _-_, _≤_, _<_}
+use mathlib.Core.Bool.{Bool, true, false, _||_}
 use mathlib.Core.List.{List}
+use mathlib.Core.Path.{_≡_, refl, sym, _∙_, ap, ap₂, subst}
 use native.Mathlib.Omega.{arith}
+use borrow.Author.Tests.{ltb-false}
 use lib.Dec.{ltb}
-use lib.IntN.{ℤ}
-use lib.ListN.{length, getD, take, replicate, length-append, length-take}
-use lib.Seq.{sets, getD-take, take-append-seam}
+use lib.ListN.{length, take, replicate, length-append}
+use lib.Seq.{getD-take, take-append-seam, ext-getD, length-take-le}
 use Rattle.closure.specs.declared.Layers.{Layers}
-use Rattle.combinators.specs.Below.{count, seek-first, count-alike}
-use Rattle.combinators.specs.Lists.{gather}
-use Rattle.combinators.specs.Those.{those}
+use Rattle.combinators.specs.Below.{seek-first}
+use Rattle.combinators.specs.Bools.{neither-left, neither-right}
 use Rattle.combinators.specs.Padding.{padTo}
-use Rattle.sets.specs.Sets.{has}
-use Rattle.vocabulary.specs.declared.refusal.Refusal.{Refusal}
-use Rattle.vocabulary.specs.declared.refusal.Refusal.the-variants.{Unpaired, UsedTwice, NoRoom}
+use Rattle.rows.specs.Table.{Table, rowsIn}
+use Rattle.vocabulary.specs.declared.refusal.Refusal.the-variants.{Unpaired, UsedTwice, SpanTooWide, NoRoom}
+use Rattle.assembling.specs.Assemblies.{edgesOf}
+use Rattle.assembling.specs.Index.{Starts, Order, Ready}
+use Rattle.claims.specs.Claims.{claimed}
+use Rattle.claims.specs.Marks.{Stands}
+use Rattle.spans.specs.Spans.{wideSpan}
+use Rattle.heads.specs.declared.Judged.{Judged}
+use Rattle.heads.specs.Units.{Frame, frame, unpaired, shares, firstUnpaired, firstShared}
+use Rattle.heads.specs.Judging.{Whole, Kept, Judges}
+use Rattle.heads.specs.Orderly.{Orderly, Framed}
+use Rattle.heads.proofs.Orderly.{ready}
+use Rattle.heads.proofs.Wholeness.{frame-whole}
+use Rattle.unit_lists.specs.Sequence.{Lists}
 use Rattle.joining.specs.declared.answer.Joined.{Joined}
 use Rattle.joining.specs.declared.answer.Joined.the-variants.{Units, Refused}
-use Rattle.joining.specs.declared.units.Judged.{Judged}
-use Rattle.rows.specs.Table.{Table, rowsIn, layerOf, decodingOf}
-use Rattle.joining.specs.Units.{Frame, isTarget, unitOf, lagsFrom, lagsOf, unpaired, shares, firstUnpaired, firstShared, rowsBelow, lagsBelow, leftOut, isLeftOut, frameOf}
-use Rattle.joining.specs.Judging.{Whole, Holds, Judges}
-use Rattle.buffers.specs.Buffers.{over}
-use Rattle.buffers.proofs.Laws.{sets-over}
-use Rattle.joining.specs.Writing.{keptUnit, keptLags, Writable}
-use Rattle.joining.proofs.Cases.{is-unpaired as case-unpaired, is-shared as case-shared, no-number-room as case-no-number-room, no-lag-room as case-no-lag-room, are-units as case-units, IsOver, units-over, refused, is-over}
-use Rattle.joining.specs.Joining.{places, unitsJoined, tableJoined, framedNumbers, framedLags, numbersAfter, lagsAfter, isSpare}
-use Rattle.joining.proofs.Gathers.{gathered-alike}
-use Rattle.joining.proofs.Kept.{rows-long, lags-long, rows-small, kept-unit}
+use Rattle.joining.specs.Joining.{tabulated, ownSet, frameOf, closureRows, Room, tooSmall, unitsJoined, tableJoined, listsAfter}
+use Rattle.joining.specs.Steps.{Joinable, framedLists}
+use Rattle.joining.proofs.Framing.{tabulated-long, tabulated-at, framed}
+use Rattle.joining.proofs.Cases.{is-unpaired, is-shared, is-wide, is-no-room, are-units, IsOver, units-over, refused, is-over}
 
-module _ (t : Table) (closure : ℕ) (f : Frame) (numberRoom lagRoom : ℕ) (judged : Judged) (used : List Bool) (kept : List ℕ)
-    (found : Judges t f judged used kept) where
-  -- 15
-  pub is-unpaired : judged .unpaired < rowsIn t → Refused (Unpaired (judged .unpaired)) ≡ unitsJoined t closure f numberRoom lagRoom
-  is-unpaired h = case-unpaired t closure f numberRoom lagRoom (judged .unpaired) (found .no-assembly) h
+-- ---- what a joinable frame has
+
+module _ (closure : ℕ) (t : Table) (f : Frame) (known : Joinable closure t f) where
+  pub index-ready : (starts order : List ℕ) → Starts (t .indices) starts → Order (t .indices) order → Ready t starts order (f .edges)
+  index-ready starts order s o =
+      subst (Ready t starts order) (sym (known .framed .edges-listed)) (ready (known .layers) (known .target) closure t (known .orderly) starts order s o)
+
+  pub whole-frame : Whole t f
+  whole-frame = frame-whole (known .layers) (known .target) closure t (known .orderly) f (known .framed)
+
+-- ---- 15, 16, 18, 17 and the units
+
+module _ (t : Table) (f : Frame) (room : Room) (judged : Judged) (kept places : List ℕ) (found : Judges t f judged kept places) where
+  pub unpaired-answer : judged .unpaired < rowsIn t → Refused (Unpaired (judged .unpaired)) ≡ unitsJoined t f room
+  unpaired-answer h = is-unpaired t f room (judged .unpaired) (found .no-assembly) h
 
   module _ (paired : rowsIn t ≤ judged .unpaired) where
     none-unpaired : judged .unpaired ≡ rowsIn t
-    none-unpaired = omega (arith, paired, found .no-assembly, seek-first (unpaired t f) (rowsIn t) .within)
+    none-unpaired = omega (arith, found .no-assembly, seek-first (unpaired t f) (rowsIn t) .within)
 
-    paired-first : rowsIn t ≤ firstUnpaired t f
+    pub paired-first : rowsIn t ≤ firstUnpaired t f
     paired-first = subst (λ (k : ℕ). rowsIn t ≤ k) (found .no-assembly) paired
 
-    paired-each : (k : ℕ) → k < rowsIn t → unpaired t f k ≡ false
-    paired-each k i = seek-first (unpaired t f) (rowsIn t) .before k (omega (arith, paired-first))
-
-    -- 16
-    pub is-shared : judged .shared < rowsIn t → Refused (UsedTwice (judged .shared)) ≡ unitsJoined t closure f numberRoom lagRoom
-    is-shared h = case-shared t closure f numberRoom lagRoom paired-first (judged .shared) (found .two-units none-unpaired) h
+    pub shared-answer : judged .shared < rowsIn t → Refused (UsedTwice (judged .shared)) ≡ unitsJoined t f room
+    shared-answer h = is-shared t f room paired-first (judged .shared) (found .two-units none-unpaired) h
 
     module _ (apart : rowsIn t ≤ judged .shared) where
-      apart-first : rowsIn t ≤ firstShared t f
+      none-shared : judged .shared ≡ rowsIn t
+      none-shared = omega (arith, found .two-units none-unpaired, seek-first (shares t f) (rowsIn t) .within)
+
+      pub apart-first : rowsIn t ≤ firstShared t f
       apart-first = subst (λ (k : ℕ). rowsIn t ≤ k) (found .two-units none-unpaired) apart
 
-      held : Holds t f (rowsIn t) (judged .units) (judged .places) used kept
-      held =
-          found .units-held none-unpaired
-          (omega (arith, apart, found .two-units none-unpaired, seek-first (shares t f) (rowsIn t) .within))
+      pub held : Kept t f kept places
+      held = found .units-kept none-unpaired none-shared
 
-      pub places-is : judged .places ≡ places t f
-      places-is = held .place ∙ rows-long t f (rowsIn t)
+      pub wide-answer : (wide : Bool) → wide ≡ wideSpan t (f .closure) → wide ≡ true → Refused SpanTooWide ≡ unitsJoined t f room
+      wide-answer wide e h = is-wide t f room paired-first apart-first (sym e ∙ h)
 
-      -- 17
-      pub no-number-room : numberRoom < judged .places → Refused NoRoom ≡ unitsJoined t closure f numberRoom lagRoom
-      no-number-room h =
-          case-no-number-room t closure f numberRoom lagRoom paired-first apart-first (subst (λ (n : ℕ). numberRoom < n) places-is h)
+      module _ (narrow : wideSpan t (f .closure) ≡ false) (rows : ℕ) (is-rows : rows ≡ closureRows t (f .closure)) (small : Bool) (is-small : small ≡ tooSmall room rows) where
+        tested : small ≡ tooSmall room (closureRows t (f .closure))
+        tested = is-small ∙ ap (tooSmall room) is-rows
 
-      module _ (number-room : judged .places ≤ numberRoom) where
-        number-places : places t f ≤ numberRoom
-        number-places = subst (λ (n : ℕ). n ≤ numberRoom) places-is number-room
+        pub room-answer : small ≡ true → Refused NoRoom ≡ unitsJoined t f room
+        room-answer h = is-no-room t f room paired-first apart-first narrow (sym tested ∙ h)
 
-        pub no-lag-room : lagRoom < judged .places → Refused NoRoom ≡ unitsJoined t closure f numberRoom lagRoom
-        no-lag-room h =
-            case-no-lag-room t closure f numberRoom lagRoom paired-first apart-first number-places (subst (λ (n : ℕ). lagRoom < n) places-is h)
+        pub units-answer : small ≡ false → Units (f .closure) (judged .units) rows ≡ unitsJoined t f room
+        units-answer h =
+            ap₂ (Units (f .closure)) (found .counted none-unpaired none-shared) is-rows ∙ are-units t f room paired-first apart-first narrow (sym tested ∙ h)
 
-        module _ (lag-room : judged .places ≤ lagRoom) where
-          -- the units
-          spare-is : count (isSpare closure (t .indices) used) (rowsIn t) ≡ leftOut t closure f
-          spare-is =
-              count-alike (isSpare closure (t .indices) used) (isLeftOut t closure (rowsBelow t f (rowsIn t))) (rowsIn t)
-              (λ k h. ap (λ (b : Bool). has closure (layerOf t k) && not b) (held .marks .at k h))
+-- the room that a list has where none is too small
+pub record Enough (room : Room) (rows : ℕ) : Type 0 where
+  pub for-numbers : rows ≤ room .numbers
+  pub for-lags : rows ≤ room .lags
+  pub for-sizes : rows ≤ room .sizes
 
-          pub are-units : (left : ℕ) → left ≡ count (isSpare closure (t .indices) used) (rowsIn t)
-              → Units closure (judged .units) left ≡ unitsJoined t closure f numberRoom lagRoom
-          are-units left e =
-              ap₂ (Units closure) (held .counted) (e ∙ spare-is)
-              ∙ case-units t closure f numberRoom lagRoom paired-first apart-first number-places (subst (λ (n : ℕ). n ≤ lagRoom) places-is lag-room)
+pub enough : (room : Room) (rows : ℕ) → tooSmall room rows ≡ false → Enough room rows
+enough room rows e =
+    let others = neither-right (ltb (room .numbers) rows) (ltb (room .lags) rows || ltb (room .sizes) rows) e in
+    record {
+      for-numbers = ltb-false (room .numbers) rows (neither-left (ltb (room .numbers) rows) (ltb (room .lags) rows || ltb (room .sizes) rows) e);
+      for-lags = ltb-false (room .lags) rows (neither-left (ltb (room .lags) rows) (ltb (room .sizes) rows) others);
+      for-sizes = ltb-false (room .sizes) rows (neither-right (ltb (room .lags) rows) (ltb (room .sizes) rows) others);
+    }
 
-      -- a mark for each row
-      pub marks-long : rowsIn t ≤ length used
-      marks-long = held .marks .long
-
-      -- the rows that were kept can be written,
-      pub writable : Whole t f → length (t .decodings) ≡ rowsIn t → (numbers : List ℕ) (lags : List ℤ)
-          → judged .places ≤ length numbers → judged .places ≤ length lags
-          → Writable (t .indices) (t .decodings) (f .target) (length (f .members)) kept numbers lags
-      writable whole decoded numbers lags h l =
-          record {
-            decoded = decoded;
-            rows = record {
-              from-to = omega arith;
-              inside = omega (arith, ap length (held .rows), length-take (judged .places) kept, held .place, places-is);
-              row = λ p i j. row-small p (subst (λ (n : ℕ). p < n) (sym places-is) j);
-            };
-            room-numbers = subst (λ (n : ℕ). n ≤ length numbers) places-is h;
-            room-lags = subst (λ (n : ℕ). n ≤ length lags) places-is l;
-          }
-        where
-          row-small : (p : ℕ) → p < judged .places → getD kept p 0 < length (t .decodings)
-          row-small p i =
-              let small = rows-small t f whole (rowsIn t) (omega arith) paired-each (rowsIn t) (omega arith) p (omega (arith, held .place)) in
-              let same : getD kept p 0 ≡ getD (rowsBelow t f (rowsIn t)) p 0 =
-              sym (getD-take (judged .places) kept p 0 i) ∙ ap (λ (rows : List ℕ). getD rows p 0) (held .rows) in
-              omega (arith, decoded)
-
-      -- and what was written lies over what stood there
-      pub numbers-over : (numbers : List ℕ) → judged .places ≤ length numbers
-          → sets numbers 0 (gather (keptUnit (isTarget t f) (length (f .members)) kept) (those (isTarget t f) (rowsIn t)))
-          ≡ over (rowsBelow t f (rowsIn t)) numbers
-      numbers-over numbers h =
-          ap (sets numbers 0) (gathered-alike (keptUnit (isTarget t f) (length (f .members)) kept) (unitOf t f) (isTarget t f) (rowsIn t)
-          (λ k i m. kept-unit t f (rowsIn t) k (judged .places) kept (held .place) (held .rows) i m))
-          ∙ sets-over (rowsBelow t f (rowsIn t)) numbers (subst (λ (n : ℕ). n ≤ length numbers) (held .place) h)
-
-      pub lags-over : (lags : List ℤ) → judged .places ≤ length lags
-          → sets lags 0 (gather (keptLags (t .decodings) (isTarget t f) (length (f .members)) kept) (those (isTarget t f) (rowsIn t)))
-          ≡ over (lagsBelow t f (rowsIn t)) lags
-      lags-over lags h =
-          ap (sets lags 0) (gathered-alike (keptLags (t .decodings) (isTarget t f) (length (f .members)) kept) (lagsOf t f) (isTarget t f) (rowsIn t)
-          (λ k i m. ap (lagsFrom t (decodingOf t k)) (kept-unit t f (rowsIn t) k (judged .places) kept (held .place) (held .rows) i m)))
-          ∙ sets-over (lagsBelow t f (rowsIn t)) lags
-          (subst (λ (n : ℕ). n ≤ length lags) (places-is ∙ sym (lags-long t f (rowsIn t))) h)
+-- ---- what is lent
 
 -- a list lent out of the array that it fills from the front
 pub part-is : (size count : ℕ) (l array : List ℕ) → count ≡ length l → array ≡ padTo size 0 l → take count array ≡ l
@@ -142,25 +109,40 @@ pub part-fits : (size count : ℕ) (l array : List ℕ) → count ≡ length l �
 part-fits size count l array e a =
     omega (arith, e, ap length a ∙ length-append l (replicate (size - length l) 0))
 
--- ---- 11 and 12, and the lists
+pub part-held : (rows : ℕ) (marks : List Bool) → rows ≤ length marks → rows ≤ length (take rows marks)
+part-held rows marks fits = omega (arith, length-take-le rows marks fits)
 
--- units over the frame of a closure are answered with that closure, so that the lists are the frame's
-module _ (layers : Layers) (target : ℕ) (t : Table) (closure numberRoom lagRoom : ℕ) where
-  by-cases : (P : Joined → Type 0) → ((units left : ℕ) → P (Units closure units left)) → ((refusal : Refusal) → P (Refused refusal))
-      → P (tableJoined layers target t closure numberRoom lagRoom)
-  by-cases P u r = go (is-over layers target t closure numberRoom lagRoom)
-    where
-      go : {answer : Joined} → IsOver closure answer → P answer
-      go (units-over {units} {left}) = u units left
-      go (refused {refusal}) = r refusal
+-- the marks of the rows alone
+pub marks-are : (layers : Layers) (closure : ℕ) (t : Table) (before marks : List Bool) → Stands (rowsIn t) (claimed layers closure t) before marks
+    → rowsIn t ≤ length marks → take (rowsIn t) marks ≡ tabulated (claimed layers closure t) (rowsIn t)
+marks-are layers closure t before marks stands fits =
+    ext-getD false (take (rowsIn t) marks) (tabulated (claimed layers closure t) (rowsIn t))
+    (length-take-le (rowsIn t) marks fits ∙ sym (tabulated-long (claimed layers closure t) (rowsIn t)))
+    (λ k h. (let l : k < rowsIn t = omega (arith, length-take-le (rowsIn t) marks fits) in
+    getD-take (rowsIn t) marks k false l ∙ stands .at k l ∙ sym (tabulated-at (claimed layers closure t) false (rowsIn t) k l)))
 
-  module _ (r : Joined) (e : r ≡ tableJoined layers target t closure numberRoom lagRoom) where
-    pub same-numbers : (numbers : List ℕ) → framedNumbers t (frameOf layers closure target) r numbers ≡ numbersAfter layers target t r numbers
-    same-numbers numbers =
-        subst (λ (x : Joined). framedNumbers t (frameOf layers closure target) x numbers ≡ numbersAfter layers target t x numbers) (sym e)
-        (by-cases (λ (x : Joined). framedNumbers t (frameOf layers closure target) x numbers ≡ numbersAfter layers target t x numbers) (λ u l. refl) (λ q. refl))
+-- and all of it together is the frame of the closure over the table
+pub frame-is : (layers : Layers) (closure : ℕ) (t : Table) (marks : List Bool) (own edges : List ℕ) → marks ≡ tabulated (claimed layers closure t) (rowsIn t)
+    → own ≡ tabulated (ownSet layers closure) 64 → edges ≡ edgesOf layers closure → frame closure marks own edges ≡ frameOf layers closure t
+frame-is layers closure t marks own edges p q r = rw (p, q, r)
 
-    pub same-lags : (lags : List ℤ) → framedLags t (frameOf layers closure target) r lags ≡ lagsAfter layers target t r lags
-    same-lags lags =
-        subst (λ (x : Joined). framedLags t (frameOf layers closure target) x lags ≡ lagsAfter layers target t x lags) (sym e)
-        (by-cases (λ (x : Joined). framedLags t (frameOf layers closure target) x lags ≡ lagsAfter layers target t x lags) (λ u l. refl) (λ q. refl))
+pub joinable : (layers : Layers) (target closure : ℕ) (t : Table) → Orderly layers target closure t → (f : Frame) → f ≡ frameOf layers closure t → Joinable closure t f
+joinable layers target closure t orderly f same =
+    record {
+      layers = layers;
+      target = target;
+      orderly = orderly;
+      framed = subst (Framed layers closure t) (sym same) (framed layers target closure t (orderly .closed-over));
+    }
+
+-- ---- units over the frame of a closure are answered with that closure, so that the lists are the frame's
+
+pub same-lists : (most : ℕ) (layers : Layers) (t : Table) (closure : ℕ) (room : Room) (r : Joined) → r ≡ tableJoined most layers t closure room → (before : Lists)
+    → framedLists t (frameOf layers closure t) r before ≡ listsAfter layers t r before
+same-lists most layers t closure room r e before =
+    subst (λ (x : Joined). framedLists t (frameOf layers closure t) x before ≡ listsAfter layers t x before) (sym e)
+    (go (is-over most layers t closure room))
+  where
+    go : {answer : Joined} → IsOver closure answer → framedLists t (frameOf layers closure t) answer before ≡ listsAfter layers t answer before
+    go (units-over {units} {rows}) = refl
+    go (refused {refusal}) = refl

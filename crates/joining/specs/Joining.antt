@@ -1,38 +1,63 @@
--- THE ANSWER of joining: the units of the target's rows, or the refusal, 11 to 17, with its place; and what the two lists then hold.
+-- THE ANSWER of joining: the units of all heads, or the refusal, 11 to 18, with its place; and what the three lists then hold.
 -- Assumes nothing.
-use Prim.Native.Nat.{ℕ, _*_}
-use mathlib.Core.Bool.{Bool, false, not, cond, _&&_}
-use mathlib.Core.List.{List}
+use Prim.Native.Nat.{ℕ, zero, suc, min}
+use mathlib.Core.Bool.{Bool, cond, _||_}
+use mathlib.Core.List.{List, [], _∷_, _++_}
 use lib.Dec.{ltb}
-use lib.IntN.{ℤ}
-use lib.ListN.{length, getD}
+use lib.ListN.{length}
 use Rattle.closure.specs.declared.Layers.{Layers}
 use Rattle.closure.specs.declared.Closure.{Closure}
 use Rattle.closure.specs.declared.Closure.the-variants.{Complete, Refused as NoClosure}
-use Rattle.closure.specs.Closures.{closureOf}
+use Rattle.closure.specs.Closures.{restedOn, closureOf}
+use Rattle.combinators.specs.Below.{count}
 use Rattle.sets.specs.Sets.{has}
-use Rattle.vocabulary.specs.declared.refusal.Refusal.the-variants.{OutOfRange, TimeOrderBroken, Unpaired, UsedTwice, NoRoom}
+use Rattle.vocabulary.specs.declared.refusal.Refusal.the-variants.{OutOfRange, TimeOrderBroken, Unpaired, UsedTwice, SpanTooWide, NoRoom}
 use Rattle.rows.specs.declared.Verdict.{Verdict}
 use Rattle.rows.specs.declared.Verdict.the-variants.{InOrder, OutOfRange as Outside, OrderBroken}
 use Rattle.rows.specs.Verdicts.{verdictOf}
+use Rattle.rows.specs.Table.{Table, rowsIn}
+use Rattle.assembling.specs.Assemblies.{edgesOf}
+use Rattle.claims.specs.Claims.{claimed}
+use Rattle.spans.specs.Spans.{isClosureRow, wideSpan}
+use Rattle.heads.specs.Units.{Frame, frame, firstUnpaired, firstShared, unitsIn}
+pub use Rattle.unit_lists.specs.Sequence.{Lists, lists, listsOver}
 use Rattle.joining.specs.declared.answer.Joined.{Joined}
 use Rattle.joining.specs.declared.answer.Joined.the-variants.{Units, Refused}
-use Rattle.rows.specs.Table.{Table, rowsIn}
-use Rattle.joining.specs.Units.{Frame, rowsBelow, lagsBelow, firstUnpaired, firstShared, unitsIn, leftOut, frameOf}
-use Rattle.buffers.specs.Buffers.{over}
 
--- 'Both output lists need units times closure size places.'
-abbrev pub places : Table → Frame → ℕ
-places t f = unitsIn t f * length (f .members)
+-- a value for each number below n
+abbrev pub tabulated : {A : Type 0} → (ℕ → A) → ℕ → List A
+tabulated f zero = []
+tabulated f (suc n) = tabulated f n ++ f n ∷ []
 
--- 15 for all target rows, then 16, and 17 last; else the units
-abbrev pub unitsJoined : Table → ℕ → Frame → ℕ → ℕ → Joined
-unitsJoined t closure f numberRoom lagRoom =
+-- what a layer of the closure rests on, itself included
+abbrev pub ownSet : Layers → ℕ → ℕ → ℕ
+ownSet layers closure layer = cond (has closure layer) (restedOn layers layer) 0
+
+abbrev pub frameOf : Layers → ℕ → Table → Frame
+frameOf layers closure t =
+    frame closure (tabulated (claimed layers closure t) (rowsIn t)) (tabulated (ownSet layers closure) 64) (edgesOf layers closure)
+
+-- how many closure rows the table has: 'each output list, the sizes too, needs one place per closure row'
+abbrev pub closureRows : Table → ℕ → ℕ
+closureRows t closure = count (isClosureRow t closure) (rowsIn t)
+
+-- the room of the three lists
+pub record Room : Type 0 where
+  pub numbers : ℕ
+  pub lags : ℕ
+  pub sizes : ℕ
+
+abbrev pub tooSmall : Room → ℕ → Bool
+tooSmall room rows = ltb (room .numbers) rows || (ltb (room .lags) rows || ltb (room .sizes) rows)
+
+-- 15 for all heads, then 16, then 18, and 17 last; else the units
+abbrev pub unitsJoined : Table → Frame → Room → Joined
+unitsJoined t f room =
     cond (ltb (firstUnpaired t f) (rowsIn t)) (Refused (Unpaired (firstUnpaired t f)))
     (cond (ltb (firstShared t f) (rowsIn t)) (Refused (UsedTwice (firstShared t f)))
-    (cond (ltb numberRoom (places t f)) (Refused NoRoom)
-    (cond (ltb lagRoom (places t f)) (Refused NoRoom)
-    (Units closure (unitsIn t f) (leftOut t closure f)))))
+    (cond (wideSpan t (f .closure)) (Refused SpanTooWide)
+    (cond (tooSmall room (closureRows t (f .closure))) (Refused NoRoom)
+    (Units (f .closure) (unitsIn t f) (closureRows t (f .closure))))))
 
 -- before these 13 and 14, the verdict on the table itself
 abbrev pub joinedBy : Joined → Verdict → Joined
@@ -40,36 +65,31 @@ joinedBy units InOrder = units
 joinedBy units (Outside row) = Refused (OutOfRange row)
 joinedBy units (OrderBroken row) = Refused (TimeOrderBroken row)
 
-abbrev pub tableJoined : Layers → ℕ → Table → ℕ → ℕ → ℕ → Joined
-tableJoined layers target t closure numberRoom lagRoom =
-    joinedBy (unitsJoined t closure (frameOf layers closure target) numberRoom lagRoom) (verdictOf t closure)
+-- `most` is how many rows a table may have
+abbrev pub tableJoined : ℕ → Layers → Table → ℕ → Room → Joined
+tableJoined most layers t closure room = joinedBy (unitsJoined t (frameOf layers closure t) room) (verdictOf most t closure)
 
 -- and before all of them 11 and 12, of the target
-abbrev pub joinedIn : Layers → ℕ → Table → ℕ → ℕ → Closure → Joined
-joinedIn layers target t numberRoom lagRoom (Complete closure) = tableJoined layers target t closure numberRoom lagRoom
-joinedIn layers target t numberRoom lagRoom (NoClosure refusal) = Refused refusal
+abbrev pub joinedIn : ℕ → Layers → Table → Room → Closure → Joined
+joinedIn most layers t room (Complete closure) = tableJoined most layers t closure room
+joinedIn most layers t room (NoClosure refusal) = Refused refusal
 
-abbrev pub joinedOf : Layers → ℕ → Table → ℕ → ℕ → Joined
-joinedOf layers target t numberRoom lagRoom = joinedIn layers target t numberRoom lagRoom (closureOf layers target)
+abbrev pub joinedOf : ℕ → Layers → ℕ → Table → Room → Joined
+joinedOf most layers target t room = joinedIn most layers t room (closureOf layers target)
+
+-- what room the three lists have
+abbrev pub roomOf : Lists → Room
+roomOf before = record { numbers = length (before .numbers); lags = length (before .lags); sizes = length (before .sizes) }
 
 -- What the lists hold: the units, and after them what stood there; after a refusal all is as it was.
-abbrev pub numbersAfter : Layers → ℕ → Table → Joined → List ℕ → List ℕ
-numbersAfter layers target t (Units closure units left) before = over (rowsBelow t (frameOf layers closure target) (rowsIn t)) before
-numbersAfter layers target t (Refused refusal) before = before
+abbrev pub listsAfter : Layers → Table → Joined → Lists → Lists
+listsAfter layers t (Units closure units rows) before = listsOver t (frameOf layers closure t) before
+listsAfter layers t (Refused refusal) before = before
 
-abbrev pub lagsAfter : Layers → ℕ → Table → Joined → List ℤ → List ℤ
-lagsAfter layers target t (Units closure units left) before = over (lagsBelow t (frameOf layers closure target) (rowsIn t)) before
-lagsAfter layers target t (Refused refusal) before = before
+-- How many rows a table may have where a caller lends the work space: as many as the shortest of its lists has places, and no more than can be told as a place.
+abbrev pub longestTable : ℕ
+longestTable = 281474976710656
 
--- the same of units over a frame
-abbrev pub framedNumbers : Table → Frame → Joined → List ℕ → List ℕ
-framedNumbers t f (Units closure units left) before = over (rowsBelow t f (rowsIn t)) before
-framedNumbers t f (Refused refusal) before = before
-
-abbrev pub framedLags : Table → Frame → Joined → List ℤ → List ℤ
-framedLags t f (Units closure units left) before = over (lagsBelow t f (rowsIn t)) before
-framedLags t f (Refused refusal) before = before
-
--- whether a row of a closure layer bears no mark
-abbrev pub isSpare : ℕ → List ℕ → List Bool → ℕ → Bool
-isSpare closure indices used k = has closure (getD indices k 0) && not (getD used k false)
+abbrev pub mostLong : List ℕ → ℕ
+mostLong [] = longestTable
+mostLong (places ∷ others) = min places (mostLong others)

@@ -1,6 +1,3 @@
-pub mod Units
-pub mod Judging
-pub mod Writing
-pub mod Orderly
 pub mod Joining
+pub mod Steps
 pub mod Meaning

@@ -1,5 +1,5 @@
-// What is printed: for an accepted table the closure, the number of units and the left-out count, for a refusal its number and place,
-// and after either both lists to their ends.
+// What is printed: for an accepted table the closure, the number of units and that of closure rows, for a refusal its number and place,
+// and after either the three lists to their ends.
 use cases::say;
 use cases::say_number;
 use joining::Joined;
@@ -29,11 +29,11 @@ fn print_set(set: u64) {
     }
 }
 
-fn print_units(closure: u64, units: usize, left_out: usize) {
+fn print_units(closure: u64, units: usize, rows: usize) {
     say(b"accepted closure");
     print_set(closure);
     say_number(b" units ", units as u64);
-    say_number(b" left out ", left_out as u64);
+    say_number(b" rows ", rows as u64);
 }
 
 fn print_refusal(refusal: Refusal) {
@@ -46,8 +46,8 @@ pub fn print(joined: Joined) {
         Joined::Units {
             closure,
             units,
-            left_out,
-        } => print_units(closure, units, left_out),
+            rows,
+        } => print_units(closure, units, rows),
         Joined::Refused(refusal) => print_refusal(refusal),
     }
 }
@@ -81,9 +81,8 @@ fn print_lag(lag: i64) {
     }
 }
 
-// The row numbers, to the end of their list.
-pub fn print_numbers(numbers: &[u64]) {
-    say(b" numbers");
+// Numbers, to the end of their list.
+fn print_list(numbers: &[u64]) {
     let mut i = 0;
     while i < numbers.len() {
         print_number(numbers[i]);
@@ -91,7 +90,12 @@ pub fn print_numbers(numbers: &[u64]) {
     }
 }
 
-// The lags beside them, to the end of theirs, and of the line.
+pub fn print_numbers(numbers: &[u64]) {
+    say(b" numbers");
+    print_list(numbers);
+}
+
+// The lags beside them, to the end of theirs.
 pub fn print_lags(lags: &[i64]) {
     say(b" lags");
     let mut i = 0;
@@ -99,5 +103,11 @@ pub fn print_lags(lags: &[i64]) {
         print_lag(lags[i]);
         i += 1;
     }
+}
+
+// The sizes of the units, to the end of their list, and of the line.
+pub fn print_sizes(sizes: &[u64]) {
+    say(b" sizes");
+    print_list(sizes);
     say(b"\n");
 }

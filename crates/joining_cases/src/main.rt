@@ -1,5 +1,5 @@
 // Reads row tables that a person can read, and prints the whole answer of joining for each. What it prints is held to the file
-// 'stdout', whose answers were worked out by hand from document 01.
+// 'stdout', whose answers were worked out by hand from documents 01 and 02 (W-204).
 //
 // Standard input, one case a line:
 //
@@ -16,14 +16,14 @@
 //     indices 0 1 0*3                      more of the one column alone; 0 three times
 //     decodings 9000 100*5+10              the same for the decoding times,
 //     matches 9000                         and for the match times
-//     places 4,5                           room for 4 row numbers and for 5 lags; 0,0 where the line does not say
+//     places 4,5,4                         room for 4 row numbers, for 5 lags and for 4 sizes; 0 where the line does not say
 //
 // An index above 255 counts as 255, and what goes beyond 600 rows or places is not kept. The answer to a case is one line:
 //
-//     accepted closure 0 1 units 2 left out 0 numbers 0 1 2 3 lags 0 0 600 0 .
-//     refused 15 place 3 numbers . . . . lags . . . . .
+//     accepted closure 0 1 units 2 rows 4 numbers 0 1 2 3 lags 0 0 600 0 . sizes 2 2 . .
+//     refused 15 place 3 numbers . . . . lags . . . . . sizes . . . .
 //
-// Both lists are printed to their ends, a '.' for each place that holds what it held before the call. A line of any other form is
+// The three lists are printed to their ends, a '.' for each place that holds what it held before the call. A line of any other form is
 // answered by 'unreadable', and an input of more than 65,535 bytes, which is not read to its end, by 'too long'.
 ghost use Prim.Native.Nat.{_≤_};
 
@@ -43,10 +43,21 @@ fn answer_table(
     matches: &[u64],
     numbers: &mut [u64],
     lags: &mut [i64],
+    sizes: &mut [u64],
 ) {
-    answers::print(joining::join(layers, target, indices, decodings, matches, numbers, lags));
+    answers::print(joining::join(
+        layers,
+        target,
+        indices,
+        decodings,
+        matches,
+        numbers,
+        lags,
+        sizes,
+    ));
     answers::print_numbers(numbers);
     answers::print_lags(lags);
+    answers::print_sizes(sizes);
 }
 
 // How many rows or places of so many are kept.
@@ -72,8 +83,10 @@ fn answer_lists(
     let match_count = kept(case.matches.count);
     let number_places = kept(case.number_places);
     let lag_places = kept(case.lag_places);
+    let size_places = kept(case.size_places);
     let mut numbers = answers::no_numbers();
     let mut lags = answers::no_lags();
+    let mut sizes = answers::no_numbers();
     answer_table(
         layers,
         case.target,
@@ -82,6 +95,7 @@ fn answer_lists(
         &matches[..match_count],
         &mut numbers[..number_places],
         &mut lags[..lag_places],
+        &mut sizes[..size_places],
     );
 }
 

@@ -20,6 +20,7 @@ pub struct Case {
     pub matches: Column,
     pub number_places: u64,
     pub lag_places: u64,
+    pub size_places: u64,
 }
 
 fn nothing_read() -> Case {
@@ -35,6 +36,7 @@ fn nothing_read() -> Case {
         matches: none,
         number_places: 0,
         lag_places: 0,
+        size_places: 0,
     }
 }
 
@@ -122,6 +124,7 @@ fn with_target(mut case: Case, numbers: Numbers) -> Case {
 fn with_places(mut case: Case, numbers: Numbers) -> Case {
     case.number_places = number_or(numbers, 0, 0);
     case.lag_places = number_or(numbers, 1, 0);
+    case.size_places = number_or(numbers, 2, 0);
     case
 }
 

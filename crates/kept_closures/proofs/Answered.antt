@@ -22,7 +22,7 @@ use Rattle.closure.proofs.Scan.{no-layer, none-missing, one-missing, empty-none
 use Rattle.kept_closures.specs.Kept.{Columns, freshOf, lacksOne, FreshAt, Kept, answerKept}
 
 -- a closure is a set of 64 indices
-closure-small : (layers : Layers) (target : ℕ) → target < 64 → restedOn layers target < 2 ^ 64
+pub closure-small : (layers : Layers) (target : ℕ) → target < 64 → restedOn layers target < 2 ^ 64
 closure-small layers target h =
     subst (λ (s : ℕ). s < 2 ^ 64) (same-members (below (restedOn layers target) 64) (restedOn layers target) each) (below-within 64 (restedOn layers target) 64 (le-refl 64))
   where

@@ -18,10 +18,10 @@ use Rattle.closure.specs.declared.Layers.{Layers}
 use Rattle.closure.specs.Closures.{isLayer, restedOn}
 use Rattle.closure.specs.Meaning.{itself}
 use Rattle.closure.proofs.Reached.{rests-on-member}
-use Rattle.kept_closures.specs.Kept.{Columns, columns, freshOf, lacksOne, storedAt, FreshAt, Places, Kept, withLayer, withoutLayer, closureOver, shrunkAt, shrunkFrom}
+use Rattle.kept_closures.specs.Kept.{Columns, columns, freshOf, lacksOne, storedAt, FreshAt, Places, Kept, withLayer, withoutLayer, closureOver, shrunkAt, shrunkBy, columnsRemoved}
 use Rattle.kept_closures.proofs.Resting.{was-layer}
 use Rattle.kept_closures.proofs.Fresh.{put-together, fresh-same, fresh-more, same-absent, not-above}
-use Rattle.kept_closures.proofs.Steps.{Halfway, by-storing, by-leaving, at-first, at-last}
+use Rattle.kept_closures.proofs.Steps.{Halfway, by-storing, by-leaving, at-first, stepped}
 
 module _ (layers : Layers) (i : ℕ) (room : i < length (layers .embedded)) (small : i < 64) (here : isLayer layers i ≡ true) where
   abbrev less : Layers
@@ -140,29 +140,8 @@ module _ (layers : Layers) (i : ℕ) (room : i < length (layers .embedded)) (sma
           (again-at kept k (λ s. omega arith) (ap (λ (s : ℕ). has s i) (sym (f .closure)) ∙ e) (λ j h. half .done j h (let l : j < 64 = omega arith in l) .closure))
       go false e f = by-leaving layers less k kept inside half (same-at kept k (λ s. omega arith) e f)
 
-  next-all : (n k : ℕ) (kept : Columns) → i < k → n + k ≡ 64 → Halfway layers less k kept
-      → Halfway layers less 64 (shrunkFrom (less .present) i (less .embedded) k n kept)
-  next-all zero k kept above sum half = let e : k ≡ 64 = omega arith in subst (λ (m : ℕ). Halfway layers less m kept) e half
-  next-all (suc n) k kept above sum half =
-      let same : k + 1 ≡ suc k = omega arith in
-      next-all n (suc k) (shrunkAt (less .present) i k (getD (less .embedded) k 0) kept) (omega arith) (omega arith)
-      (subst (λ (m : ℕ). Halfway layers less m (shrunkAt (less .present) i k (getD (less .embedded) k 0) kept)) same (next k kept above (omega arith) half))
-
   -- THE WHOLE
-  pub removed-kept : (kept : Columns) → Kept layers kept
-      → Kept less (shrunkFrom (less .present) i (less .embedded) (i + 1) (63 - i) (storedAt (less .present) 0 i kept))
+  pub removed-kept : (kept : Columns) → Kept layers kept → Kept less (columnsRemoved (layers .present) (layers .embedded) i kept)
+  unfolding columnsRemoved
   removed-kept kept k =
-      at-last layers less 64 (shrunkFrom (less .present) i (less .embedded) (i + 1) (63 - i) (storedAt (less .present) 0 i kept)) (omega arith)
-      (next-all (63 - i) (i + 1) (storedAt (less .present) 0 i kept) (omega arith) (omega arith) (start kept k))
-
--- one turn of the loop
-pub shrunk-turn : (present i k : ℕ) (embedded : List ℕ) (kept : Columns) → k < 64
-    → shrunkFrom present i embedded (k + 1) (64 - (k + 1)) (shrunkAt present i k (getD embedded k 0) kept) ≡ shrunkFrom present i embedded k (64 - k) kept
-shrunk-turn present i k embedded kept h =
-    let one : k + 1 ≡ suc k = omega arith in
-    let fewer : 64 - k ≡ suc (64 - (k + 1)) = omega arith in
-    ap (λ (m : ℕ). shrunkFrom present i embedded m (64 - (k + 1)) (shrunkAt present i k (getD embedded k 0) kept)) one
-    ∙ ap (λ (n : ℕ). shrunkFrom present i embedded k n kept) (sym fewer)
-
-pub shrunk-end : (present i k : ℕ) (embedded : List ℕ) (kept : Columns) → 64 ≤ k → kept ≡ shrunkFrom present i embedded k (64 - k) kept
-shrunk-end present i k embedded kept h = let none : 64 - k ≡ 0 = omega arith in ap (λ (n : ℕ). shrunkFrom present i embedded k n kept) (sym none)
+      stepped layers less (shrunkBy (less .present) i (less .embedded)) i small next (storedAt (less .present) 0 i kept) (start kept k)

@@ -16,7 +16,7 @@ use Rattle.sets.specs.Sets.{has, joined, only, without, size}
 use Rattle.sets.proofs.Laws.{has-none, has-joined, same-members, one-shifted}
 use Rattle.closure.specs.declared.Layers.{Layers}
 use Rattle.closure.specs.Closures.{isLayer, restedOn}
-use Rattle.kept_closures.specs.Kept.{Columns, columns, freshOf, lacksOne, storedAt, FreshAt, Places, Kept, withLayer, withNamed, united, closureOver, grownAt, grownFrom}
+use Rattle.kept_closures.specs.Kept.{Columns, columns, freshOf, lacksOne, storedAt, FreshAt, Places, Kept, withLayer, withNamed, united, closureOver, grownAt, stepsFrom, columnsAdded}
 use Rattle.kept_closures.proofs.Resting.{is-there}
 use Rattle.kept_closures.proofs.Fresh.{fresh-same, fresh-more, fresh-own, rested-own, same-absent, not-above}
 
@@ -146,6 +146,40 @@ at-first was is kept k = record { places = k .places; done = λ m h l. absurd (o
 pub at-last : (was is : Layers) (k : ℕ) (kept : Columns) → 64 ≤ k → Halfway was is k kept → Kept is kept
 at-last was is k kept h half = record { places = half .places; fresh = λ m l. half .done m (let b : m < k = omega arith in b) l }
 
+-- every index above one, each by its step
+module _ (was is : Layers) (step : ℕ → Columns → Columns) where
+  steps-through : (n k : ℕ) (kept : Columns) → n + k ≡ 64
+      → ((m : ℕ) (now : Columns) → k ≤ m → m < 64 → Halfway was is m now → Halfway was is (m + 1) (step m now))
+      → Halfway was is k kept → Halfway was is 64 (stepsFrom step k n kept)
+  steps-through zero k kept sum each half = let e : k ≡ 64 = omega arith in subst (λ (m : ℕ). Halfway was is m kept) e half
+  steps-through (suc n) k kept sum each half =
+      let same : k + 1 ≡ suc k = omega arith in
+      steps-through n (suc k) (step k kept) (omega arith) (λ m now h. each m now (omega arith))
+      (subst (λ (m : ℕ). Halfway was is m (step k kept)) same (each k kept (omega arith) (omega arith) half))
+
+  pub all-stepped : (k n : ℕ) (kept : Columns) → n + k ≡ 64
+      → ((m : ℕ) (now : Columns) → k ≤ m → m < 64 → Halfway was is m now → Halfway was is (m + 1) (step m now))
+      → Halfway was is k kept → Kept is (stepsFrom step k n kept)
+  all-stepped k n kept sum each half = at-last was is 64 (stepsFrom step k n kept) (omega arith) (steps-through n k kept sum each half)
+
+  pub stepped : (i : ℕ) → i < 64
+      → ((m : ℕ) (now : Columns) → i < m → m < 64 → Halfway was is m now → Halfway was is (m + 1) (step m now))
+      → (kept : Columns) → Halfway was is (i + 1) kept → Kept is (stepsFrom step (i + 1) (63 - i) kept)
+  stepped i inside each kept half =
+      all-stepped (i + 1) (63 - i) kept (omega arith) (λ m now h. each m now (omega arith)) half
+
+-- one turn of such a loop, and its end
+pub step-turn : (step : ℕ → Columns → Columns) (k : ℕ) (kept : Columns) → k < 64
+    → stepsFrom step (k + 1) (64 - (k + 1)) (step k kept) ≡ stepsFrom step k (64 - k) kept
+step-turn step k kept h =
+    let one : k + 1 ≡ suc k = omega arith in
+    let less : 64 - k ≡ suc (64 - (k + 1)) = omega arith in
+    ap (λ (m : ℕ). stepsFrom step m (64 - (k + 1)) (step k kept)) one
+    ∙ ap (λ (n : ℕ). stepsFrom step k n kept) (sym less)
+
+pub step-end : (step : ℕ → Columns → Columns) (k : ℕ) (kept : Columns) → 64 ≤ k → kept ≡ stepsFrom step k (64 - k) kept
+step-end step k kept h = let none : 64 - k ≡ 0 = omega arith in ap (λ (n : ℕ). stepsFrom step k n kept) (sym none)
+
 -- ---- a layer more
 
 module _ (layers : Layers) (i names : ℕ) (room : i < length (layers .embedded)) (small : i < 64) (new : isLayer layers i ≡ false) where
@@ -201,29 +235,10 @@ module _ (layers : Layers) (i names : ℕ) (room : i < length (layers .embedded)
           ∙ sym (fresh-more layers i names room small new k (λ s. omega arith) (ap (λ (s : ℕ). has s i) (sym (f .closure)) ∙ e)))
       go false e f = by-leaving layers after k kept inside half (same-at kept k (λ s. omega arith) e f)
 
-  next-all : (n k own : ℕ) (kept : Columns) → i < k → n + k ≡ 64 → own ≡ restedOn after i → Halfway layers after k kept
-      → Halfway layers after 64 (grownFrom (after .present) own i k n kept)
-  next-all zero k own kept above sum is-own half = let e : k ≡ 64 = omega arith in subst (λ (m : ℕ). Halfway layers after m kept) e half
-  next-all (suc n) k own kept above sum is-own half =
-      let same : k + 1 ≡ suc k = omega arith in
-      next-all n (suc k) own (grownAt (after .present) own i k kept) (omega arith) (omega arith) is-own
-      (subst (λ (m : ℕ). Halfway layers after m (grownAt (after .present) own i k kept)) same (next k own kept above (omega arith) is-own half))
-
   -- THE WHOLE: the new layer's closure, and what comes to those that rest on it
-  pub added-kept : (kept : Columns) → Kept layers kept
-      → Kept after (grownFrom (after .present) (ownIn kept) i (i + 1) (63 - i) (storedAt (after .present) (ownIn kept) i kept))
+  pub added-kept : (kept : Columns) → Kept layers kept → Kept after (columnsAdded (layers .present) i names kept)
+  unfolding columnsAdded
   added-kept kept k =
-      at-last layers after 64 (grownFrom (after .present) (ownIn kept) i (i + 1) (63 - i) (storedAt (after .present) (ownIn kept) i kept)) (omega arith)
-      (next-all (63 - i) (i + 1) (ownIn kept) (storedAt (after .present) (ownIn kept) i kept) (omega arith) (omega arith) (own-closure kept k) (start kept k))
-
--- one turn of the loop
-pub grown-turn : (present own i k : ℕ) (kept : Columns) → k < 64
-    → grownFrom present own i (k + 1) (64 - (k + 1)) (grownAt present own i k kept) ≡ grownFrom present own i k (64 - k) kept
-grown-turn present own i k kept h =
-    let one : k + 1 ≡ suc k = omega arith in
-    let less : 64 - k ≡ suc (64 - (k + 1)) = omega arith in
-    ap (λ (m : ℕ). grownFrom present own i m (64 - (k + 1)) (grownAt present own i k kept)) one
-    ∙ ap (λ (n : ℕ). grownFrom present own i k n kept) (sym less)
-
-pub grown-end : (present own i k : ℕ) (kept : Columns) → 64 ≤ k → kept ≡ grownFrom present own i k (64 - k) kept
-grown-end present own i k kept h = let none : 64 - k ≡ 0 = omega arith in ap (λ (n : ℕ). grownFrom present own i k n kept) (sym none)
+      stepped layers after (grownAt (after .present) (ownIn kept) i) i small
+      (λ m now above inside half. next m (ownIn kept) now above inside (own-closure kept k) half)
+      (storedAt (after .present) (ownIn kept) i kept) (start kept k)

@@ -2,12 +2,12 @@
 -- number of layers in it, and whether one is absent.' An absent index is in the closure as it is named; what lies below it is unknown and adds nothing
 -- until that layer is there.
 -- Assumes nothing.
-use Prim.Native.Nat.{ℕ, zero, suc, _<_}
+use Prim.Native.Nat.{ℕ, zero, suc, _+_, _-_, _<_}
 use mathlib.Core.Bool.{Bool, false, not, cond, _&&_}
-use mathlib.Core.List.{List}
+use mathlib.Core.List.{List, [], _∷_, _++_}
 use mathlib.Core.Path.{_≡_}
 use lib.Dec.{eqb, ltb}
-use lib.ListN.{length, getD, set}
+use lib.ListN.{length, getD, set, replicate}
 use Rattle.sets.specs.Sets.{has, joined, only, added, without, size, lowest}
 use Rattle.closure.specs.declared.Layers.{Layers}
 use Rattle.vocabulary.specs.declared.refusal.Refusal.the-variants.{NoSuchLayer, EmbeddedLayerAbsent}
@@ -82,21 +82,62 @@ abbrev pub grownAt : ℕ → ℕ → ℕ → ℕ → Columns → Columns
 grownAt present own i k kept =
     cond (has (getD (kept .closures) k 0) i) (storedAt present (joined (getD (kept .closures) k 0) own) k kept) kept
 
--- and to the next n layers from k on
-abbrev pub grownFrom : ℕ → ℕ → ℕ → ℕ → ℕ → Columns → Columns
-grownFrom present own i k zero kept = kept
-grownFrom present own i k (suc n) kept = grownFrom present own i (suc k) n (grownAt present own i k kept)
-
 -- the closure of a layer that rested on an index which has no layer any more, put together again from what it names
 abbrev pub shrunkAt : ℕ → ℕ → ℕ → ℕ → Columns → Columns
 shrunkAt present i k names kept =
     cond (has (getD (kept .closures) k 0) i) (storedAt present (closureOver (kept .closures) k names) k kept) kept
 
--- and of the next n layers from k on, the lower first
-abbrev pub shrunkFrom : ℕ → ℕ → List ℕ → ℕ → ℕ → Columns → Columns
-shrunkFrom present i embedded k zero kept = kept
-shrunkFrom present i embedded k (suc n) kept =
-    shrunkFrom present i embedded (suc k) n (shrunkAt present i k (getD embedded k 0) kept)
+-- A CHANGE, INDEX BY INDEX: what a step makes of what is kept, for the n indices from k on, the lower first, since a higher layer rests on it
+abbrev pub stepsFrom : (ℕ → Columns → Columns) → ℕ → ℕ → Columns → Columns
+stepsFrom step k zero kept = kept
+stepsFrom step k (suc n) kept = stepsFrom step (suc k) n (step k kept)
+
+-- what comes to every layer above an index that has a layer now,
+abbrev pub grownAbove : ℕ → ℕ → ℕ → Columns → Columns
+grownAbove present own i kept = stepsFrom (grownAt present own i) (i + 1) (63 - i) kept
+
+-- and what goes from every layer above one that has none any more
+abbrev pub shrunkBy : ℕ → ℕ → List ℕ → ℕ → Columns → Columns
+shrunkBy present i embedded k kept = shrunkAt present i k (getD embedded k 0) kept
+
+abbrev pub shrunkAbove : ℕ → ℕ → List ℕ → Columns → Columns
+shrunkAbove present i embedded kept = stepsFrom (shrunkBy present i embedded) (i + 1) (63 - i) kept
+
+-- A LAYER MORE: its own closure is put together, and comes to those that rest on it.
+unfoldable pub columnsAdded : ℕ → ℕ → ℕ → Columns → Columns
+columnsAdded present i names kept =
+    let own : ℕ = closureOver (kept .closures) i names in
+    grownAbove (added present i) own i (storedAt (added present i) own i kept)
+
+-- A LAYER LESS: nothing is kept of it, and the closures of those that rested on it are put together again.
+unfoldable pub columnsRemoved : ℕ → List ℕ → ℕ → Columns → Columns
+columnsRemoved present embedded i kept =
+    let left : ℕ = without present (only i) in
+    shrunkAbove left i (set embedded i 0) (storedAt left 0 i kept)
+
+-- ALL OF IT, WORKED OUT AFRESH: by index what each layer rests on, how many that are, and whether one is absent; and nothing where there is no layer
+abbrev pub eachBelow : {A : Type 0} → (ℕ → A) → ℕ → List A
+eachBelow f zero = []
+eachBelow f (suc n) = eachBelow f n ++ f n ∷ []
+
+unfoldable pub freshColumns : Layers → Columns
+freshColumns layers =
+    columns
+    (eachBelow (freshOf layers) 64)
+    (eachBelow (λ i. size (freshOf layers i)) 64)
+    (eachBelow (λ i. lacksOne (layers .present) (freshOf layers i)) 64)
+
+-- the closure of a layer put together where nothing is kept of it yet
+abbrev pub workedAt : ℕ → ℕ → ℕ → Columns → Columns
+workedAt present k names kept =
+    cond (has present k) (storedAt present (closureOver (kept .closures) k names) k kept) kept
+
+abbrev pub workedBy : ℕ → List ℕ → ℕ → Columns → Columns
+workedBy present embedded k kept = workedAt present k (getD embedded k 0) kept
+
+-- nothing kept of any index
+abbrev pub noColumns : Columns
+noColumns = columns (replicate 64 0) (replicate 64 0) (replicate 64 false)
 
 -- THE ANSWER TO A TARGET from what is kept: 11 where there is no layer with the target index; 12, at the lowest missing index, where a layer in the closure is absent;
 -- else the closure.

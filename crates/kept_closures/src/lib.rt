@@ -1,12 +1,10 @@
 // What each layer rests on, kept with it while layers come and go, so that the answer to any target is at hand: nothing is worked out afresh but what a
 // change can have changed.
 ghost use mathlib.Core.Path.{_≡_};
-ghost use mathlib.Core.Bool.{false, true};
-ghost use Prim.Native.Nat.{_+_, _-_, _<_, _≤_};
-ghost use lib.ListN.{length, set};
+ghost use Prim.Native.Nat.{_<_};
+ghost use lib.ListN.{set};
 ghost use Rattle.sets.specs.Sets.{added, without, only};
-ghost use Rattle.closure.specs.Closures.{isLayer};
-ghost use Rattle.kept_closures.specs.Kept.{layersBy, columns, storedAt, Kept, withLayer, withoutLayer, withNamed, closureOver, grownAt, grownFrom, shrunkAt, shrunkFrom, answerKept};
+ghost use Rattle.kept_closures.specs.Kept.{layersBy, columns, storedAt, withNamed, closureOver, grownAt, grownAbove, shrunkAt, shrunkAbove, workedAt, columnsAdded, columnsRemoved, freshColumns, answerKept};
 use closure::Closure;
 use vocabulary::LayerIndex;
 use vocabulary::Refusal;
@@ -85,7 +83,7 @@ fn grow_all(
 )
     requires { ⌜ index < 64 ⌝ }
     ensures { λ _. ⌜ columns (now (closures .exit)) (now (sizes .exit)) (now (absents .exit))
-        ≡ grownFrom present own index (index + 1) (63 - index) (columns (now (closures .entry)) (now (sizes .entry)) (now (absents .entry))) ⌝ }
+        ≡ grownAbove present own index (columns (now (closures .entry)) (now (sizes .entry)) (now (absents .entry))) ⌝ }
 {
     let mut upper = index + 1;
     while upper < 64 {
@@ -105,11 +103,10 @@ pub fn add(
     index: usize,
     names: u64,
 ) -> u64
-    requires { ⌜ (index < 64) × (isLayer (layersBy present (now embedded)) index ≡ false) × (length (now embedded) ≡ 64)
-        × Kept (layersBy present (now embedded)) (columns (now closures) (now sizes) (now absents)) ⌝ }
+    requires { ⌜ index < 64 ⌝ }
     ensures answer { λ r. ⌜ (r ≡ added present index) × (now (embedded .exit) ≡ set (now (embedded .entry)) index names) ⌝ }
-    ensures content { λ _. ⌜ Kept (withLayer (layersBy present (now (embedded .entry))) index names)
-        (columns (now (closures .exit)) (now (sizes .exit)) (now (absents .exit))) ⌝ }
+    ensures content { λ _. ⌜ columns (now (closures .exit)) (now (sizes .exit)) (now (absents .exit))
+        ≡ columnsAdded present index names (columns (now (closures .entry)) (now (sizes .entry)) (now (absents .entry))) ⌝ }
 {
     let now_present = sets::with(present, index);
     let own = closure_over(closures, index, names);
@@ -150,8 +147,7 @@ fn shrink_all(
 )
     requires { ⌜ index < 64 ⌝ }
     ensures { λ _. ⌜ columns (now (closures .exit)) (now (sizes .exit)) (now (absents .exit))
-        ≡ shrunkFrom present index (now (embedded .entry)) (index + 1) (63 - index)
-        (columns (now (closures .entry)) (now (sizes .entry)) (now (absents .entry))) ⌝ }
+        ≡ shrunkAbove present index (now (embedded .entry)) (columns (now (closures .entry)) (now (sizes .entry)) (now (absents .entry))) ⌝ }
 {
     let mut upper = index + 1;
     while upper < 64 {
@@ -178,17 +174,55 @@ pub fn remove(
     absents: &mut [bool; 64],
     index: usize,
 ) -> u64
-    requires { ⌜ (index < 64) × (isLayer (layersBy present (now embedded)) index ≡ true) × (length (now embedded) ≡ 64)
-        × Kept (layersBy present (now embedded)) (columns (now closures) (now sizes) (now absents)) ⌝ }
+    requires { ⌜ index < 64 ⌝ }
     ensures answer { λ r. ⌜ (r ≡ without present (only index)) × (now (embedded .exit) ≡ set (now (embedded .entry)) index 0) ⌝ }
-    ensures content { λ _. ⌜ Kept (withoutLayer (layersBy present (now (embedded .entry))) index)
-        (columns (now (closures .exit)) (now (sizes .exit)) (now (absents .exit))) ⌝ }
+    ensures content { λ _. ⌜ columns (now (closures .exit)) (now (sizes .exit)) (now (absents .exit))
+        ≡ columnsRemoved present (now (embedded .entry)) index (columns (now (closures .entry)) (now (sizes .entry)) (now (absents .entry))) ⌝ }
 {
     let now_present = sets::without(present, 1 << index);
     embedded[index] = 0;
     keep(now_present, 0, index, closures, sizes, absents);
     shrink_all(now_present, index, embedded, closures, sizes, absents);
     now_present
+}
+
+// The closure of a layer put together, if there is one of the index.
+fn work_out_at(
+    present: u64,
+    index: usize,
+    names: u64,
+    closures: &mut [u64; 64],
+    sizes: &mut [u8; 64],
+    absents: &mut [bool; 64],
+)
+    requires { ⌜ index < 64 ⌝ }
+    ensures { λ _. ⌜ columns (now (closures .exit)) (now (sizes .exit)) (now (absents .exit))
+        ≡ workedAt present index names (columns (now (closures .entry)) (now (sizes .entry)) (now (absents .entry))) ⌝ }
+{
+    if sets::member(present, index) {
+        let closure = closure_over(closures, index, names);
+        keep(present, closure, index, closures, sizes, absents);
+    }
+}
+
+// WORKED OUT AFRESH, whatever was kept: the lower first, since a higher layer rests on it.
+pub fn work_out(
+    present: u64,
+    embedded: &[u64; 64],
+    closures: &mut [u64; 64],
+    sizes: &mut [u8; 64],
+    absents: &mut [bool; 64],
+)
+    ensures { λ _. ⌜ columns (now (closures .exit)) (now (sizes .exit)) (now (absents .exit)) ≡ freshColumns (layersBy present (now (embedded .entry))) ⌝ }
+{
+    *closures = [0; 64];
+    *sizes = [0; 64];
+    *absents = [false; 64];
+    let mut index = 0;
+    while index < 64 {
+        work_out_at(present, index, embedded[index], closures, sizes, absents);
+        index += 1;
+    }
 }
 
 // THE ANSWER TO A TARGET from what is kept, with nothing to be walked: the closure, or 11, or 12 with the lowest missing index.

@@ -18,6 +18,9 @@ use Rattle.es_loop.specs.declared.reader.Outcome.the-variants.{Accepted, Refuse
 use Rattle.loop_layers.specs.declared.table.LayerTable.{LayerTable}
 use Rattle.loop_layers.specs.declared.table.TableRead.{TableRead}
 use Rattle.loop_layers.specs.Closures.{loopTable}
+use Rattle.descriptors.specs.Records.{channelOf}
+use Rattle.layer_set.specs.declared.«set».LayerSet.{LayerSet}
+use Rattle.layer_set.specs.Sets.{entryAt, closureIn}
 use Rattle.text.specs.Text.{ascii, decimal, texts}
 
 -- a label, and after it a number
@@ -66,6 +69,24 @@ layersText table = texts (lineAt table) 64
 -- 'The first line counts layers.'
 unfoldable pub acceptedText : LayerTable → List ℕ
 acceptedText table = labelled (ascii "accepted ") (size (table .layers .present)) ++ ascii "\n" ++ layersText table
+
+-- THE SAME FROM A LAYER SET (document 02, W-207), whose closures are stored: proofs/FromSet.antt has the law that the set of a loop gives the text of its table.
+unfoldable pub setLine : LayerSet → ℕ → List ℕ
+setLine s i =
+    cond (has (s .layers .present) i)
+    (layerLine
+    (record { 0 = i })
+    (entryAt (s .entries) i .pid)
+    (entryAt (s .entries) i .«stream_type»)
+    (channelOf (entryAt (s .entries) i .«record»))
+    (closureIn s i))
+    []
+
+unfoldable pub setLines : LayerSet → List ℕ
+setLines s = texts (setLine s) 64
+
+unfoldable pub setText : LayerSet → List ℕ
+setText s = labelled (ascii "accepted ") (size (s .layers .present)) ++ ascii "\n" ++ setLines s
 
 -- 'A refusal prints only `refused N entry E`.'
 unfoldable pub refusedText : Refusal → List ℕ

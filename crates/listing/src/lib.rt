@@ -1,18 +1,18 @@
-// The lines of the program `layers`, laid into a buffer: `put_loop` lays in all that the program prints.
+// The lines of the program `layers`, laid into a buffer: `put_loop` lays in all that the program prints, from the layer set of the loop.
 ghost use mathlib.Core.Path.{_≡_};
 ghost use Prim.Native.Nat.{_<_};
 ghost use Rattle.text.specs.Text.{Laid};
-ghost use Rattle.listing.specs.Lines.{labelled, member as memberText, members, closureText, layerLine, lineAt, layersText, acceptedText, refusedText, loopText};
+ghost use Rattle.listing.specs.Lines.{labelled, member as memberText, members, closureText, layerLine, setLine, setLines, setText, refusedText, loopText};
 use closure::Closure;
 use es_loop::Outcome;
-use loop_layers::LayerTable;
+use layer_set::LayerSet;
 use vocabulary::HierarchyChannel;
 use vocabulary::LayerIndex;
 use vocabulary::Reading;
 use vocabulary::Refusal;
 
 // A label and a number after it.
-fn put_labelled(out: &mut [u8], at: usize, label: &[u8], n: u64) -> usize
+pub fn put_labelled(out: &mut [u8], at: usize, label: &[u8], n: u64) -> usize
     ensures { λ r. ⌜ Laid (now (out .entry)) at (labelled (now (label .entry)) n) r (now (out .exit)) ⌝ }
 {
     let next = text::put(out, at, label);
@@ -73,23 +73,24 @@ fn put_layer(
     text::put(out, place, b"\n")
 }
 
-// The line of the layer of an index, if the loop has that layer.
-fn put_layer_at(out: &mut [u8], at: usize, table: LayerTable, index: usize) -> usize
+// The line of the layer of an index, if the set has that layer: its closure from what the set stores.
+fn put_layer_at(out: &mut [u8], at: usize, kept: LayerSet, index: usize) -> usize
     requires { ⌜ index < 64 ⌝ }
-    ensures { λ r. ⌜ Laid (now (out .entry)) at (lineAt table index) r (now (out .exit)) ⌝ }
+    ensures { λ r. ⌜ Laid (now (out .entry)) at (setLine kept index) r (now (out .exit)) ⌝ }
 {
-    let layers = table.layers;
+    let layers = kept.layers;
     if sets::member(layers.present, index) {
-        let pid = table.pids[index];
-        let stream_type = table.stream_types[index];
-        let channel = table.channels[index];
-        let closure = closure::closure_of(layers, index as u64);
+        let entries = kept.entries;
+        let entry = entries[index];
+        let record = entry.record;
+        let channel = descriptors::channel(record);
+        let closure = layer_set::closure(kept, index as u64);
         return put_layer(
             out,
             at,
             LayerIndex(index as u8),
-            pid,
-            stream_type,
+            entry.pid,
+            entry.stream_type,
             channel,
             closure,
         );
@@ -98,26 +99,26 @@ fn put_layer_at(out: &mut [u8], at: usize, table: LayerTable, index: usize) -> u
 }
 
 // The lines of all layers, by rising index.
-fn put_layers(out: &mut [u8], at: usize, table: LayerTable) -> usize
-    ensures { λ r. ⌜ Laid (now (out .entry)) at (layersText table) r (now (out .exit)) ⌝ }
+fn put_layers(out: &mut [u8], at: usize, kept: LayerSet) -> usize
+    ensures { λ r. ⌜ Laid (now (out .entry)) at (setLines kept) r (now (out .exit)) ⌝ }
 {
     let mut place = text::put(out, at, b"");
     let mut index = 0;
     while index < 64 {
-        place = put_layer_at(out, place, table, index);
+        place = put_layer_at(out, place, kept, index);
         index += 1;
     }
     place
 }
 
-// Lays all that the program prints for an accepted loop into `out` from place `at` on, and answers the place after it.
-pub fn put_accepted(out: &mut [u8], at: usize, table: LayerTable) -> usize
-    ensures { λ r. ⌜ Laid (now (out .entry)) at (acceptedText table) r (now (out .exit)) ⌝ }
+// Lays all that the program prints for the layer set of an accepted loop into `out` from place `at` on, and answers the place after it.
+pub fn put_accepted(out: &mut [u8], at: usize, kept: LayerSet) -> usize
+    ensures { λ r. ⌜ Laid (now (out .entry)) at (setText kept) r (now (out .exit)) ⌝ }
 {
-    let layers = table.layers;
+    let layers = kept.layers;
     let mut place = put_labelled(out, at, b"accepted ", sets::size(layers.present) as u64);
     place = text::put(out, place, b"\n");
-    put_layers(out, place, table)
+    put_layers(out, place, kept)
 }
 
 // Lays all that the program prints for a refused loop into `out` from place `at` on, and answers the place after it.
@@ -133,11 +134,11 @@ pub fn put_refused(out: &mut [u8], at: usize, refusal: Refusal) -> usize
 pub fn put_loop(out: &mut [u8], at: usize, reading: Reading, bytes: &[u8]) -> usize
     ensures { λ r. ⌜ Laid (now (out .entry)) at (loopText reading (now (bytes .entry))) r (now (out .exit)) ⌝ }
 {
-    let read = loop_layers::read_table(reading, bytes);
+    let read = layer_set::read_set(reading, bytes);
     let outcome = read.outcome;
-    let table = read.table;
+    let kept = read.set;
     match outcome {
-        Outcome::Accepted => put_accepted(out, at, table),
+        Outcome::Accepted => put_accepted(out, at, kept),
         Outcome::Refused(refusal) => put_refused(out, at, refusal),
     }
 }

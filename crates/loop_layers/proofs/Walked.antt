@@ -45,7 +45,7 @@ tableWith table es =
     }
 
 -- A column that comes to one of 64 places has as many, and what is put there, is.
-column-put : {A : Type 0} (value : Entry → A) (column : List A) (e : Entry) (es all : List Entry) (blank : A)
+pub column-put : {A : Type 0} (value : Entry → A) (column : List A) (e : Entry) (es all : List Entry) (blank : A)
     → columnWith value column (e ∷ es) ≡ columnOf blank value all → putAt column (placeOf e) (value e) ≡ set column (placeOf e) (value e)
 column-put value column e es all blank inv = go (decLt (placeOf e) 64)
   where

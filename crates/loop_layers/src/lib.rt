@@ -9,6 +9,8 @@ mod layer_sets;
 mod table;
 
 pub use layer_sets::LayersRead;
+pub use layer_sets::add_layer;
+pub use layer_sets::no_layers;
 pub use layer_sets::read_layers;
 pub use table::LayerTable;
 pub use table::TableRead;

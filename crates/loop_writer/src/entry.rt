@@ -13,7 +13,7 @@ use es_loop::Entry;
 use implied::Views;
 
 // Reserved bits are 1: 224 is three of them before five bits, 240 four before four.
-fn entry_head(stream_type: u8, pid: u16, info_length: u16) -> [u8; 5]
+pub fn entry_head(stream_type: u8, pid: u16, info_length: u16) -> [u8; 5]
     requires { ⌜ (pid < 8192) × («info_length» < 4096) ⌝ }
     ensures { λ r. ⌜ r ≡ bytesIn (entryHeadTable «stream_type» pid «info_length») ⌝ }
 {

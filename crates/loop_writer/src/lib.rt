@@ -8,10 +8,13 @@ mod passes;
 mod weighing;
 mod writer;
 
+pub use entry::entry_head;
 pub use entry::put_entry;
+pub use entry::too_wide;
 pub use entry::view_of;
 pub use weighing::Weighed;
 pub use weighing::nothing_weighed;
+pub use weighing::stream_for;
 pub use weighing::weigh_next;
 pub use writer::Written;
 pub use writer::decide;

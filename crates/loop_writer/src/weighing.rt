@@ -34,7 +34,7 @@ pub fn nothing_weighed() -> Weighed
 }
 
 // An entry as it is judged.
-fn stream_for(entry: Entry) -> Stream
+pub fn stream_for(entry: Entry) -> Stream
     ensures { λ r. ⌜ r ≡ streamFor entry ⌝ }
 {
     let record = entry.record;

@@ -31,14 +31,14 @@ decodingOf t k = getD (t .decodings) k 0
 abbrev pub matchOf : Table → ℕ → ℕ
 matchOf t k = getD (t .matches) k 0
 
--- the rows that a table may have
+-- the rows that a table may have, where nobody says more
 abbrev pub mostRows : ℕ
 mostRows = 512
 
--- 13: 'row columns of unequal length, more than 512 rows (place 0)'
-abbrev pub wrongShape : Table → Bool
-wrongShape t =
-    not (eqb (length (t .decodings)) (rowsIn t)) || (not (eqb (length (t .matches)) (rowsIn t)) || ltb mostRows (rowsIn t))
+-- 13: 'row columns of unequal length, more than 512 rows (place 0)', where `most` is 512 or what a caller has work space for
+abbrev pub wrongShape : ℕ → Table → Bool
+wrongShape most t =
+    not (eqb (length (t .decodings)) (rowsIn t)) || (not (eqb (length (t .matches)) (rowsIn t)) || ltb most (rowsIn t))
 
 -- 'or a row out of range': 'A row is out of range when its index is above 63 or either time is 2^33 or more.'
 abbrev pub outside : ℕ → ℕ → ℕ → Bool

@@ -7,8 +7,8 @@ use Rattle.rows.specs.declared.Verdict.{Verdict}
 use Rattle.rows.specs.declared.Verdict.the-variants.{InOrder, OutOfRange, OrderBroken}
 use Rattle.rows.specs.Table.{Table, rowsIn, wrongShape, firstOutOfRange, firstBroken}
 
-abbrev pub verdictOf : Table → ℕ → Verdict
-verdictOf t closure =
-    cond (wrongShape t) (OutOfRange 0)
+abbrev pub verdictOf : ℕ → Table → ℕ → Verdict
+verdictOf most t closure =
+    cond (wrongShape most t) (OutOfRange 0)
     (cond (ltb (firstOutOfRange t) (rowsIn t)) (OutOfRange (firstOutOfRange t))
     (cond (ltb (firstBroken t closure) (rowsIn t)) (OrderBroken (firstBroken t closure)) InOrder))

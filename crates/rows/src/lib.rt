@@ -10,7 +10,7 @@ ghost use Rattle.rows.specs.Verdicts.{verdictOf};
 use clock::HALF;
 use clock::TICKS;
 
-// The rows that a table may have.
+// The rows that a table may have, where its caller has no work space for more.
 pub const MOST_ROWS: usize = 512;
 
 // The verdict on a table: in range and in order, or the first row that is not. A table of the wrong shape is out of range at row 0.
@@ -20,9 +20,9 @@ pub enum Verdict {
     OrderBroken(usize),
 }
 
-// Whether the columns are of unequal length or of more than 512 rows.
-fn wrong_shape(indices: &[u8], decodings: &[u64], matches: &[u64]) -> bool
-    ensures { λ r. ⌜ r ≡ wrongShape (table (now (indices .entry)) (now (decodings .entry)) (now (matches .entry))) ⌝ }
+// Whether the columns are of unequal length or of more rows than there may be.
+fn wrong_shape(most: usize, indices: &[u8], decodings: &[u64], matches: &[u64]) -> bool
+    ensures { λ r. ⌜ r ≡ wrongShape most (table (now (indices .entry)) (now (decodings .entry)) (now (matches .entry))) ⌝ }
 {
     if decodings.len() != indices.len() {
         return true;
@@ -30,7 +30,7 @@ fn wrong_shape(indices: &[u8], decodings: &[u64], matches: &[u64]) -> bool
     if matches.len() != indices.len() {
         return true;
     }
-    MOST_ROWS < indices.len()
+    most < indices.len()
 }
 
 // Whether an index is above 63 or one of the times is 2^33 or more.
@@ -100,11 +100,17 @@ fn first_broken(closure: u64, indices: &[u8], decodings: &[u64]) -> usize
     row
 }
 
-// THE CALL. The set of a closure's layer indices, and the three columns of a table, of any lengths.
-pub fn judge(closure: u64, indices: &[u8], decodings: &[u64], matches: &[u64]) -> Verdict
-    ensures { λ r. ⌜ r ≡ verdictOf (table (now (indices .entry)) (now (decodings .entry)) (now (matches .entry))) closure ⌝ }
+// THE CALL. How many rows there may be, the set of a closure's layer indices, and the three columns of a table, of any lengths.
+pub fn judge(
+    most: usize,
+    closure: u64,
+    indices: &[u8],
+    decodings: &[u64],
+    matches: &[u64],
+) -> Verdict
+    ensures { λ r. ⌜ r ≡ verdictOf most (table (now (indices .entry)) (now (decodings .entry)) (now (matches .entry))) closure ⌝ }
 {
-    if wrong_shape(indices, decodings, matches) {
+    if wrong_shape(most, indices, decodings, matches) {
         return Verdict::OutOfRange(0);
     }
     let outside = first_out_of_range(indices, decodings, matches);

@@ -78,9 +78,3 @@ module _ (numbers out : List ℕ) where
       → reply (loopWritten (answer (length out) (rowCount numbers) (entriesIn numbers))) (content (rowCount numbers) (entriesIn numbers) out) ≡ writeLoop numbers out
   none-wide e =
       sym (ap (λ (t : Bool). cond t (unchanged TooWide out) (reply (loopWritten (answer (length out) (rowCount numbers) (entriesIn numbers))) (content (rowCount numbers) (entriesIn numbers) out))) e)
-
--- one element more of a list, in its array
-pub store-take : (n blank : ℕ) (l : List ℕ) (i : ℕ) → i < length l → i < n
-    → set (padTo n blank (take i l)) i (getD l i 0) ≡ padTo n blank (take (i + 1) l)
-store-take n blank l i h k =
-    store-padTo n blank (getD l i 0) (take i l) i (length-take-le i l (omega arith)) k ∙ rw (add-one i, take-suc l i 0 h)

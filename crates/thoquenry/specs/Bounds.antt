@@ -1,28 +1,27 @@
--- HOW LARGE A VALUE CAN BE. No place of a refusal is above 1,008, the bytes of the longest loop; there are at most 512 rows, and so at most as many units, and
--- at most 64 layers. So every value that a call answers is far below 2^56, and a caller's THQ_VALUE gives back the whole of it.
+-- HOW LARGE A VALUE CAN BE. No place of a refusal is above 1,008, the bytes of the longest loop, and there are at most 64 layers.
+-- So every value that a call answers is far below 2^56, and a caller's THQ_VALUE gives back the whole of it.
 -- Assumes nothing.
-use Prim.Native.Nat.{ℕ, zero, suc, _+_, _*_, _/_, _%_, _^_, _≤_, _<_}
-use mathlib.Core.Path.{_≡_, refl, _∙_}
-use mathlib.Core.Bool.{Bool, true, false, not, cond, _&&_, _||_}
-use mathlib.Core.List.{List, [], _∷_, _++_, map}
-use native.Mathlib.Nat.{mul-le-mul-left}
+use Prim.Native.Nat.{ℕ, zero, suc, _+_, _≤_}
+use mathlib.Core.Path.{_≡_, refl}
+use mathlib.Core.Bool.{Bool, true, false, cond, _&&_, _||_}
+use mathlib.Core.List.{List, [], _∷_, _++_}
 use native.Mathlib.Omega.{arith}
 use borrow.Author.Tests.{ltb-false}
 use lib.Dec.{eqb, leb, ltb}
-use lib.ListN.{length, getD, take, drop, length-map, length-take, length-append}
+use lib.ListN.{length, take, drop, length-map, length-take, length-append}
 use Rattle.combinators.specs.Below.{some, seek, seek-first, count-short}
 use Rattle.combinators.specs.Bools.{neither-left, neither-right, either-way, or-else}
 use Rattle.combinators.specs.Lists.{any}
 use Rattle.combinators.specs.Lowest.{lowestNumber, earliestPlace}
 use Rattle.syntax.specs.Table.{number}
 use Rattle.syntax.specs.Named.{named}
-use Rattle.framing.specs.Pieces.{Item, whole, broken, cutWithin, cut}
+use Rattle.framing.specs.Pieces.{Item, broken, cutWithin, cut}
 use Rattle.sets.specs.Sets.{has, size}
 use Rattle.clock.specs.Clock.{isBefore}
 use Rattle.vocabulary.specs.declared.stream_types.Reading.{Reading}
 use Rattle.vocabulary.specs.declared.refusal.Refusal.{Refusal}
-use Rattle.vocabulary.specs.declared.refusal.Refusal.the-variants.{LoopTooLong, DoesNotFit, RepeatedPid, WrongLength, SecondRecord, TypeNotAllowed, WrongFlags, RepeatedLayerIndex, WrongEmbeddedIndex, NoSuchLayer, EmbeddedLayerAbsent, OutOfRange, TimeOrderBroken, Unpaired, UsedTwice, NoRoom, NotVideoHeader, NoPts, FieldsDoNotFit, WrongMarker, PtsBeforeDts, TooWide}
-use Rattle.vocabulary.specs.Refusals.{numberOf, placeOf}
+use Rattle.vocabulary.specs.declared.refusal.Refusal.the-variants.{LoopTooLong, EmbeddedLayerAbsent, NoRoom, NotVideoHeader, NoPts, WrongMarker, PtsBeforeDts, TooWide}
+use Rattle.vocabulary.specs.Refusals.{placeOf}
 use Rattle.stamps.specs.declared.Stamps.{Stamps}
 use Rattle.stamps.specs.declared.Times.{Times}
 use Rattle.pes_fields.specs.declared.Extension.{Extension}
@@ -59,15 +58,6 @@ use Rattle.loop_writer.specs.Verdict.{appliesTo}
 use Rattle.loop_writer.specs.Writing.{inRoom, judgedIn, answer}
 use Rattle.loop_layers.specs.Layers.{layersOf}
 use Rattle.loop_layers.specs.Closures.{entriesRead, closureFor, loopClosure}
-use Rattle.rows.specs.declared.Verdict.{Verdict}
-use Rattle.rows.specs.declared.Verdict.the-variants.{InOrder, OutOfRange as OutsideAt, OrderBroken as BrokenAt}
-use Rattle.rows.proofs.Verdicts.{shape-short}
-use Rattle.joining.specs.declared.answer.Joined.{Joined}
-use Rattle.joining.specs.declared.answer.Joined.the-variants.{Units, Refused}
-use Rattle.rows.specs.Table.{Table, rowsIn, wrongShape, outOfRange, firstOutOfRange, breaksOrder, firstBroken}
-use Rattle.joining.specs.Units.{Frame, isTarget, unpaired, shares, firstUnpaired, firstShared, unitsIn, leftOut, frameOf}
-use Rattle.joining.specs.Joining.{places, unitsJoined, joinedBy, tableJoined, joinedIn, joinedOf}
-use Rattle.importing.specs.Importing.{layersRead, importFor, importOf}
 
 -- a place, or what a loop's bytes bound
 abbrev pub Placed : Refusal → Type 0
@@ -201,7 +191,7 @@ small-answer layers true set =
     let within = seek-first (lacks layers set) 64 .within in
     either-way SmallClosure (some (lacks layers set) 64) (NoClosure (EmbeddedLayerAbsent (record { 0 = seek (lacks layers set) 64 }))) (Complete set) (omega arith) tt
 
-small-closure-of : (layers : Layers) (target : ℕ) → SmallClosure (closureOf layers target)
+pub small-closure-of : (layers : Layers) (target : ℕ) → SmallClosure (closureOf layers target)
 small-closure-of layers target = small-answer layers (isLayer layers target) (restedOn layers target)
 
 small-closure-for : (o : Outcome) (layers : Layers) (target : ℕ) → SmallOutcome o → SmallClosure (closureFor o layers target)
@@ -216,57 +206,3 @@ small-closure reading bytes target =
 pub size-short : (set : ℕ) → size set ≤ 64
 unfolding size
 size-short set = count-short (has set) 64
-
--- ---- rows
-
-abbrev pub Few : Joined → Type 0
-Few (Units closure units leftOut) = units ≤ 512
-Few (Refused refusal) = Placed refusal
-
-few-units : (t : Table) (closure : ℕ) (f : Frame) (numberRoom lagRoom : ℕ) → rowsIn t ≤ 512 → Few (unitsJoined t closure f numberRoom lagRoom)
-few-units t closure f numberRoom lagRoom h =
-    let first = seek-first (unpaired t f) (rowsIn t) .within in
-    let second = seek-first (shares t f) (rowsIn t) .within in
-    either-way Few (ltb (firstUnpaired t f) (rowsIn t)) (Refused (Unpaired (firstUnpaired t f))) _ (omega arith)
-    (either-way Few (ltb (firstShared t f) (rowsIn t)) (Refused (UsedTwice (firstShared t f))) _ (omega arith)
-    (either-way Few (ltb numberRoom (places t f)) (Refused NoRoom) _ (omega arith)
-    (either-way Few (ltb lagRoom (places t f)) (Refused NoRoom) (Units closure (unitsIn t f) (leftOut t closure f)) (omega arith)
-    (omega (arith, count-short (isTarget t f) (rowsIn t))))))
-
-few-table : (layers : Layers) (target : ℕ) (t : Table) (closure numberRoom lagRoom : ℕ) → Few (tableJoined layers target t closure numberRoom lagRoom)
-few-table layers target t closure numberRoom lagRoom =
-    or-else OfTable (wrongShape t) (OutsideAt 0) _ (omega arith) (λ shape.
-    let first = seek-first (outOfRange t) (rowsIn t) .within in
-    let second = seek-first (breaksOrder t closure) (rowsIn t) .within in
-    let short = shape-short t shape in
-    either-way OfTable (ltb (firstOutOfRange t) (rowsIn t)) (OutsideAt (firstOutOfRange t)) _ (omega arith)
-    (either-way OfTable (ltb (firstBroken t closure) (rowsIn t)) (BrokenAt (firstBroken t closure)) InOrder (omega arith)
-    (few-units t closure (frameOf layers closure target) numberRoom lagRoom short)))
-  where
-    OfTable : Verdict → Type 0
-    OfTable v = Few (joinedBy (unitsJoined t closure (frameOf layers closure target) numberRoom lagRoom) v)
-
-few-closure : (layers : Layers) (target : ℕ) (t : Table) (numberRoom lagRoom : ℕ) (c : Closure) → SmallClosure c → Few (joinedIn layers target t numberRoom lagRoom c)
-few-closure layers target t numberRoom lagRoom (Complete closure) h = few-table layers target t closure numberRoom lagRoom
-few-closure layers target t numberRoom lagRoom (NoClosure refusal) h = h
-
-pub few-joined : (layers : Layers) (target : ℕ) (t : Table) (numberRoom lagRoom : ℕ) → Few (joinedOf layers target t numberRoom lagRoom)
-few-joined layers target t numberRoom lagRoom =
-    few-closure layers target t numberRoom lagRoom (closureOf layers target) (small-closure-of layers target)
-
-few-import : (o : Outcome) (layers : Layers) (target : ℕ) (t : Table) (numberRoom lagRoom : ℕ) → SmallOutcome o
-    → Few (importFor o layers target t numberRoom lagRoom)
-few-import Accepted layers target t numberRoom lagRoom h = few-joined layers target t numberRoom lagRoom
-few-import (LoopRefused refusal) layers target t numberRoom lagRoom h = h
-
-pub few-imported : (reading : Reading) (bytes : List ℕ) (target : ℕ) (t : Table) (numberRoom lagRoom : ℕ)
-    → Few (importOf reading bytes target t numberRoom lagRoom)
-few-imported reading bytes target t numberRoom lagRoom =
-    few-import (loopRead reading bytes .outcome) (layersRead (loopRead reading bytes)) target t numberRoom lagRoom (small-loop reading bytes .0)
-
--- the places of all units
-pub few-places : (units members : ℕ) → units ≤ 512 → members ≤ 64 → units * members ≤ 32768
-few-places units members h k = let most : units * members ≤ units * 64 = mul-le-mul-left units k in omega arith
-
-pub places-fit : (units members : ℕ) → units ≤ 512 → members ≤ 64 → units * members < 2 ^ 64
-places-fit units members h k = let most : units * members ≤ 32768 = few-places units members h k in omega arith

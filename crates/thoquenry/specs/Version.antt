@@ -6,4 +6,4 @@ abbrev pub numbered : ℕ → ℕ → ℕ → ℕ
 numbered first second third = 10000 * first + 100 * second + third
 
 abbrev pub version : ℕ
-version = numbered 0 4 0
+version = numbered 0 5 0

@@ -6,5 +6,5 @@ ghost use Rattle.thoquenry.specs.Version.{version};
 pub extern "C" fn thq_version() -> u64
     ensures { λ r. ⌜ r ≡ version ⌝ }
 {
-    400
+    500
 }

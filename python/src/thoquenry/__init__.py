@@ -8,22 +8,23 @@ this module stands in; or else the one that is installed. It is for x86-64 Linux
 """
 
 from array import array
-from ctypes import c_int64, c_uint8, c_uint16, c_uint64
-from dataclasses import dataclass, field
+from ctypes import c_bool, c_int64, c_size_t, c_uint8, c_uint16, c_uint64
+from dataclasses import astuple, dataclass, field
 from enum import IntEnum
 from itertools import chain, islice
 from operator import index
 from struct import Struct
-from typing import Iterable, List, Mapping, Optional, Tuple, Union
+from typing import Iterable, Iterator, List, Mapping, Optional, Tuple, Union
 
 from ._library import load
 from ._refusals import Number, Refused
 
 __all__ = [
-    "Component", "Entry", "Extension", "Header", "Hierarchy", "Implied", "Number", "Reading", "Refused", "Row", "Times", "Units",
-    "closure", "import_", "join", "read_loop", "read_times", "write_loop", "write_times",
+    "Component", "Entry", "Extension", "Header", "Hierarchy", "Implied", "Layer", "LayerSet", "MvcExtension", "Number", "Reading", "Refused", "Row",
+    "StereoSet", "Times", "Units",
+    "closure", "import_", "join", "join_long", "read_loop", "read_stereo", "read_times", "write_loop", "write_stereo", "write_times",
 ]
-__version__ = "0.4.0"
+__version__ = "0.5.0"
 
 _LIBRARY = load()
 
@@ -35,6 +36,9 @@ _ENTRIES = _LOOP_BYTES // _ENTRY_BYTES
 _ENTRY_NUMBERS = 80
 _EMBEDDED_ROOM = 63
 
+# The numbers by which an MVC extension descriptor crosses to the library.
+_MVC_EXTENSION_NUMBERS = 8
+
 # The stream type of the second of two views.
 _MVC = 0x20
 
@@ -45,6 +49,11 @@ _LIST = Struct("=63H")
 # More bytes than any header that write_times writes, and the most bytes that read_times looks at: a head of 9 and 255 after it.
 _HEADER_ROOM = 64
 _HEADER_BYTES = 9 + 255
+
+# The layer indices that there are, and the numbers of the two buffers of a layer set.
+_INDICES = 64
+_SET_LAYERS = _INDICES * _ENTRY_NUMBERS
+_SET_STORED = 3 * _INDICES
 
 # The most rows that a table has. Each row stands in one unit at most, so the lists of its units need no more places.
 _ROWS = 512
@@ -108,6 +117,30 @@ class Entry:
 
 
 @dataclass(frozen=True)
+class MvcExtension:
+    """The MVC extension descriptor, tag 49. Rates are in thousands of bits a second, 0 where none is told; both ends of the range of view order
+    index are in it; temporal ids are kept and not judged."""
+
+    average_bit_rate: int
+    maximum_bitrate: int
+    view_order_index_min: int
+    view_order_index_max: int
+    temporal_id_start: int
+    temporal_id_end: int
+    no_sei_nal_unit_present: bool
+    no_prefix_nal_unit_present: bool
+
+
+@dataclass(frozen=True)
+class StereoSet:
+    """Two views: the base view, of type 0x1B and layer index 0, and the view of type 0x20 and layer index 1 that rests on it. The entry and the MVC
+    extension descriptor of each, the base first, whichever stands first in the loop."""
+
+    entries: Tuple[Entry, Entry]
+    extensions: Tuple[MvcExtension, MvcExtension]
+
+
+@dataclass(frozen=True)
 class Times:
     """The times of a PES header, each below 2^33. The decoding time is DTS, or PTS without one; the match time is TREF, or the
     decoding time without one."""
@@ -147,12 +180,11 @@ class Component:
 
 @dataclass(frozen=True)
 class Units:
-    """The rows of a table joined. The units come in target row order, each with one component for each layer of the closure, in rising
-    layer index; `left_out` counts the rows of closure layers in no unit."""
+    """The rows of a table joined. The units come in order of time, each with one component for each layer that its head rests on, in rising layer
+    index, so that the head comes last. Each row of a layer of the closure stands in exactly one."""
 
     closure: Tuple[int, ...]
     units: List[List[Component]] = field(default_factory=list)
-    left_out: int = 0
 
 
 def _number(value: int, bits: int) -> int:
@@ -216,7 +248,8 @@ def _set(indices: Iterable[int]) -> int:
 
 
 def _to_numbers(entry: Entry) -> List[int]:
-    """The entry as its 80 numbers. A list of more than 63 layers has a count that is too wide for its field, by which it is refused."""
+    """The entry as its 80 numbers. A list of more than 63 layers has a count that is too wide for its field, by which it is refused; and so have
+    dimension bits that are too wide, since they fill their C type."""
     record = entry.record
     fields = [entry.stream_type, entry.elementary_pid]
     if record is None:
@@ -227,8 +260,9 @@ def _to_numbers(entry: Entry) -> List[int]:
         fields += [1, record.no_view, record.no_temporal, record.no_spatial, record.no_quality, record.hierarchy_type,
                    record.layer_index, record.tref_present, record.embedded_layer_index, record.channel]
     else:
+        count = len(record.embedded) if index(record.dimension_bits) < 2**16 else 2**16
         fields += [2, 0, 0, 0, 0, 0, record.layer_index, record.tref_present, 0, record.channel, record.dimension_bits,
-                   record.temporal_id, record.nuh_layer_id, len(record.embedded), *record.embedded[:_EMBEDDED_ROOM]]
+                   record.temporal_id, record.nuh_layer_id, count, *record.embedded[:_EMBEDDED_ROOM]]
     return fields + [0] * (_ENTRY_NUMBERS - len(fields))
 
 
@@ -258,22 +292,54 @@ def read_loop(reading: Reading, loop: bytes) -> List[Entry]:
 def write_loop(entries: Iterable[Entry]) -> bytes:
     """Writes a loop, by the 2015 reading's rules. Refusals: 25; then 1, 3, 6 to 9; 6 also where Implied stands on an entry that is not one of two such
     views, or does not stand on one that is."""
+    return _written(_LIBRARY.thq_write_loop, entries)
+
+
+def _written(function, entries: Iterable[Entry], *more) -> bytes:
+    """The bytes that a function of the library writes of these entries, and of what more comes after them among its parameters. Where one entry too many is
+    here, the answer is 1, unless a later value is too wide (25): those are looked at piece by piece, and not kept."""
     left = iter(entries)
-    written = _written(islice(left, _ENTRIES + 1))
-    # One entry too many is here, and the answer is 1, unless a later value is too wide (25): those are looked at piece by piece, and not kept.
+    answer, out = _tried(function, islice(left, _ENTRIES + 1), more)
     for first in left:
-        rest = _written(chain((first,), islice(left, _ENTRIES)))
-        if rest[0] % 256 == Number.TOO_WIDE:
-            written = rest
-    answer, out = written
+        later = _tried(function, chain((first,), islice(left, _ENTRIES)), more)
+        if later[0] % 256 == Number.TOO_WIDE:
+            answer, out = later
     return bytes(out[:_accepted(answer)])
 
 
-def _written(entries: Iterable[Entry]):
+def _tried(function, entries: Iterable[Entry], more: tuple):
     """The library's answer for these entries, and the buffer."""
     numbers = [number for entry in entries for number in _to_numbers(entry)]
     out, room = _room(c_uint8, _LOOP_BYTES)
-    return _LIBRARY.thq_write_loop(*_column("H", c_uint16, numbers), out, room), out
+    return function(*_column("H", c_uint16, numbers), *more, out, room), out
+
+
+def read_stereo(loop: bytes) -> StereoSet:
+    """Reads a stereo set from a loop, by the 2015 reading. Refusals: 1 to 9; then 44 where the layers of the loop are not these two, 45 where one of the two
+    has no MVC extension descriptor, several, or one of another length than 8, and 46 where their ranges of view order index meet or one has a least above
+    its greatest."""
+    entries, entries_room = _room(c_uint16, 2 * _ENTRY_NUMBERS)
+    extensions, extensions_room = _room(c_uint16, 2 * _MVC_EXTENSION_NUMBERS)
+    _accepted(_LIBRARY.thq_read_stereo(*_loop(loop), entries, entries_room, extensions, extensions_room))
+    first, second = extensions[:_MVC_EXTENSION_NUMBERS], extensions[_MVC_EXTENSION_NUMBERS:]
+    return StereoSet((_entry(entries, 0), _entry(entries, 2 * _ENTRY_NUMBERS)), (_mvc_extension(first), _mvc_extension(second)))
+
+
+def _mvc_extension(numbers: List[int]) -> MvcExtension:
+    """The descriptor of the numbers that the library has written."""
+    *values, no_sei, no_prefix = numbers
+    return MvcExtension(*values, no_sei == 1, no_prefix == 1)
+
+
+def write_stereo(entries: Iterable[Entry], extensions: Tuple[MvcExtension, MvcExtension]) -> bytes:
+    """Writes a whole loop with a stereo set in it: all of its entries, in loop order, and the MVC extension descriptors of layers 0 and 1. Refusals: 25;
+    then 1, 3, 6 to 9, as write_loop gives them, with the two descriptors counted among the bytes; then 44, 46."""
+    first, second = extensions
+    numbers = [*astuple(first), *astuple(second)]
+    # A rate fills its C type, so that the library could not be handed one that is too wide.
+    if any(index(rate) >= 2**16 for rate in numbers):
+        raise Refused(Number.TOO_WIDE, 0)
+    return _written(_LIBRARY.thq_write_stereo, entries, *_column("H", c_uint16, numbers))
 
 
 def closure(reading: Reading, loop: bytes, target: int) -> Tuple[int, ...]:
@@ -300,31 +366,123 @@ def write_times(times: Times, with_tref: bool) -> bytes:
 
 
 def join(layers: Mapping[int, Iterable[int]], target: int, rows: Iterable[Row]) -> Units:
-    """Joins rows to units, over layers that the caller gives: for each layer index the indices that this layer names. Refusals: 11, 12;
-    then 13 to 16."""
-    embedded = _column("Q", c_uint64, [_set(layers.get(layer, ())) for layer in range(64)])
-    return _joined(_LIBRARY.thq_join, (_set(layers), *embedded, _number(target, 64)), rows)
+    """Joins rows to units, over layers that the caller gives: for each layer index the indices that this layer names. Every row of a layer that the
+    target rests on, and that no other row claims, heads a unit. Refusals: 11, 12; then 13, also for more than 512 rows; then 14 to 16, 18."""
+    return _joined(_LIBRARY.thq_join, (*_layers(layers), _number(target, 64)), list(islice(rows, _ROWS + 1)))
+
+
+def join_long(layers: Mapping[int, Iterable[int]], target: int, rows: Iterable[Row]) -> Units:
+    """Joins rows to units as `join` does, of a table of any length. Refusals: 11, 12; then 13 to 16, 18."""
+    table = list(rows)
+    kinds = (c_size_t, c_uint64, c_size_t, c_size_t, c_size_t, c_bool, c_bool)
+    work = [part for kind in kinds for part in _room(kind, len(table))]
+    return _joined(_LIBRARY.thq_join_long, (*_layers(layers), _number(target, 64)), table, work)
+
+
+def _layers(layers: Mapping[int, Iterable[int]]):
+    """The set of the layers, and what each names."""
+    return _set(layers), *_column("Q", c_uint64, [_set(layers.get(layer, ())) for layer in range(64)])
 
 
 def import_(reading: Reading, loop: bytes, target: int, rows: Iterable[Row]) -> Units:
-    """The whole import: the layers of a loop's bytes, and the rows joined over them. Refusals: 1 to 9, 11, 12; then 13 to 16."""
-    return _joined(_LIBRARY.thq_import, (_year(reading), *_loop(loop), _number(target, 64)), rows)
+    """The whole import: the layers of a loop's bytes, and the rows joined over them. Refusals: 1 to 9; then those of `join`."""
+    return _joined(_LIBRARY.thq_import, (_year(reading), *_loop(loop), _number(target, 64)), list(islice(rows, _ROWS + 1)))
 
 
-def _joined(function, first: tuple, rows: Iterable[Row]) -> Units:
-    """The units that a function of the library answers for what comes first among its parameters, and for these rows. A table that is too long
-    is refused for its length, so one row more than the most is enough to know."""
-    table = list(islice(rows, _ROWS + 1))
+def _joined(function, first: tuple, table: List[Row], work: Iterable = ()) -> Units:
+    """The units that a function of the library answers for what comes first among its parameters, for these rows, and with this work space. (A table that
+    is too long is refused for its length, so one row more than the most is enough to know.)"""
     columns = (
         *_column("B", c_uint8, [row.layer_index for row in table]),
         *_column("Q", c_uint64, [row.decoding for row in table]),
         *_column("Q", c_uint64, [row.matching for row in table]),
     )
-    numbers, room = _room(c_uint64, min(len(table), _ROWS))
+    numbers, room = _room(c_uint64, len(table))
     lags, _ = _room(c_int64, room)
-    summary, summary_room = _room(c_uint64, 3)
-    count = _accepted(function(*first, *columns, numbers, room, lags, room, summary, summary_room))
-    members = _indices(summary[0])
-    components = [Component(row, lag) for row, lag in zip(numbers[:count], lags[:count])]
-    units = [components[k:k + len(members)] for k in range(0, count, len(members))]
-    return Units(members, units, summary[2])
+    sizes, _ = _room(c_uint64, room)
+    summary, summary_room = _room(c_uint64, 2)
+    count = _accepted(function(*first, *columns, *work, numbers, room, lags, room, sizes, room, summary, summary_room))
+    members, units = summary
+    components = (Component(row, lag) for row, lag in zip(numbers[:count], lags[:count]))
+    return Units(_indices(members), [list(islice(components, size)) for size in sizes[:units]])
+
+
+@dataclass(frozen=True)
+class Layer:
+    """A layer of a LayerSet, and what is stored of its closure: the layers that it rests on, itself included, how many these are, and whether one of
+    them is absent. An absent one is among them as it is named; what lies below that is unknown."""
+
+    index: int
+    entry: Entry
+    closure: Tuple[int, ...]
+    closure_size: int
+    absent: bool
+
+
+class LayerSet:
+    """The layers of a program, by index, each with its closure, which the library works out and keeps as layers come and go. A refused change leaves
+    the set as it was. It begins with no layer, or with those of a loop (`LayerSet.read`)."""
+
+    def __init__(self) -> None:
+        # Both are written by the library alone, so that they always hold a set.
+        self._layers, _ = _room(c_uint16, _SET_LAYERS)
+        self._stored, _ = _room(c_uint64, _SET_STORED)
+
+    @classmethod
+    def read(cls, reading: Reading, loop: bytes) -> "LayerSet":
+        """The layers of a loop, implied ones included; streams that are no layer are left out. Refusals: 1 to 9."""
+        layer_set = cls()
+        _accepted(_LIBRARY.thq_set_read(_year(reading), *_loop(loop), *layer_set._buffers()))
+        return layer_set
+
+    def add(self, entry: Entry) -> None:
+        """Adds a layer, judged as the 2015 reading judges one of a loop. Refusals: 25; then 3 where a layer of the set has its PID; then 6 to 9, 6 also
+        for Implied and for no record. The place is 0."""
+        _accepted(_LIBRARY.thq_set_add(*self._buffers(), *_column("H", c_uint16, _to_numbers(entry))))
+
+    def remove(self, layer_index: int) -> None:
+        """Removes the layer of an index. Refusals: 11, also where the layer is only named."""
+        _accepted(_LIBRARY.thq_set_remove(*self._buffers(), _number(layer_index, 64)))
+
+    def closure(self, target: int) -> Tuple[int, ...]:
+        """The layers that a target rests on, itself included, rising, from what is stored. Refusals: 11, 12."""
+        members, room = _room(c_uint64, 1)
+        _accepted(_LIBRARY.thq_set_closure(*self._buffers(), _number(target, 64), members, room))
+        return _indices(members[0])
+
+    def copy(self) -> "LayerSet":
+        """The same set, which then changes by itself."""
+        other = LayerSet()
+        other._layers[:], other._stored[:] = self._layers, self._stored
+        return other
+
+    def _buffers(self):
+        return self._layers, _SET_LAYERS, self._stored, _SET_STORED
+
+    def __contains__(self, layer_index: int) -> bool:
+        """Whether there is a layer of an index."""
+        place = index(layer_index)
+        return 0 <= place < _INDICES and self._layers[place * _ENTRY_NUMBERS + 2] != 0
+
+    def __getitem__(self, layer_index: int) -> Layer:
+        """The layer of an index."""
+        if layer_index not in self:
+            raise KeyError(layer_index)
+        place = index(layer_index)
+        closure_of_layer, size, absent = self._stored[place::_INDICES]
+        return Layer(place, _entry(self._layers, place * 2 * _ENTRY_NUMBERS), _indices(closure_of_layer), size, absent == 1)
+
+    def __iter__(self) -> Iterator[Layer]:
+        """The layers, by rising index."""
+        return (self[place] for place in range(_INDICES) if place in self)
+
+    def __len__(self) -> int:
+        return sum(place in self for place in range(_INDICES))
+
+    def __eq__(self, other: object) -> bool:
+        if not isinstance(other, LayerSet):
+            return NotImplemented
+        return bytes(self._layers) == bytes(other._layers)
+
+    def __repr__(self) -> str:
+        return f"LayerSet({list(self)})"

@@ -1,7 +1,7 @@
 """Finds and loads libthoquenry, and declares its functions."""
 
 import os
-from ctypes import CDLL, POINTER, c_char_p, c_int64, c_size_t, c_uint8, c_uint16, c_uint64
+from ctypes import CDLL, POINTER, c_bool, c_char_p, c_int64, c_size_t, c_uint8, c_uint16, c_uint64
 from pathlib import Path
 
 # The functions of include/thoquenry.h: for each its result and its parameters. Bytes that are only read are c_char_p, which takes a bytes object
@@ -40,6 +40,26 @@ DECLARATIONS = {
         ("matches", POINTER(c_uint64)), ("matches_length", c_size_t),
         ("numbers", POINTER(c_uint64)), ("numbers_length", c_size_t),
         ("lags", POINTER(c_int64)), ("lags_length", c_size_t),
+        ("sizes", POINTER(c_uint64)), ("sizes_length", c_size_t),
+        ("summary", POINTER(c_uint64)), ("summary_length", c_size_t),
+    ]),
+    "thq_join_long": (c_uint64, [
+        ("present", c_uint64),
+        ("embedded", POINTER(c_uint64)), ("embedded_length", c_size_t),
+        ("target", c_uint64),
+        ("indices", POINTER(c_uint8)), ("indices_length", c_size_t),
+        ("decodings", POINTER(c_uint64)), ("decodings_length", c_size_t),
+        ("matches", POINTER(c_uint64)), ("matches_length", c_size_t),
+        ("order", POINTER(c_size_t)), ("order_length", c_size_t),
+        ("keys", POINTER(c_uint64)), ("keys_length", c_size_t),
+        ("kept", POINTER(c_size_t)), ("kept_length", c_size_t),
+        ("places", POINTER(c_size_t)), ("places_length", c_size_t),
+        ("heads", POINTER(c_size_t)), ("heads_length", c_size_t),
+        ("claimed", POINTER(c_bool)), ("claimed_length", c_size_t),
+        ("used", POINTER(c_bool)), ("used_length", c_size_t),
+        ("numbers", POINTER(c_uint64)), ("numbers_length", c_size_t),
+        ("lags", POINTER(c_int64)), ("lags_length", c_size_t),
+        ("sizes", POINTER(c_uint64)), ("sizes_length", c_size_t),
         ("summary", POINTER(c_uint64)), ("summary_length", c_size_t),
     ]),
     "thq_import": (c_uint64, [
@@ -51,14 +71,47 @@ DECLARATIONS = {
         ("matches", POINTER(c_uint64)), ("matches_length", c_size_t),
         ("numbers", POINTER(c_uint64)), ("numbers_length", c_size_t),
         ("lags", POINTER(c_int64)), ("lags_length", c_size_t),
+        ("sizes", POINTER(c_uint64)), ("sizes_length", c_size_t),
         ("summary", POINTER(c_uint64)), ("summary_length", c_size_t),
+    ]),
+    "thq_read_stereo": (c_uint64, [
+        ("bytes", c_char_p), ("bytes_length", c_size_t),
+        ("entries", POINTER(c_uint16)), ("entries_length", c_size_t),
+        ("extensions", POINTER(c_uint16)), ("extensions_length", c_size_t),
+    ]),
+    "thq_write_stereo": (c_uint64, [
+        ("entries", POINTER(c_uint16)), ("entries_length", c_size_t),
+        ("extensions", POINTER(c_uint16)), ("extensions_length", c_size_t),
+        ("out", POINTER(c_uint8)), ("out_length", c_size_t),
+    ]),
+    "thq_set_read": (c_uint64, [
+        ("reading", c_uint64),
+        ("bytes", c_char_p), ("bytes_length", c_size_t),
+        ("layers", POINTER(c_uint16)), ("layers_length", c_size_t),
+        ("stored", POINTER(c_uint64)), ("stored_length", c_size_t),
+    ]),
+    "thq_set_add": (c_uint64, [
+        ("layers", POINTER(c_uint16)), ("layers_length", c_size_t),
+        ("stored", POINTER(c_uint64)), ("stored_length", c_size_t),
+        ("entry", POINTER(c_uint16)), ("entry_length", c_size_t),
+    ]),
+    "thq_set_remove": (c_uint64, [
+        ("layers", POINTER(c_uint16)), ("layers_length", c_size_t),
+        ("stored", POINTER(c_uint64)), ("stored_length", c_size_t),
+        ("index", c_uint64),
+    ]),
+    "thq_set_closure": (c_uint64, [
+        ("layers", POINTER(c_uint16)), ("layers_length", c_size_t),
+        ("stored", POINTER(c_uint64)), ("stored_length", c_size_t),
+        ("target", c_uint64),
+        ("closure", POINTER(c_uint64)), ("closure_length", c_size_t),
     ]),
 }
 
 # The name under which programs ask for the shared object, and the versions that have it: 10,000 times the first part of the version and 100
 # times the second.
-_SONAME = "libthoquenry.so.0.4"
-_FITTING = range(400, 500)
+_SONAME = "libthoquenry.so.0.5"
+_FITTING = range(500, 600)
 
 _REMEDY = f"""Build it with scripts/build-library in a clone of its repository, install it there with scripts/install (or its Debian package), so
 that the system finds {_SONAME}, or name the file by the environment's THOQUENRY_SO."""

@@ -47,7 +47,7 @@ def _words():
 
 class Refused(Exception):
     """A call is refused: the lowest number that applies, at the earliest place, which is an entry, a row or a layer index, or 0. It prints as its
-    number and words: '15: row 3 of the target layer has no assembly'."""
+    number and words: '15: row 3, the head of a unit, has no assembly'."""
 
     def __init__(self, number: int, place: int):
         super().__init__(number, place)

@@ -11,7 +11,7 @@
 compile_error!("libthoquenry is for x86-64 Linux");
 
 /// The version of the header that these are the declarations of; [`thq_version`] gives the library's.
-pub const THQ_VERSION_NUMBER: u64 = 400;
+pub const THQ_VERSION_NUMBER: u64 = 500;
 
 /// The readings.
 pub const THQ_2009: u64 = 2009;
@@ -48,7 +48,7 @@ pub const THQ_REFUSED_NOT_STEREO_SET: u64 = 44;
 pub const THQ_REFUSED_WRONG_MVC_EXTENSION: u64 = 45;
 pub const THQ_REFUSED_RANGES_MEET: u64 = 46;
 
-/// The number of the refusal of a reading that is neither.
+/// The number of the refusal of a reading that is neither, and of buffers that hold no layer set.
 pub const THQ_NOT_A_CALL: u64 = 255;
 
 /// What number 2 of an entry says.
@@ -59,6 +59,13 @@ pub const THQ_IMPLIED: u16 = 3;
 
 /// The numbers that one entry takes.
 pub const THQ_ENTRY_NUMBERS: usize = 80;
+
+/// The numbers that one MVC extension descriptor takes.
+pub const THQ_MVC_EXTENSION_NUMBERS: usize = 8;
+
+/// The numbers of the two buffers of a layer set.
+pub const THQ_SET_LAYERS: usize = 5120;
+pub const THQ_SET_STORED: usize = 192;
 
 #[link(name = "thoquenry", kind = "static")]
 extern "C" {
@@ -119,6 +126,43 @@ extern "C" {
         numbers_length: usize,
         lags: *mut i64,
         lags_length: usize,
+        sizes: *mut u64,
+        sizes_length: usize,
+        summary: *mut u64,
+        summary_length: usize,
+    ) -> u64;
+
+    pub fn thq_join_long(
+        present: u64,
+        embedded: *const u64,
+        embedded_length: usize,
+        target: u64,
+        indices: *const u8,
+        indices_length: usize,
+        decodings: *const u64,
+        decodings_length: usize,
+        matches: *const u64,
+        matches_length: usize,
+        order: *mut usize,
+        order_length: usize,
+        keys: *mut u64,
+        keys_length: usize,
+        kept: *mut usize,
+        kept_length: usize,
+        places: *mut usize,
+        places_length: usize,
+        heads: *mut usize,
+        heads_length: usize,
+        claimed: *mut bool,
+        claimed_length: usize,
+        used: *mut bool,
+        used_length: usize,
+        numbers: *mut u64,
+        numbers_length: usize,
+        lags: *mut i64,
+        lags_length: usize,
+        sizes: *mut u64,
+        sizes_length: usize,
         summary: *mut u64,
         summary_length: usize,
     ) -> u64;
@@ -138,7 +182,64 @@ extern "C" {
         numbers_length: usize,
         lags: *mut i64,
         lags_length: usize,
+        sizes: *mut u64,
+        sizes_length: usize,
         summary: *mut u64,
         summary_length: usize,
+    ) -> u64;
+
+    pub fn thq_read_stereo(
+        bytes: *const u8,
+        bytes_length: usize,
+        entries: *mut u16,
+        entries_length: usize,
+        extensions: *mut u16,
+        extensions_length: usize,
+    ) -> u64;
+
+    pub fn thq_write_stereo(
+        entries: *const u16,
+        entries_length: usize,
+        extensions: *const u16,
+        extensions_length: usize,
+        out: *mut u8,
+        out_length: usize,
+    ) -> u64;
+
+    pub fn thq_set_read(
+        reading: u64,
+        bytes: *const u8,
+        bytes_length: usize,
+        layers: *mut u16,
+        layers_length: usize,
+        stored: *mut u64,
+        stored_length: usize,
+    ) -> u64;
+
+    pub fn thq_set_add(
+        layers: *mut u16,
+        layers_length: usize,
+        stored: *mut u64,
+        stored_length: usize,
+        entry: *const u16,
+        entry_length: usize,
+    ) -> u64;
+
+    pub fn thq_set_remove(
+        layers: *mut u16,
+        layers_length: usize,
+        stored: *mut u64,
+        stored_length: usize,
+        index: u64,
+    ) -> u64;
+
+    pub fn thq_set_closure(
+        layers: *const u16,
+        layers_length: usize,
+        stored: *const u64,
+        stored_length: usize,
+        target: u64,
+        closure: *mut u64,
+        closure_length: usize,
     ) -> u64;
 }

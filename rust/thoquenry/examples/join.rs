@@ -28,11 +28,11 @@ fn main() -> Result<(), Box<dyn std::error::Error>> {
     let joined = import(Reading::Edition2015, &bytes, LayerIndex(1), &rows)?;
     for unit in &joined.units {
         print!("unit");
-        for (layer, component) in joined.closure.iter().zip(unit) {
+        for component in unit {
+            let layer = rows[component.row].layer_index;
             print!(" layer {layer} row {} lag {}", component.row, component.lag);
         }
         println!();
     }
-    println!("left out {}", joined.left_out);
     Ok(())
 }

@@ -14,9 +14,9 @@ impl fmt::Display for LayerIndex {
 
 /// A set of layer indices below 64: bit i is 1 when index i is one of them. It prints as its indices: `{0, 2}`.
 #[derive(Clone, Copy, Default, PartialEq, Eq, Hash)]
-pub struct LayerSet(pub u64);
+pub struct LayerIndices(pub u64);
 
-impl fmt::Display for LayerSet {
+impl fmt::Display for LayerIndices {
     fn fmt(&self, to: &mut fmt::Formatter) -> fmt::Result {
         to.debug_set()
             .entries(self.iter().map(|index| index.0))
@@ -24,13 +24,13 @@ impl fmt::Display for LayerSet {
     }
 }
 
-impl fmt::Debug for LayerSet {
+impl fmt::Debug for LayerIndices {
     fn fmt(&self, to: &mut fmt::Formatter) -> fmt::Result {
-        write!(to, "LayerSet {self}")
+        write!(to, "LayerIndices {self}")
     }
 }
 
-impl LayerSet {
+impl LayerIndices {
     /// Whether an index is one of the set's.
     pub fn contains(self, index: LayerIndex) -> bool {
         index.0 < 64 && self.0 >> index.0 & 1 == 1
@@ -54,11 +54,11 @@ impl LayerSet {
     }
 }
 
-impl FromIterator<LayerIndex> for LayerSet {
+impl FromIterator<LayerIndex> for LayerIndices {
     /// The set of these indices. An index above 63 is no layer's, and is left out.
-    fn from_iter<I: IntoIterator<Item = LayerIndex>>(indices: I) -> LayerSet {
+    fn from_iter<I: IntoIterator<Item = LayerIndex>>(indices: I) -> LayerIndices {
         let below_64 = indices.into_iter().filter(|index| index.0 < 64);
-        LayerSet(below_64.fold(0, |set, index| set | 1 << index.0))
+        LayerIndices(below_64.fold(0, |set, index| set | 1 << index.0))
     }
 }
 
@@ -66,17 +66,17 @@ impl FromIterator<LayerIndex> for LayerSet {
 #[derive(Clone, Debug, PartialEq, Eq)]
 pub struct Layers {
     /// The indices that there is a layer of.
-    pub present: LayerSet,
+    pub present: LayerIndices,
     /// For each index the set of the indices that its layer names. Those not below its own count for nothing.
-    pub embedded: [LayerSet; 64],
+    pub embedded: [LayerIndices; 64],
 }
 
 impl Layers {
     /// No layers.
     pub fn new() -> Layers {
         Layers {
-            present: LayerSet(0),
-            embedded: [LayerSet(0); 64],
+            present: LayerIndices(0),
+            embedded: [LayerIndices(0); 64],
         }
     }
 

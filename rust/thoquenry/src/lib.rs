@@ -15,12 +15,16 @@
 #![warn(missing_docs)]
 
 mod entry;
+mod layer_set;
 mod layers;
 mod refusal;
+mod stereo;
 
 pub use entry::{Channel, Entry, NuhLayerId, Record, TemporalId};
-pub use layers::{LayerIndex, LayerSet, Layers};
+pub use layer_set::{Layer, LayerSet};
+pub use layers::{LayerIndex, LayerIndices, Layers};
 pub use refusal::Refusal;
+pub use stereo::{read_stereo, write_stereo, MvcExtension, StereoSet};
 
 use thoquenry_sys as raw;
 use thoquenry_sys::THQ_ENTRY_NUMBERS;
@@ -81,7 +85,7 @@ pub struct Row {
 pub struct Component {
     /// The number of the row in the table, from 0.
     pub row: usize,
-    /// Its decoding time minus the target row's, modulo 2^33, from -2^32 to 2^32-1.
+    /// Its decoding time minus that of the unit's head, which is its last component, modulo 2^33, from -2^32 to 2^32-1.
     pub lag: i64,
 }
 
@@ -89,11 +93,10 @@ pub struct Component {
 #[derive(Clone, Debug, PartialEq, Eq, Hash)]
 pub struct Units {
     /// The target and the layers that it rests on.
-    pub closure: LayerSet,
-    /// The units in target row order, each with one component for each layer of the closure, in rising layer index.
+    pub closure: LayerIndices,
+    /// The units in order of time, each with one component for each layer that its head rests on, in rising layer index, so that the head comes
+    /// last. Each row of a layer of the closure stands in exactly one.
     pub units: Vec<Vec<Component>>,
-    /// How many rows of closure layers stand in no unit.
-    pub left_out: usize,
 }
 
 /// The most bytes that a loop has.
@@ -105,7 +108,7 @@ const ENTRY_BYTES: usize = 5;
 /// More bytes than any header that `write_times` writes.
 const HEADER_BYTES: usize = 64;
 
-/// The most rows that a table has. Each row stands in one unit at most, so the lists of its units need no more places.
+/// The most rows that a table of [`join`] and [`import`] has. Each row stands in one unit at most, so the lists of its units need no more places.
 const ROWS: usize = 512;
 
 /// The version of the library that is linked: its three parts.
@@ -160,7 +163,11 @@ pub fn write_loop(entries: &[Entry]) -> Result<Vec<u8>, Refusal> {
 }
 
 /// The layers that a target rests on, itself included. Refusals: 1 to 12.
-pub fn closure(reading: Reading, bytes: &[u8], target: LayerIndex) -> Result<LayerSet, Refusal> {
+pub fn closure(
+    reading: Reading,
+    bytes: &[u8],
+    target: LayerIndex,
+) -> Result<LayerIndices, Refusal> {
     let mut set = [0];
     // SAFETY: pointer and length of each buffer belong together; `set` is this call's own.
     let answer = unsafe {
@@ -174,7 +181,7 @@ pub fn closure(reading: Reading, bytes: &[u8], target: LayerIndex) -> Result<Lay
         )
     };
     accepted(answer)?;
-    Ok(LayerSet(set[0]))
+    Ok(LayerIndices(set[0]))
 }
 
 /// Reads the times of a PES header, whether a TREF stands in it, and where it ends. Refusals: 20 to 24.
@@ -216,10 +223,11 @@ pub fn write_times(times: Times, with_tref: bool) -> Result<Vec<u8>, Refusal> {
     Ok(out)
 }
 
-/// Joins rows to units, over layers that the caller gives. Refusals: 11, 12; then 13 to 16.
+/// Joins rows to units, over layers that the caller gives: every row of a layer that the target rests on, and that no other row claims, heads one. Refusals:
+/// 11, 12; then 13, also for more than 512 rows; then 14 to 16, 18.
 pub fn join(layers: &Layers, target: LayerIndex, rows: &[Row]) -> Result<Units, Refusal> {
     let embedded = layers.embedded.map(|set| set.0);
-    joined(rows, |table, lists| {
+    joined(rows, ROWS, |table, lists| {
         // SAFETY: pointer and length of each buffer belong together; the lists are `joined`'s own.
         unsafe {
             raw::thq_join(
@@ -237,6 +245,8 @@ pub fn join(layers: &Layers, target: LayerIndex, rows: &[Row]) -> Result<Units, 
                 lists.numbers.len(),
                 lists.lags.as_mut_ptr(),
                 lists.lags.len(),
+                lists.sizes.as_mut_ptr(),
+                lists.sizes.len(),
                 lists.summary.as_mut_ptr(),
                 lists.summary.len(),
             )
@@ -244,14 +254,63 @@ pub fn join(layers: &Layers, target: LayerIndex, rows: &[Row]) -> Result<Units, 
     })
 }
 
-/// The whole import: the layers of a loop's bytes, and the rows joined over them. Refusals: 1 to 9, 11, 12; then 13 to 16.
+/// Joins rows to units as [`join`] does, of a table of any length: the work space is on the heap. Refusals: 11, 12; then 13 to 16, 18.
+pub fn join_long(layers: &Layers, target: LayerIndex, rows: &[Row]) -> Result<Units, Refusal> {
+    let embedded = layers.embedded.map(|set| set.0);
+    let count = rows.len();
+    let mut keys = vec![0; count];
+    let (mut order, mut kept) = (vec![0; count], vec![0; count]);
+    let (mut places, mut heads) = (vec![0; count], vec![0; count]);
+    let (mut claimed, mut used) = (vec![false; count], vec![false; count]);
+    joined(rows, count, |table, lists| {
+        // SAFETY: pointer and length of each buffer belong together; the work space is this call's own, and the lists are `joined`'s.
+        unsafe {
+            raw::thq_join_long(
+                layers.present.0,
+                embedded.as_ptr(),
+                embedded.len(),
+                u64::from(target.0),
+                table.indices.as_ptr(),
+                table.indices.len(),
+                table.decodings.as_ptr(),
+                table.decodings.len(),
+                table.matches.as_ptr(),
+                table.matches.len(),
+                order.as_mut_ptr(),
+                order.len(),
+                keys.as_mut_ptr(),
+                keys.len(),
+                kept.as_mut_ptr(),
+                kept.len(),
+                places.as_mut_ptr(),
+                places.len(),
+                heads.as_mut_ptr(),
+                heads.len(),
+                claimed.as_mut_ptr(),
+                claimed.len(),
+                used.as_mut_ptr(),
+                used.len(),
+                lists.numbers.as_mut_ptr(),
+                lists.numbers.len(),
+                lists.lags.as_mut_ptr(),
+                lists.lags.len(),
+                lists.sizes.as_mut_ptr(),
+                lists.sizes.len(),
+                lists.summary.as_mut_ptr(),
+                lists.summary.len(),
+            )
+        }
+    })
+}
+
+/// The whole import: the layers of a loop's bytes, and the rows joined over them. Refusals: 1 to 9; then those of [`join`].
 pub fn import(
     reading: Reading,
     bytes: &[u8],
     target: LayerIndex,
     rows: &[Row],
 ) -> Result<Units, Refusal> {
-    joined(rows, |table, lists| {
+    joined(rows, ROWS, |table, lists| {
         // SAFETY: pointer and length of each buffer belong together; the lists are `joined`'s own.
         unsafe {
             raw::thq_import(
@@ -269,6 +328,8 @@ pub fn import(
                 lists.numbers.len(),
                 lists.lags.as_mut_ptr(),
                 lists.lags.len(),
+                lists.sizes.as_mut_ptr(),
+                lists.sizes.len(),
                 lists.summary.as_mut_ptr(),
                 lists.summary.len(),
             )
@@ -287,40 +348,43 @@ struct Table {
 struct Lists {
     numbers: Vec<u64>,
     lags: Vec<i64>,
-    summary: [u64; 3],
+    sizes: Vec<u64>,
+    summary: [u64; 2],
 }
 
-/// The units that a call fills the lists with, over these rows.
-fn joined(rows: &[Row], call: impl FnOnce(&Table, &mut Lists) -> u64) -> Result<Units, Refusal> {
+/// The units that a call fills the lists with, over these rows, of which it takes so many at the most.
+fn joined(
+    rows: &[Row],
+    most: usize,
+    call: impl FnOnce(&Table, &mut Lists) -> u64,
+) -> Result<Units, Refusal> {
     let table = Table {
         indices: rows.iter().map(|row| row.layer_index.0).collect(),
         decodings: rows.iter().map(|row| row.decoding).collect(),
         matches: rows.iter().map(|row| row.matching).collect(),
     };
-    let room = rows.len().min(ROWS);
+    let room = rows.len().min(most);
     let mut lists = Lists {
         numbers: vec![0; room],
         lags: vec![0; room],
-        summary: [0; 3],
+        sizes: vec![0; room],
+        summary: [0; 2],
     };
     let count = accepted(call(&table, &mut lists))?;
-    let [closure, _, left_out] = lists.summary;
-    let closure = LayerSet(closure);
-    let components: Vec<Component> = lists.numbers[..count]
+    let [closure, units] = lists.summary;
+    let mut components = lists.numbers[..count]
         .iter()
         .zip(&lists.lags)
         .map(|(&row, &lag)| Component {
             row: row as usize,
             lag,
-        })
-        .collect();
+        });
     Ok(Units {
-        closure,
-        units: components
-            .chunks_exact(closure.len())
-            .map(<[Component]>::to_vec)
+        closure: LayerIndices(closure),
+        units: lists.sizes[..units as usize]
+            .iter()
+            .map(|&size| components.by_ref().take(size as usize).collect())
             .collect(),
-        left_out: left_out as usize,
     })
 }
 

@@ -41,7 +41,7 @@ macro_rules! refusals {
         })?,
     )*) => {
         /// Why a call is refused: the lowest number that applies, at the earliest place. It prints as its number and words, with the place
-        /// where `{}` stands here: `15: row 3 of the target layer has no assembly`.
+        /// where `{}` stands here: `15: row 3, the head of a unit, has no assembly`.
         #[derive(Clone, Copy, Debug, PartialEq, Eq, Hash)]
         #[non_exhaustive]
         pub enum Refusal {
@@ -130,7 +130,7 @@ refusals! {
         /// The lowest missing index.
         index: LayerIndex
     },
-    /// 13: row {} is out of range; or, at row 0, the row columns are of unequal length or there are more than 512 rows.
+    /// 13: row {} is out of range; or, at row 0, the row columns are of unequal length or there are more than 512 rows, or than the work space has places.
     13 OutOfRange {
         /// The row, from 0.
         row: usize
@@ -140,12 +140,12 @@ refusals! {
         /// The row, from 0.
         row: usize
     },
-    /// 15: row {} of the target layer has no assembly.
+    /// 15: row {}, the head of a unit, has no assembly.
     15 Unpaired {
         /// The row, from 0.
         row: usize
     },
-    /// 16: row {} of the target layer would put a row into a second unit.
+    /// 16: row {}, the head of a unit, would share a row with a head before it.
     16 UsedTwice {
         /// The row, from 0.
         row: usize

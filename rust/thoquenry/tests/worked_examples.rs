@@ -211,9 +211,8 @@ fn short_and_long_loops() {
 fn the_whole_import() {
     let import = |last| import(Reading::Edition2015, &LOOP_A, LayerIndex(1), &table(last));
     let units = import(12600).unwrap();
-    assert_eq!(units.closure, LayerSet(0b11));
+    assert_eq!(units.closure, LayerIndices(0b11));
     assert_eq!(plainly(&units), [[(0, 0), (1, 0)], [(2, 600), (3, 0)]]);
-    assert_eq!(units.left_out, 0);
     assert_eq!(import(12601), Err(Refusal::Unpaired { row: 3 }));
     assert_eq!(import(9000), Err(Refusal::UsedTwice { row: 3 }));
 }
@@ -243,7 +242,7 @@ fn two_views_are_read_and_written_without_a_descriptor() {
     for reading in [Reading::Edition2009, Reading::Edition2015] {
         assert_eq!(read_loop(reading, &SPORTS).unwrap(), entries);
         let set = closure(reading, &SPORTS, LayerIndex(1));
-        assert_eq!(set, Ok(LayerSet(0b11)));
+        assert_eq!(set, Ok(LayerIndices(0b11)));
     }
     assert_eq!(write_loop(&entries).unwrap(), SPORTS);
     let indices = |entries: &[Entry]| entries.iter().map(Entry::layer_index).collect::<Vec<_>>();
@@ -262,7 +261,7 @@ fn rows_are_joined_over_two_views() {
     for reading in [Reading::Edition2009, Reading::Edition2015] {
         let import = |last| import(reading, &SPORTS, LayerIndex(1), &table(last));
         let units = import(12600).unwrap();
-        assert_eq!(units.closure, LayerSet(0b11));
+        assert_eq!(units.closure, LayerIndices(0b11));
         assert_eq!(plainly(&units), [[(0, 0), (1, 0)], [(2, 600), (3, 0)]]);
         assert_eq!(import(12601), Err(Refusal::Unpaired { row: 3 }));
     }
@@ -313,11 +312,37 @@ fn time_order_across_the_wrap() {
 }
 
 #[test]
-fn the_lowest_lag() {
+fn lags_and_how_far_rows_lie_apart() {
     let layers = Layers::new().with(0, &[]).with(1, &[0]);
-    let rows = [(0, 4294967296, 4294967296), (1, 0, 4294967296)].map(row);
+    let joined = |time| {
+        let rows = [(0, time, time), (1, 0, time)].map(row);
+        join(&layers, LayerIndex(1), &rows)
+    };
+    let greatest = joined(4294967295).unwrap();
+    assert_eq!(plainly(&greatest), [[(0, 4294967295), (1, 0)]]);
+    assert_eq!(joined(4294967296), Err(Refusal::SpanTooWide));
+    let lowest = joined(4294967297).unwrap();
+    assert_eq!(plainly(&lowest), [[(0, -4294967295), (1, 0)]]);
+}
+
+#[test]
+fn every_picture_of_a_base_at_full_rate() {
+    let layers = Layers::new().with(0, &[]).with(1, &[0]);
+    let rows = [
+        (0, 0, 0),
+        (1, 0, 0),
+        (0, 3600, 3600),
+        (0, 7200, 7200),
+        (1, 7000, 7200),
+    ]
+    .map(row);
     let units = join(&layers, LayerIndex(1), &rows).unwrap();
-    assert_eq!(plainly(&units), [[(0, -4294967296), (1, 0)]]);
+    let expected = [vec![(0, 0), (1, 0)], vec![(2, 0)], vec![(3, 200), (4, 0)]];
+    assert_eq!(plainly(&units), expected);
+    assert_eq!(join_long(&layers, LayerIndex(1), &rows), Ok(units));
+    // Of the base alone every row heads a unit.
+    let base = join(&layers, LayerIndex(0), &rows).unwrap();
+    assert_eq!(plainly(&base), [[(0, 0)], [(2, 0)], [(3, 0)]]);
 }
 
 #[test]
@@ -325,11 +350,16 @@ fn tables_at_the_limits() {
     let layers = Layers::new().with(0, &[]);
     let rows = |count| (0..count).map(|k| row((0, k, k))).collect::<Vec<_>>();
     let units = join(&layers, LayerIndex(0), &rows(512)).unwrap();
-    assert_eq!((units.units.len(), units.left_out), (512, 0));
+    assert_eq!(units.units.len(), 512);
+    assert_eq!(join_long(&layers, LayerIndex(0), &rows(512)), Ok(units));
     let too_many = join(&layers, LayerIndex(0), &rows(513));
     assert_eq!(too_many, Err(Refusal::OutOfRange { row: 0 }));
+    let long = join_long(&layers, LayerIndex(0), &rows(5000)).unwrap();
+    assert_eq!(long.units.len(), 5000);
+    assert_eq!(plainly(&long)[4999], [(4999, 0)]);
     let none = join(&layers, LayerIndex(0), &[]).unwrap();
-    assert_eq!((none.units.len(), none.left_out), (0, 0));
+    assert_eq!(none.units.len(), 0);
+    assert_eq!(join_long(&layers, LayerIndex(0), &[]), Ok(none));
     let too_late = join(
         &layers,
         LayerIndex(0),
@@ -388,7 +418,8 @@ fn headers() {
 #[test]
 fn every_number_has_its_name_and_its_words() {
     let listed: Vec<u8> = (0..=255).filter(|&n| Refusal::of(n, 0).is_some()).collect();
-    let expected: Vec<u8> = (1..=9).chain(11..=17).chain(20..=25).collect();
+    let numbers = (1..=9).chain(11..=18).chain(20..=25);
+    let expected: Vec<u8> = numbers.chain(40..=42).chain(44..=46).collect();
     assert_eq!(listed, expected);
     let mut shown = Vec::new();
     for number in listed {
@@ -406,17 +437,17 @@ fn every_number_has_its_name_and_its_words() {
     assert_eq!(shown.len(), expected.len());
     assert_eq!(
         Refusal::Unpaired { row: 3 }.to_string(),
-        "15: row 3 of the target layer has no assembly"
+        "15: row 3, the head of a unit, has no assembly"
     );
     assert_eq!(Refusal::of(12, 256), None);
 }
 
 #[test]
 fn sets_print_their_indices() {
-    let set = LayerSet(0b101);
+    let set = LayerIndices(0b101);
     assert_eq!(set.to_string(), "{0, 2}");
-    assert_eq!(format!("{set:?}"), "LayerSet {0, 2}");
-    assert_eq!(LayerSet::default().to_string(), "{}");
+    assert_eq!(format!("{set:?}"), "LayerIndices {0, 2}");
+    assert_eq!(LayerIndices::default().to_string(), "{}");
 }
 
 #[test]

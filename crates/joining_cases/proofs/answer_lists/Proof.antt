@@ -21,11 +21,17 @@ kept-requires-4 c κs = search needs
 kept-requires-5 : tie.Need-kept-requires-5
 kept-requires-5 c κs = search needs
 
+kept-requires-6 : tie.Need-kept-requires-6
+kept-requires-6 c κs = search needs
+
 no-numbers-requires : tie.Need-no-numbers-requires
 no-numbers-requires c κs = search needs
 
 no-lags-requires : tie.Need-no-lags-requires
 no-lags-requires c κs = search needs
+
+no-numbers-requires-2 : tie.Need-no-numbers-requires-2
+no-numbers-requires-2 c κs = search needs
 
 array-share-prefix-indices : tie.Need-array-share-prefix-indices
 array-share-prefix-indices c = search needs
@@ -57,6 +63,12 @@ array-borrow-prefix-lags c = search needs
 slice-aggregate-answer-table-5 : tie.Need-slice-aggregate-answer-table-5
 slice-aggregate-answer-table-5 c = sym (length-take-le _ _ (search needs))
 
+array-borrow-prefix-sizes : tie.Need-array-borrow-prefix-sizes
+array-borrow-prefix-sizes c = search needs
+
+slice-aggregate-answer-table-6 : tie.Need-slice-aggregate-answer-table-6
+slice-aggregate-answer-table-6 c = sym (length-take-le _ _ (search needs))
+
 answer-table-requires : tie.Need-answer-table-requires
 answer-table-requires c κs = search needs
 
@@ -72,8 +84,10 @@ answer-lists-spec =
     kept-requires-3
     kept-requires-4
     kept-requires-5
+    kept-requires-6
     no-numbers-requires
     no-lags-requires
+    no-numbers-requires-2
     array-share-prefix-indices
     slice-aggregate-answer-table
     array-share-prefix-decodings
@@ -84,5 +98,7 @@ answer-lists-spec =
     slice-aggregate-answer-table-4
     array-borrow-prefix-lags
     slice-aggregate-answer-table-5
+    array-borrow-prefix-sizes
+    slice-aggregate-answer-table-6
     answer-table-requires
     returns)

@@ -3,16 +3,16 @@
 use Prim.Native.Nat.{ℕ, _+_, _-_, _≤_, _<_}
 use mathlib.Core.Path.{_≡_, ap, _∙_}
 use native.Mathlib.Omega.{arith}
-use Rattle.kept_closures.specs.Kept.{columns, grownFrom}
-use Rattle.kept_closures.proofs.Steps.{grown-turn, grown-end}
+use Rattle.kept_closures.specs.Kept.{columns, grownAt, grownAbove, stepsFrom}
+use Rattle.kept_closures.proofs.Steps.{step-turn, step-end}
 use Rattle.kept_closures.proofs.grow_all.Statement.{statement}
 use Rattle.kept_closures.proofs.grow_all.Tie as tie
 
 abbrev Inv-loop : tie.InvT-loop
 Inv-loop present own index closures₀ sizes₀ absents₀ upper₀ closures sizes absents upper =
     (upper ≤ 64)
-    × (grownFrom present own index upper (64 - upper) (columns closures sizes absents)
-    ≡ grownFrom present own index (index + 1) (63 - index) (columns closures₀ sizes₀ absents₀))
+    × (stepsFrom (grownAt present own index) upper (64 - upper) (columns closures sizes absents)
+    ≡ grownAbove present own index (columns closures₀ sizes₀ absents₀))
 
 abbrev μ-loop : tie.MeasureT-loop
 μ-loop present own index closures₀ sizes₀ absents₀ upper₀ closures sizes absents upper = 64 - upper
@@ -25,7 +25,7 @@ loop-holds c =
     let h = c .pre in
     let a = c .args in
     let same : 64 - (a .index + 1) ≡ 63 - a .index = omega arith in
-    (omega arith, ap (λ (n : ℕ). grownFrom (a .present) (a .own) (a .index) (a .index + 1) n (columns (a .closures .now) (a .sizes .now) (a .absents .now))) same)
+    (omega arith, ap (λ (n : ℕ). stepsFrom (grownAt (a .present) (a .own) (a .index)) (a .index + 1) n (columns (a .closures .now) (a .sizes .now) (a .absents .now))) same)
 
 grow-requires : tie.Need-grow-requires Inv-loop μ-loop
 grow-requires c κs = omega arith
@@ -41,14 +41,14 @@ loop-again c =
     let a = c .before .before .before .before .before .before .args in
     let at = c .before .before .before .before .before .loop in
     let inside : at .upper < 64 = omega arith in
-    (omega arith, ap (grownFrom (a .present) (a .own) (a .index) (at .upper + 1) (64 - (at .upper + 1))) (c .grow .ensures) ∙ grown-turn (a .present) (a .own) (a .index) (at .upper) (columns (at .closures) (at .sizes) (at .absents)) inside ∙ at .inv .1)
+    (omega arith, ap (stepsFrom (grownAt (a .present) (a .own) (a .index)) (at .upper + 1) (64 - (at .upper + 1))) (c .grow .ensures) ∙ step-turn (grownAt (a .present) (a .own) (a .index)) (at .upper) (columns (at .closures) (at .sizes) (at .absents)) inside ∙ at .inv .1)
 
 returns : tie.Need-returns Inv-loop μ-loop
 returns c =
     let a = c .before .before .args in
     let at = c .before .loop in
     let past : 64 ≤ at .upper = omega arith in
-    grown-end (a .present) (a .own) (a .index) (at .upper) (columns (at .closures) (at .sizes) (at .absents)) past ∙ at .inv .1
+    step-end (grownAt (a .present) (a .own) (a .index)) (at .upper) (columns (at .closures) (at .sizes) (at .absents)) past ∙ at .inv .1
 
 pub grow-all-spec : {M : Type 1} → statement M
 grow-all-spec =

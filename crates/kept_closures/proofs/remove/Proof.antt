@@ -1,13 +1,11 @@
 -- `remove` meets its contract: nothing is kept of the layer, and the closures of those that rested on it are put together again.
 -- Assumes nothing.
-use Prim.Native.Nat.{ℕ, _+_, _-_}
-use mathlib.Core.Path.{refl, sym, ap, subst, _∙_}
+use Prim.Native.Nat.{ℕ}
+use mathlib.Core.Path.{refl, ap, _∙_}
 use lib.ListN.{set}
 use Rattle.sets.specs.Sets.{without}
 use Rattle.sets.proofs.Laws.{one-shifted}
-use Rattle.closure.specs.declared.Layers.{Layers}
-use Rattle.kept_closures.specs.Kept.{Columns, columns, layersBy, storedAt, Kept, withoutLayer, shrunkFrom}
-use Rattle.kept_closures.proofs.Less.{removed-kept}
+use Rattle.kept_closures.specs.Kept.{Columns, columns, storedAt, shrunkAbove, columnsRemoved}
 use borrow.Author.Needs.{needs}
 use Rattle.kept_closures.proofs.remove.Statement.{statement}
 use Rattle.kept_closures.proofs.remove.Tie as tie
@@ -31,19 +29,16 @@ shrink-all-requires : tie.Need-shrink-all-requires
 shrink-all-requires c κs = search needs
 
 returns : tie.Need-returns
+unfolding columnsRemoved
 returns c =
     let a = c .before .before .before .before .before .before .before .before .before .before .args in
     let pre = c .before .before .before .before .before .before .before .before .before .before .pre in
-    let layers : Layers = layersBy (a .present) (a .embedded .now) in
     let kept : Columns = columns (a .closures .now) (a .sizes .now) (a .absents .now) in
-    let present = c .before .before .before .before .before .before .before .before .before .without .ensures ∙ ap (without (a .present)) (one-shifted 64 (a .index) (pre .0)) in (
+    let present = c .before .before .before .before .before .before .before .before .before .without .ensures ∙ ap (without (a .present)) (one-shifted 64 (a .index) pre) in (
       (present, refl),
-      subst (Kept (withoutLayer layers (a .index)))
-          (sym
-          (c .shrink-all .ensures
-          ∙ ap (shrunkFrom (c .before .before .before .before .before .before .before .before .before .without .result) (a .index) (set (a .embedded .now) (a .index) 0) (a .index + 1) (63 - a .index)) (c .before .before .before .before .before .keep .ensures)
-          ∙ ap (λ (p : ℕ). shrunkFrom p (a .index) (set (a .embedded .now) (a .index) 0) (a .index + 1) (63 - a .index) (storedAt p 0 (a .index) kept)) present))
-          (removed-kept layers (a .index) (rw (pre .2) (pre .0)) (pre .0) (pre .1) kept (pre .3)),
+      c .shrink-all .ensures
+          ∙ ap (shrunkAbove (c .before .before .before .before .before .before .before .before .before .without .result) (a .index) (set (a .embedded .now) (a .index) 0)) (c .before .before .before .before .before .keep .ensures)
+          ∙ ap (λ (p : ℕ). shrunkAbove p (a .index) (set (a .embedded .now) (a .index) 0) (storedAt p 0 (a .index) kept)) present,
     )
 
 pub remove-spec : {M : Type 1} → statement M

@@ -3,16 +3,16 @@
 use Prim.Native.Nat.{ℕ, _+_, _-_, _≤_, _<_}
 use mathlib.Core.Path.{_≡_, ap, _∙_}
 use native.Mathlib.Omega.{arith}
-use Rattle.kept_closures.specs.Kept.{columns, shrunkFrom}
-use Rattle.kept_closures.proofs.Less.{shrunk-turn, shrunk-end}
+use Rattle.kept_closures.specs.Kept.{columns, shrunkBy, shrunkAbove, stepsFrom}
+use Rattle.kept_closures.proofs.Steps.{step-turn, step-end}
 use Rattle.kept_closures.proofs.shrink_all.Statement.{statement}
 use Rattle.kept_closures.proofs.shrink_all.Tie as tie
 
 abbrev Inv-loop : tie.InvT-loop
 Inv-loop present index embedded closures₀ sizes₀ absents₀ upper₀ closures sizes absents upper =
     (upper ≤ 64)
-    × (shrunkFrom present index embedded upper (64 - upper) (columns closures sizes absents)
-    ≡ shrunkFrom present index embedded (index + 1) (63 - index) (columns closures₀ sizes₀ absents₀))
+    × (stepsFrom (shrunkBy present index embedded) upper (64 - upper) (columns closures sizes absents)
+    ≡ shrunkAbove present index embedded (columns closures₀ sizes₀ absents₀))
 
 abbrev μ-loop : tie.MeasureT-loop
 μ-loop present index embedded closures₀ sizes₀ absents₀ upper₀ closures sizes absents upper = 64 - upper
@@ -25,7 +25,7 @@ loop-holds c =
     let h = c .pre in
     let a = c .args in
     let same : 64 - (a .index + 1) ≡ 63 - a .index = omega arith in
-    (omega arith, ap (λ (n : ℕ). shrunkFrom (a .present) (a .index) (a .embedded .now) (a .index + 1) n (columns (a .closures .now) (a .sizes .now) (a .absents .now))) same)
+    (omega arith, ap (λ (n : ℕ). stepsFrom (shrunkBy (a .present) (a .index) (a .embedded .now)) (a .index + 1) n (columns (a .closures .now) (a .sizes .now) (a .absents .now))) same)
 
 mul-shrink : tie.Need-mul-shrink Inv-loop μ-loop
 mul-shrink c = omega arith
@@ -47,14 +47,14 @@ loop-again c =
     let a = c .before .before .before .before .before .before .before .args in
     let at = c .before .before .before .before .before .before .loop in
     let inside : at .upper < 64 = omega arith in
-    (omega arith, ap (shrunkFrom (a .present) (a .index) (a .embedded .now) (at .upper + 1) (64 - (at .upper + 1))) (c .shrink .ensures) ∙ shrunk-turn (a .present) (a .index) (at .upper) (a .embedded .now) (columns (at .closures) (at .sizes) (at .absents)) inside ∙ at .inv .1)
+    (omega arith, ap (stepsFrom (shrunkBy (a .present) (a .index) (a .embedded .now)) (at .upper + 1) (64 - (at .upper + 1))) (c .shrink .ensures) ∙ step-turn (shrunkBy (a .present) (a .index) (a .embedded .now)) (at .upper) (columns (at .closures) (at .sizes) (at .absents)) inside ∙ at .inv .1)
 
 returns : tie.Need-returns Inv-loop μ-loop
 returns c =
     let a = c .before .before .args in
     let at = c .before .loop in
     let past : 64 ≤ at .upper = omega arith in
-    shrunk-end (a .present) (a .index) (at .upper) (a .embedded .now) (columns (at .closures) (at .sizes) (at .absents)) past ∙ at .inv .1
+    step-end (shrunkBy (a .present) (a .index) (a .embedded .now)) (at .upper) (columns (at .closures) (at .sizes) (at .absents)) past ∙ at .inv .1
 
 pub shrink-all-spec : {M : Type 1} → statement M
 shrink-all-spec =

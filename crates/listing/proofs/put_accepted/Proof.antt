@@ -4,7 +4,7 @@ use mathlib.Core.Path.{ap}
 use borrow.Author.Needs.{needs}
 use Rattle.text.specs.Text.{ascii}
 use Rattle.text.proofs.Laws.{laid-then, laid-as, laid-length}
-use Rattle.listing.specs.Lines.{labelled, acceptedText}
+use Rattle.listing.specs.Lines.{labelled, setText}
 use Rattle.listing.proofs.put_accepted.Statement.{statement}
 use Rattle.listing.proofs.put_accepted.Tie as tie
 
@@ -27,7 +27,7 @@ put-layers-requires : tie.Need-put-layers-requires
 put-layers-requires c κs = search needs
 
 returns : tie.Need-returns
-unfolding acceptedText
+unfolding setText
 returns c =
     laid-then
     (laid-then (laid-as (ap (labelled (ascii "accepted ")) (c .before .before .before .before .before .before .before .before .before .before .before .before .size .ensures)) (c .before .before .before .before .before .before .before .before .before .before .before .put-labelled .ensures)) (c .before .before .before .before .before .before .put .ensures))

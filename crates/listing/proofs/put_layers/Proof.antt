@@ -5,15 +5,15 @@ use native.Mathlib.Omega.{arith}
 use borrow.Author.Needs.{needs}
 use Rattle.text.specs.Text.{Laid, texts}
 use Rattle.text.proofs.Laws.{laid-first, laid-next, laid-last, laid-within, laid-length}
-use Rattle.listing.specs.Lines.{lineAt, layersText}
+use Rattle.listing.specs.Lines.{setLine, setLines}
 use Rattle.listing.proofs.put_layers.Statement.{statement}
 use Rattle.listing.proofs.put_layers.Tie as tie
 
 abbrev Inv-loop : tie.InvT-loop
-Inv-loop out₀ at table place₀ index₀ out place index = (index ≤ 64) × Laid out₀ place₀ (texts (lineAt table) index) place out
+Inv-loop out₀ at kept place₀ index₀ out place index = (index ≤ 64) × Laid out₀ place₀ (texts (setLine kept) index) place out
 
 abbrev μ-loop : tie.MeasureT-loop
-μ-loop out₀ at table place₀ index₀ out place index = 64 - index
+μ-loop out₀ at kept place₀ index₀ out place index = 64 - index
 
 slice-aggregate-put : tie.Need-slice-aggregate-put Inv-loop μ-loop
 slice-aggregate-put c = search needs
@@ -22,7 +22,7 @@ put-requires : tie.Need-put-requires Inv-loop μ-loop
 put-requires c κs = search needs
 
 loop-holds : tie.Need-loop-holds Inv-loop μ-loop
-loop-holds c = (omega arith, laid-first (lineAt (c .before .before .before .before .before .before .args .table)) _ _ _ (laid-within (c .before .before .put .ensures)))
+loop-holds c = (omega arith, laid-first (setLine (c .before .before .before .before .before .before .args .kept)) _ _ _ (laid-within (c .before .before .put .ensures)))
 
 put-layer-at-requires : tie.Need-put-layer-at-requires Inv-loop μ-loop
 put-layer-at-requires c κs = omega arith
@@ -34,11 +34,11 @@ loop-less : tie.Need-loop-less Inv-loop μ-loop
 loop-less c = omega arith
 
 loop-again : tie.Need-loop-again Inv-loop μ-loop
-loop-again c = (omega arith, laid-next (lineAt (c .before .before .before .before .before .before .before .before .before .before .before .before .args .table)) _ (c .before .before .before .before .before .loop .inv .1) (c .before .before .put-layer-at .ensures))
+loop-again c = (omega arith, laid-next (setLine (c .before .before .before .before .before .before .before .before .before .before .before .before .args .kept)) _ (c .before .before .before .before .before .loop .inv .1) (c .before .before .put-layer-at .ensures))
 
 returns : tie.Need-returns Inv-loop μ-loop
-unfolding layersText
-returns c = laid-last (lineAt (c .before .before .before .before .before .before .before .before .args .table)) _ 64 (c .before .before .before .before .put .ensures) (c .before .loop .inv .1) (omega arith)
+unfolding setLines
+returns c = laid-last (setLine (c .before .before .before .before .before .before .before .before .args .kept)) _ 64 (c .before .before .before .before .put .ensures) (c .before .loop .inv .1) (omega arith)
 
 same-length : tie.Need-same-length Inv-loop μ-loop
 same-length c = laid-length (returns c)

@@ -15,27 +15,27 @@ returns : tie.Need-returns
 returns c =
     let a = c .before .before .before .before .before .args in
     let t = table (a .indices .now) (a .decodings .now) (a .matches .now) in
-    is-misshapen t (a .closure) (sym (c .before .wrong-shape .ensures) ∙ c .if1 .taken)
+    is-misshapen (a .most) t (a .closure) (sym (c .before .wrong-shape .ensures) ∙ c .if1 .taken)
 
 first-out-of-range-requires : tie.Need-first-out-of-range-requires
 first-out-of-range-requires c κs =
     let a = c .before .before .before .before .before .args in
     let t = table (a .indices .now) (a .decodings .now) (a .matches .now) in
     let shape = sym (c .before .wrong-shape .ensures) ∙ c .if1 .left in
-    (shape-decoded t shape, shape-matched t shape)
+    (shape-decoded (a .most) t shape, shape-matched (a .most) t shape)
 
 returns-2 : tie.Need-returns-2
 returns-2 c =
     let a = c .before .before .before .before .before .before .before .args in
     let t = table (a .indices .now) (a .decodings .now) (a .matches .now) in
     let shape = sym (c .before .before .before .wrong-shape .ensures) ∙ c .before .before .if1 .left in
-    is-outside t (a .closure) shape _ (c .before .first-out-of-range .ensures) (c .if2 .taken)
+    is-outside (a .most) t (a .closure) shape _ (c .before .first-out-of-range .ensures) (c .if2 .taken)
 
 first-broken-requires : tie.Need-first-broken-requires
 first-broken-requires c κs =
     let a = c .before .before .before .before .before .before .before .args in
     let t = table (a .indices .now) (a .decodings .now) (a .matches .now) in
-    shape-decoded t (sym (c .before .before .before .wrong-shape .ensures) ∙ c .before .before .if1 .left)
+    shape-decoded (a .most) t (sym (c .before .before .before .wrong-shape .ensures) ∙ c .before .before .if1 .left)
 
 returns-3 : tie.Need-returns-3
 returns-3 c =
@@ -43,7 +43,7 @@ returns-3 c =
     let t = table (a .indices .now) (a .decodings .now) (a .matches .now) in
     let shape = sym (c .before .before .before .before .before .wrong-shape .ensures) ∙ c .before .before .before .before .if1 .left in
     let range = subst (λ (k : ℕ). rowsIn t ≤ k) (c .before .before .before .first-out-of-range .ensures) (c .before .before .if2 .left) in
-    is-broken t (a .closure) shape range _ (c .before .first-broken .ensures) (c .if3 .taken)
+    is-broken (a .most) t (a .closure) shape range _ (c .before .first-broken .ensures) (c .if3 .taken)
 
 returns-4 : tie.Need-returns-4
 returns-4 c =
@@ -52,7 +52,7 @@ returns-4 c =
     let shape = sym (c .before .before .before .before .before .wrong-shape .ensures) ∙ c .before .before .before .before .if1 .left in
     let range = subst (λ (k : ℕ). rowsIn t ≤ k) (c .before .before .before .first-out-of-range .ensures) (c .before .before .if2 .left) in
     let order = subst (λ (k : ℕ). rowsIn t ≤ k) (c .before .first-broken .ensures) (c .if3 .left) in
-    is-in-order t (a .closure) shape range order
+    is-in-order (a .most) t (a .closure) shape range order
 
 pub judge-spec : {M : Type 1} → statement M
 judge-spec =

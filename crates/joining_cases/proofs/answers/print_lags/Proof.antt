@@ -7,10 +7,10 @@ use Rattle.joining_cases.proofs.answers.print_lags.Statement.{statement
 use Rattle.joining_cases.proofs.answers.print_lags.Tie as tie
 
 abbrev Inv-loop : tie.InvT-loop
-Inv-loop lags i₀ t4 i = i ≤ length lags
+Inv-loop lags i₀ i = i ≤ length lags
 
 abbrev μ-loop : tie.MeasureT-loop
-μ-loop lags i₀ t4 i = length lags - i
+μ-loop lags i₀ i = length lags - i
 
 slice-aggregate-say : tie.Need-slice-aggregate-say Inv-loop μ-loop
 slice-aggregate-say c = search needs
@@ -39,12 +39,6 @@ loop-less c = search needs
 loop-again : tie.Need-loop-again Inv-loop μ-loop
 loop-again c = search needs
 
-slice-aggregate-say-2 : tie.Need-slice-aggregate-say-2 Inv-loop μ-loop
-slice-aggregate-say-2 c = search needs
-
-say-requires-2 : tie.Need-say-requires-2 Inv-loop μ-loop
-say-requires-2 c κs = search needs
-
 returns : tie.Need-returns Inv-loop μ-loop
 returns c = search needs
 
@@ -63,6 +57,4 @@ print-lags-spec =
     add-i
     loop-less
     loop-again
-    slice-aggregate-say-2
-    say-requires-2
     returns)

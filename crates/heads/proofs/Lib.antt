@@ -1,0 +1,13 @@
+pub mod Members
+pub mod Marking
+pub mod Tested
+pub mod Gathers
+pub mod Kept
+pub mod Claiming
+pub mod Frames
+pub mod Orderly
+pub mod Chosen
+pub mod Assemblies
+pub mod Meant
+pub mod Apart
+pub mod Wholeness

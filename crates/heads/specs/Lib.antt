@@ -1,0 +1,4 @@
+pub mod Units
+pub mod Judging
+pub mod Meaning
+pub mod Orderly

@@ -1,0 +1,4 @@
+pub mod Held
+pub mod Laid
+pub mod Left
+pub mod Reading

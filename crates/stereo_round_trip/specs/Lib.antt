@@ -1,0 +1,5 @@
+pub mod Pieces
+pub mod ReadBack
+pub mod OwnShape
+pub mod Bare
+pub mod Rewriting

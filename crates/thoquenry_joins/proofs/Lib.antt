@@ -1,0 +1,4 @@
+pub mod Rooms
+pub mod Joined
+pub mod Stored
+pub mod Bounds

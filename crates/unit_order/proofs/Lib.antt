@@ -1,0 +1,4 @@
+pub mod Layer
+pub mod Bounds
+pub mod Each
+pub mod Runs
