@@ -21,7 +21,7 @@ use Rattle.es_loop.specs.Meaning.{too-long, refuses}
 use Rattle.es_loop.specs.Meaning as Loop
 use Rattle.es_loop.proofs.Meant.{answer-meant, answer-only}
 use Rattle.closure.specs.declared.Layers.{Layers}
-use Rattle.joining.specs.declared.answer.Joined.{Joined}
+use Rattle.join_answers.specs.declared.answer.Joined.{Joined}
 use Rattle.rows.specs.Table.{Table}
 use Rattle.loop_layers.specs.Closures.{entriesRead}
 use Rattle.loop_layers.specs.Layers.{layersOf}

@@ -22,11 +22,11 @@ use Rattle.closure.specs.Meaning as Target
 use Rattle.closure.proofs.Meant.{closure-meant, closure-only, given-complete}
 use Rattle.loop_layers.specs.Closures.{closureFor, loopClosure}
 use Rattle.loop_layers.specs.Layers.{layersOf}
-use Rattle.joining.specs.declared.answer.Joined.{Joined}
-use Rattle.joining.specs.declared.answer.Joined.the-variants.{Refused}
+use Rattle.join_answers.specs.declared.answer.Joined.{Joined}
+use Rattle.join_answers.specs.declared.answer.Joined.the-variants.{Refused}
 use Rattle.rows.specs.Table.{Table, mostRows}
 use Rattle.unit_lists.specs.Sequence.{Lists}
-use Rattle.joining.specs.Joining.{roomOf, joinedIn, joinedOf, listsAfter}
+use Rattle.join_answers.specs.Joining.{roomOf, joinedIn, joinedOf, listsAfter}
 use Rattle.importing.specs.Importing.{importFor, importOf, importedLists}
 use Rattle.agreement.specs.Meaning.{Every2009, Otherwise, another-type, no-complete-set, Answer, answerOf, NoSet}
 use Rattle.agreement.specs.Entries.{IsAccepted, entriesIn, accepted-in-2009}

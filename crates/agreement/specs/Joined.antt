@@ -8,6 +8,7 @@ use mathlib.Core.List.{List}
 use lib.Dec.{eqb, ltb}
 use lib.ListN.{getD}
 use Rattle.combinators.specs.Below.{some}
+use Rattle.combinators.specs.Each.{eachBelow}
 use Rattle.combinators.specs.Those.{those-alike}
 use Rattle.sets.specs.Sets.{has}
 use Rattle.vocabulary.specs.declared.refusal.Refusal.{Refusal}
@@ -20,11 +21,11 @@ use Rattle.rows.specs.Verdicts.{verdictOf}
 use Rattle.assembling.specs.Assemblies.{upperOf, lowerOf, isEdge, edgesOf}
 use Rattle.claims.specs.Claims.{embeds, claimed}
 use Rattle.heads.specs.Units.{Frame, frame}
-use Rattle.joining.specs.declared.answer.Joined.{Joined}
-use Rattle.joining.specs.declared.answer.Joined.the-variants.{Units, Refused}
+use Rattle.join_answers.specs.declared.answer.Joined.{Joined}
+use Rattle.join_answers.specs.declared.answer.Joined.the-variants.{Units, Refused}
 use Rattle.unit_lists.specs.Sequence.{Lists, listsOver}
-use Rattle.joining.specs.Joining.{tabulated, ownSet, frameOf, Room, unitsJoined, joinedBy, joinedIn, joinedOf, listsAfter}
-use Rattle.joining.proofs.Cases.{IsOver, units-over, refused, is-over}
+use Rattle.join_answers.specs.Joining.{ownSet, frameOf, Room, unitsJoined, joinedBy, joinedIn, joinedOf, listsAfter}
+use Rattle.join_answers.proofs.Cases.{IsOver, units-over, refused, is-over}
 
 module _ (few all : Layers) (closure : ℕ)
     (same : (i : ℕ) → has closure i ≡ true → getD (few .embedded) i 0 ≡ getD (all .embedded) i 0)
@@ -73,8 +74,8 @@ module _ (few all : Layers) (closure : ℕ)
 
   frames-alike : (t : Table) → frameOf few closure t ≡ frameOf all closure t
   frames-alike t =
-      ap₂ (λ (c : ℕ → Bool) (o : ℕ → ℕ). frame closure (tabulated c (rowsIn t)) (tabulated o 64) (edgesOf few closure)) (claims-alike t) owns-alike
-      ∙ ap (frame closure (tabulated (claimed all closure t) (rowsIn t)) (tabulated (ownSet all closure) 64)) edges-alike
+      ap₂ (λ (c : ℕ → Bool) (o : ℕ → ℕ). frame closure (eachBelow c (rowsIn t)) (eachBelow o 64) (edgesOf few closure)) (claims-alike t) owns-alike
+      ∙ ap (frame closure (eachBelow (claimed all closure t) (rowsIn t)) (eachBelow (ownSet all closure) 64)) edges-alike
 
 module _ (few all : Layers) (target : ℕ) (same-closure : closureOf few target ≡ closureOf all target)
     (same : (closure : ℕ) → closureOf all target ≡ Complete closure

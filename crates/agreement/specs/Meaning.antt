@@ -25,8 +25,8 @@ use Rattle.closure.specs.Meaning.{RestsOn}
 use Rattle.closure.specs.Meaning as Target
 use Rattle.loop_layers.specs.Meaning.{LayerAt, LayersOf}
 use Rattle.loop_layers.specs.Meaning as LoopClosure
-use Rattle.joining.specs.declared.answer.Joined.{Joined}
-use Rattle.joining.specs.declared.answer.Joined.the-variants.{Refused}
+use Rattle.join_answers.specs.declared.answer.Joined.{Joined}
+use Rattle.join_answers.specs.declared.answer.Joined.the-variants.{Refused}
 use Rattle.rows.specs.Table.{Table}
 use Rattle.unit_lists.specs.Sequence.{Lists}
 use Rattle.importing.specs.Meaning as Import

@@ -16,8 +16,9 @@ use Rattle.clock.specs.Clock.{distanceOf}
 use Rattle.combinators.specs.Below.{seek-first, seek-here}
 use Rattle.combinators.specs.Bools.{both-left, both-right}
 use Rattle.rows.specs.Table.{Table, rowsIn, layerOf, decodingOf, matchOf, firstRow, ahead}
-use Rattle.assembling.specs.Index.{Rising}
-use Rattle.assembling.specs.Assemblies.{Assembly, upperOf, lowerOf, rowAt, partner, assembledFrom, assembled}
+use Rattle.row_index.specs.Index.{Rising}
+use Rattle.row_index.specs.Index.{rowAt}
+use Rattle.assembling.specs.Assemblies.{Assembly, upperOf, lowerOf, partner, assembledFrom, assembled}
 
 -- an edge is met: both its layers have a row, and 'the decoding time of the lower row equals the match time of the upper row'
 pub record Met (t : Table) (rows : List ℕ) (edge : ℕ) : Type 0 where

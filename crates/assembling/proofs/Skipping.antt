@@ -12,30 +12,46 @@ use lib.Dec.{ltb}
 use lib.ListN.{getD}
 use Rattle.closure.specs.declared.Layers.{Layers}
 use Rattle.combinators.specs.Gathering.{Gathered, gathered-same}
-use Rattle.combinators.specs.Below.{seek-first}
+use Rattle.combinators.specs.Below.{count, seek-first, count-fewer}
+use Rattle.combinators.specs.Bools.{both-left, both-right}
 use Rattle.sets.specs.Sets.{has, without, below, lowest}
 use Rattle.sets.proofs.Laws.{has-without, has-below, lowest-least}
-use Rattle.assembling.specs.Assemblies.{upperOf, lowerOf, joins, isEdge, Next}
+use Rattle.assembling.specs.Assemblies.{upperOf, lowerOf, joins, isEdge, Next, mostEdges}
 
-skip : (test : ℕ → Bool) (size d n count : ℕ) (array : List ℕ) → Gathered test size n count array → n + d ≤ size
-    → ((k : ℕ) → n ≤ k → k < n + d → test k ≡ false) → Gathered test size (n + d) count array
-skip test size zero n count array known h none = subst (λ (m : ℕ). Gathered test size m count array) (omega arith) known
-skip test size (suc d) n count array known h none =
+skip : (test : ℕ → Bool) (bound size d n count : ℕ) (array : List ℕ) → Gathered test bound size n count array → n + d ≤ bound
+    → ((k : ℕ) → n ≤ k → k < n + d → test k ≡ false) → Gathered test bound size (n + d) count array
+skip test bound size zero n count array known h none = subst (λ (m : ℕ). Gathered test bound size m count array) (omega arith) known
+skip test bound size (suc d) n count array known h none =
     let sum : n + 1 + d ≡ n + suc d = omega arith in
-    subst (λ (m : ℕ). Gathered test size m count array) sum
-    (skip test size d (n + 1) count array (gathered-same test size n count array known (omega arith) (none n (omega arith) (omega arith))) (omega arith)
+    subst (λ (m : ℕ). Gathered test bound size m count array) sum
+    (skip test bound size d (n + 1) count array (gathered-same test bound size n count array known (omega arith) (none n (omega arith) (omega arith))) (omega arith)
     (λ k l m. none k (omega arith) (omega arith)))
 
+-- there are no more edges than pairs of a layer and a lower one, and these are counted
+isPair : ℕ → Bool
+isPair k = ltb (lowerOf k) (upperOf k)
+
+pairs-counted : count isPair 4096 ≡ mostEdges
+unfolding isPair
+pairs-counted = refl
+
+pub few-edges : (layers : Layers) (closure : ℕ) → count (isEdge layers closure) 4096 ≤ mostEdges
+unfolding isPair
+few-edges layers closure =
+    subst (λ (n : ℕ). count (isEdge layers closure) 4096 ≤ n) pairs-counted
+    (count-fewer (isEdge layers closure) isPair 4096
+    (λ k h e. both-left (ltb (lowerOf k) (upperOf k)) (has (getD (layers .embedded) (upperOf k) 0) (lowerOf k)) (both-right (has closure (upperOf k)) _ e)))
+
 -- from one pair past the pair at hand to the next that is looked at
-pub gathered-next : (layers : Layers) (closure edge upper next count : ℕ) (array : List ℕ) → Gathered (isEdge layers closure) 4096 (edge + 1) count array
-    → upper ≡ upperOf edge → Next closure (getD (layers .embedded) upper 0) edge next → Gathered (isEdge layers closure) 4096 next count array
+pub gathered-next : (layers : Layers) (closure edge upper next count : ℕ) (array : List ℕ) → Gathered (isEdge layers closure) 4096 mostEdges (edge + 1) count array
+    → upper ≡ upperOf edge → Next closure (getD (layers .embedded) upper 0) edge next → Gathered (isEdge layers closure) 4096 mostEdges next count array
 gathered-next layers closure edge upper next count array known is-upper given =
     let n = subst (λ (u : ℕ). Next closure (getD (layers .embedded) u 0) edge next) is-upper given in
     let after = n .after in
     let within = n .within in
     let sum : edge + 1 + (next - (edge + 1)) ≡ next = omega arith in
-    subst (λ (m : ℕ). Gathered (isEdge layers closure) 4096 m count array) sum
-    (skip (isEdge layers closure) 4096 (next - (edge + 1)) (edge + 1) count array known (omega arith)
+    subst (λ (m : ℕ). Gathered (isEdge layers closure) 4096 mostEdges m count array) sum
+    (skip (isEdge layers closure) 4096 mostEdges (next - (edge + 1)) (edge + 1) count array known (omega arith)
     (λ k l m. ap (λ (u : ℕ). joins closure (getD (layers .embedded) u 0) u (lowerOf k)) (n .same-upper k (omega arith) (omega arith))
     ∙ n .no-edge k (omega arith) (omega arith)))
 

@@ -9,10 +9,10 @@ use mathlib.Core.Path.{_≡_}
 use lib.Dec.{eqb, ltb}
 use lib.ListN.{getD, set, replicate}
 use Rattle.closure.specs.declared.Layers.{Layers}
-use Rattle.combinators.specs.Below.{seek}
 use Rattle.combinators.specs.Those.{those}
 use Rattle.sets.specs.Sets.{has}
-use Rattle.rows.specs.Table.{Table, rowsIn, layerOf, decodingOf, matchOf}
+use Rattle.rows.specs.Table.{Table, rowsIn, decodingOf, matchOf}
+use Rattle.row_index.specs.Index.{rowAt}
 
 -- An edge, 'each layer and each of its embedded layers', is held as one number: the pairs of indices in this order have the highest
 -- upper layer first.
@@ -29,9 +29,13 @@ joins closure embedded upper lower = has closure upper && (ltb lower upper && ha
 abbrev pub isEdge : Layers → ℕ → ℕ → Bool
 isEdge layers closure edge = joins closure (getD (layers .embedded) (upperOf edge) 0) (upperOf edge) (lowerOf edge)
 
--- the edges of a closure, and its layers in rising index
+-- the edges of a closure
 unfoldable pub edgesOf : Layers → ℕ → List ℕ
 edgesOf layers closure = those (isEdge layers closure) 4096
+
+-- how many that are at the most: one for each two of 64 layers
+abbrev pub mostEdges : ℕ
+mostEdges = 2016
 
 -- the pair to be looked at after one, given what its upper layer embeds: those in between have the same upper layer, and none is an edge
 pub record Next (closure embedded edge next : ℕ) : Type 0 where
@@ -39,13 +43,6 @@ pub record Next (closure embedded edge next : ℕ) : Type 0 where
   pub within : next ≤ 4096
   pub same-upper : (k : ℕ) → edge < k → k < next → upperOf k ≡ upperOf edge
   pub no-edge : (k : ℕ) → edge < k → k < next → joins closure embedded (upperOf edge) (lowerOf k) ≡ false
-
-unfoldable pub membersOf : ℕ → List ℕ
-membersOf closure = those (has closure) 64
-
--- the row of a layer that has a decoding time, or the number of rows where there is none
-abbrev pub rowAt : Table → ℕ → ℕ → ℕ
-rowAt t layer time = seek (λ k. eqb (layerOf t k) layer && eqb (decodingOf t k) time) (rowsIn t)
 
 -- The row for the lower layer of an edge, given the time that the upper row asks for: where the layer has its row already, by another
 -- edge, that row must meet this edge too. The number of rows stands for no row.

@@ -1,2 +1,2 @@
 pub mod Assemblies
-pub mod Index
+pub mod Ready

@@ -5,20 +5,19 @@ ghost use Prim.Native.Nat.{_≤_, _<_};
 ghost use lib.ListN.{length};
 ghost use Rattle.combinators.specs.Padding.{padTo};
 ghost use Rattle.rows.specs.Table.{table};
-ghost use Rattle.assembling.specs.Index.{Sorted, Rising, Climbing, Reached, Ready};
-ghost use Rattle.assembling.specs.Assemblies.{upperOf, lowerOf, joins, Next, edgesOf, membersOf, rowAt, pairedRow, noRows, assembled};
+ghost use Rattle.row_index.specs.Index.{Sorted, Rising};
+ghost use Rattle.assembling.specs.Ready.{Ready};
+ghost use Rattle.assembling.specs.Assemblies.{upperOf, lowerOf, joins, Next, edgesOf, mostEdges, pairedRow, noRows, assembled};
 use closure::Layers;
+use row_index::row_at;
+
+// How many edges a closure has at the most: one for each two of 64 layers.
+pub const MOST_EDGES: usize = 2016;
 
 // The edges of a closure, as many as `count`, in `list`.
 pub struct Edges {
     pub count: usize,
-    pub list: [u16; 4096],
-}
-
-// The layers of a closure in rising index, as many as `count`, in `list`.
-pub struct Members {
-    pub count: usize,
-    pub list: [u8; 64],
+    pub list: [u16; MOST_EDGES],
 }
 
 fn upper_of(edge: usize) -> usize
@@ -65,9 +64,9 @@ fn next_edge(closure: u64, embedded: u64, edge: usize) -> usize
 
 // The edges of a closure, those of the highest layer first.
 pub fn edges_of(layers: Layers, closure: u64) -> Edges
-    ensures { λ r. ⌜ r ≡ record { count = length (edgesOf layers closure); list = padTo 4096 0 (edgesOf layers closure) } ⌝ }
+    ensures { λ r. ⌜ r ≡ record { count = length (edgesOf layers closure); list = padTo mostEdges 0 (edgesOf layers closure) } ⌝ }
 {
-    let mut list = [0u16; 4096];
+    let mut list = [0u16; MOST_EDGES];
     let mut count = 0;
     let mut edge = 0;
     while edge < 4096 {
@@ -80,127 +79,6 @@ pub fn edges_of(layers: Layers, closure: u64) -> Edges
         edge = next_edge(closure, embedded, edge);
     }
     Edges { count, list }
-}
-
-// The layers of a closure.
-pub fn members_of(closure: u64) -> Members
-    ensures { λ r. ⌜ r ≡ record { count = length (membersOf closure); list = padTo 64 0 (membersOf closure) } ⌝ }
-{
-    let mut list = [0u8; 64];
-    let mut count = 0;
-    let mut layer = 0;
-    while layer < 64 {
-        if sets::member(closure, layer) {
-            list[count] = layer as u8;
-            count += 1;
-        }
-        layer += 1;
-    }
-    Members { count, list }
-}
-
-// The first place of a layer's rows, from `first` on and before `end`, whose row lies at least `far` ahead of `origin`.
-fn first_as_far(
-    decodings: &[u64],
-    order: &[usize],
-    origin: u64,
-    far: u64,
-    first: usize,
-    end: usize,
-) -> usize
-    requires { ⌜ Climbing (now decodings) (now order) origin first end ⌝ }
-    ensures { λ r. ⌜ Reached (now (decodings .entry)) (now (order .entry)) origin far first end r ⌝ }
-{
-    let mut low = first;
-    let mut high = end;
-    while low < high {
-        let middle = low + (high - low) / 2;
-        if clock::distance(origin, decodings[order[middle]]) < far {
-            low = middle + 1;
-        } else {
-            high = middle;
-        }
-    }
-    low
-}
-
-// The row of a layer that has a decoding time, or the number of rows, by a search in halves: the layer's rows lie farther and farther ahead
-// of its first. The place after the row found is noted as the layer's next.
-fn row_sought(
-    indices: &[u8],
-    decodings: &[u64],
-    starts: &[usize; 65],
-    order: &[usize],
-    layer: usize,
-    time: u64,
-    next: &mut [usize; 64],
-) -> usize
-    requires { ⌜ Sorted (now indices) (now decodings) (now starts) (now order)
-        × (layer < 64)
-        × Rising (table (now indices) (now decodings) []) layer ⌝ }
-    ensures { λ r. ⌜ r ≡ rowAt (table (now (indices .entry)) (now (decodings .entry)) []) layer time ⌝ }
-{
-    let none = indices.len();
-    let first = starts[layer];
-    let end = starts[layer + 1];
-    if end <= first {
-        return none;
-    }
-    let origin = decodings[order[first]];
-    let place = first_as_far(
-        decodings,
-        order,
-        origin,
-        clock::distance(origin, time),
-        first,
-        end,
-    );
-    if end <= place {
-        return none;
-    }
-    let row = order[place];
-    if decodings[row] == time {
-        next[layer] = place + 1;
-        return row;
-    }
-    none
-}
-
-// The place to be looked at first: the one noted, or the layer's first where that is later.
-fn guess_of(first: usize, noted: usize) -> usize
-    ensures { λ r. ⌜ first ≤ r ⌝ }
-{
-    if noted < first {
-        return first;
-    }
-    noted
-}
-
-// The row of a layer that has a decoding time, or the number of rows. Time goes on from unit to unit, so that it is mostly the row after the
-// one found last; only one row of the layer has the time, so that this row is the answer wherever it has.
-pub fn row_at(
-    indices: &[u8],
-    decodings: &[u64],
-    starts: &[usize; 65],
-    order: &[usize],
-    layer: usize,
-    time: u64,
-    next: &mut [usize; 64],
-) -> usize
-    requires { ⌜ Sorted (now indices) (now decodings) (now starts) (now order)
-        × (layer < 64)
-        × Rising (table (now indices) (now decodings) []) layer ⌝ }
-    ensures { λ r. ⌜ r ≡ rowAt (table (now (indices .entry)) (now (decodings .entry)) []) layer time ⌝ }
-{
-    let guess = guess_of(starts[layer], next[layer]);
-    if guess < starts[layer + 1] {
-        let row = order[guess];
-        if decodings[row] == time {
-            next[layer] = guess + 1;
-            return row;
-        }
-    }
-    row_sought(indices, decodings, starts, order, layer, time, next)
 }
 
 // The row for the lower layer of an edge, given the row that the layer has so far, or the number of rows.

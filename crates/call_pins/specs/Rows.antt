@@ -8,12 +8,13 @@ use Rattle.combinators.specs.Padding.{padTo}
 use Rattle.vocabulary.specs.declared.stream_types.Reading.the-variants.{Edition2009, Edition2015}
 use Rattle.vocabulary.specs.declared.refusal.Refusal.the-variants.{NoSuchLayer, EmbeddedLayerAbsent, OutOfRange, TimeOrderBroken, Unpaired, UsedTwice, SpanTooWide, NoRoom}
 use Rattle.closure.specs.declared.Layers.{Layers}
-use Rattle.assembling.specs.Assemblies.{edgesOf, membersOf}
+use Rattle.assembling.specs.Assemblies.{edgesOf}
+use Rattle.sets.specs.Sets.{membersOf}
 use Rattle.rows.specs.Table.{Table, table, mostRows}
-use Rattle.joining.specs.declared.answer.Joined.{Joined}
-use Rattle.joining.specs.declared.answer.Joined.the-variants.{Units, Refused}
+use Rattle.join_answers.specs.declared.answer.Joined.{Joined}
+use Rattle.join_answers.specs.declared.answer.Joined.the-variants.{Units, Refused}
 use Rattle.unit_lists.specs.Sequence.{headsByLayer, Lists, lists}
-use Rattle.joining.specs.Joining.{Room, roomOf, joinedOf, listsAfter}
+use Rattle.join_answers.specs.Joining.{Room, roomOf, joinedOf, listsAfter}
 use Rattle.importing.specs.Importing.{importOf, importedLists}
 use Rattle.call_pins.specs.Loops.{distinct}
 

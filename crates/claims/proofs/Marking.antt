@@ -15,13 +15,12 @@ use Rattle.closure.specs.declared.Layers.{Layers}
 use Rattle.closure.specs.Closures.{namedBy}
 use Rattle.combinators.specs.Below.{some, seek-first}
 use Rattle.combinators.specs.Bools.{both-left, both-right, same-test}
-use Rattle.sets.specs.Sets.{has, lowest}
-use Rattle.sets.proofs.Laws.{has-within, lowest-least}
+use Rattle.sets.specs.Sets.{has, lowest, rest}
+use Rattle.sets.proofs.Laws.{has-none, lowest-member}
+use Rattle.sets.proofs.Members.{has-next, lowest-small, rest-member, rest-within}
 use Rattle.rows.specs.Table.{Table, rowsIn, layerOf, decodingOf, matchOf}
-use Rattle.assembling.specs.Index.{Rising}
-use Rattle.assembling.specs.Assemblies.{rowAt}
+use Rattle.row_index.specs.Index.{Rising, rowAt}
 use Rattle.assembling.proofs.Assembled.{row-only}
-use Rattle.assembling.proofs.Skipping.{later, has-later, passed, beyond}
 use Rattle.claims.specs.Claims.{claimedBy, claimed}
 use Rattle.claims.specs.Marks.{Stands, markedAt, timedIn}
 
@@ -102,113 +101,64 @@ module _ (count row : ℕ) (marks : List Bool) where
       go (yes l) = rw (lt-ltb row count l) (getD-set-other marks row k true false (omega arith))
       go (no l) = rw (le-ltb row count (omega arith))
 
--- ---- layer after layer: those below `layer` are done
+-- ---- layer after layer: what is marked, and what is asked for of the layers that are left
 
-abbrev pub timedBelow : Table → ℕ → ℕ → ℕ → ℕ → Bool
-timedBelow t layers time layer k = ltb (layerOf t k) layer && timedIn t layers time k
-
--- the layer that comes next lies ahead
-pub walk-forward : (layers layer : ℕ) → layer < 64 → (next : ℕ) → next ≡ lowest (later layers layer) → layer < next
-walk-forward layers layer inside next is-next = go (decLt next 64)
-  where
-    go : Dec (next < 64) → layer < next
-    go (yes l) = let b = beyond layers layer (omega arith) in omega arith
-    go (no l) = omega arith
-
-pub record Walked (t : Table) (layers time layer : ℕ) (before marks : List Bool) : Type 0 where
-  pub stands : Stands (rowsIn t) (λ k. getD before k false || timedBelow t layers time layer k) before marks
-  pub member : layer < 64 → has layers layer ≡ true
+pub record Walked (t : Table) (layers time : ℕ) (before : List Bool) (left : ℕ) (marks : List Bool) : Type 0 where
+  pub within : left < 2 ^ 64
+  pub part : (layer : ℕ) → has left layer ≡ true → has layers layer ≡ true
+  pub as-long : length marks ≡ length before
+  pub at : (k : ℕ) → k < rowsIn t → (getD marks k false || timedIn t left time k) ≡ (getD before k false || timedIn t layers time k)
+  pub beyond : (k : ℕ) → rowsIn t ≤ k → getD marks k false ≡ getD before k false
 
 module _ (t : Table) (layers time : ℕ) (before : List Bool) where
-  pub walk-start : (layer : ℕ) → layer ≡ lowest layers → Walked t layers time layer before before
-  unfolding lowest
-  walk-start layer e =
-      record {
-        stands = record { as-long = refl; at = λ k h. sym (none k (has layers (layerOf t k)) refl); beyond = λ k h. refl };
-        member = member-at;
-      }
-    where
-      none : (k : ℕ) (b : Bool) → has layers (layerOf t k) ≡ b → (getD before k false || timedBelow t layers time layer k) ≡ getD before k false
-      none k true m =
-          rw (le-ltb (layerOf t k) layer (let low = lowest-least layers (layerOf t k) m in omega arith)) (or-false (getD before k false))
-      none k false m = rw m (nothing (ltb (layerOf t k) layer) (getD before k false))
-        where
-          nothing : (a b : Bool) → (b || (a && false)) ≡ b
-          nothing true b = or-false b
-          nothing false b = or-false b
+  pub walk-start : layers < 2 ^ 64 → Walked t layers time before layers before
+  walk-start h = record { within = h; part = λ layer e. e; as-long = refl; at = λ k h. refl; beyond = λ k h. refl }
 
-      member-at : layer < 64 → has layers layer ≡ true
-      member-at h = rw e (seek-first (has layers) 64 .found (omega arith))
-
-  module _ (marks : List Bool) (layer row : ℕ) (known : Walked t layers time layer before marks) (fits : rowsIn t ≤ length before) (inside : layer < 64)
-      (rising : Rising t layer) (is-row : row ≡ rowAt t layer time) (next : ℕ) (is-next : next ≡ lowest (later layers layer)) where
-    -- the rows of the layers below the next one: those of the layers below this one, and its own
-    pub walk-next : Walked t layers time next before (markedAt (rowsIn t) row marks)
-    unfolding lowest
-    walk-next =
+  module _ (left : ℕ) (marks : List Bool) (known : Walked t layers time before left marks) where
+    pub walk-end : left ≡ 0 → Stands (rowsIn t) (λ k. getD before k false || timedIn t layers time k) before marks
+    walk-end e =
         record {
-          stands = record {
-            as-long = mark-long (rowsIn t) row marks ∙ known .stands .as-long;
-            at = λ k h.
-                mark-at (rowsIn t) row marks (omega (arith, known .stands .as-long)) k h
-                ∙ ap₂ (λ (a b : Bool). a || b) (known .stands .at k h)
-                (ap (eqb k) is-row ∙ sym (sought-is t layer rising time k h))
-                ∙ joined k (decLt (layerOf t k) layer) (ℕ-discrete (layerOf t k) layer) (decLt (layerOf t k) next);
-            beyond = λ k h. mark-beyond (rowsIn t) row marks k h ∙ known .stands .beyond k h;
-          };
-          member = member-at;
+          as-long = known .as-long;
+          at = λ k h.
+              sym (or-false (getD marks k false))
+              ∙ sym (ap (λ (b : Bool). getD marks k false || (b && eqb (decodingOf t k) time)) (ap (λ (s : ℕ). has s (layerOf t k)) e ∙ has-none (layerOf t k)))
+              ∙ known .at k h;
+          beyond = known .beyond;
         }
-      where
-        joined : (k : ℕ) → Dec (layerOf t k < layer) → Dec (layerOf t k ≡ layer) → Dec (layerOf t k < next)
-            → ((getD before k false || timedBelow t layers time layer k) || (eqb (layerOf t k) layer && eqb (decodingOf t k) time))
-            ≡ (getD before k false || timedBelow t layers time next k)
-        joined k (yes l) d n =
-            rw (lt-ltb (layerOf t k) layer l, lt-ltb (layerOf t k) next (let far = walk-forward layers layer inside next is-next in omega arith), ne-eqb (layerOf t k) layer (omega arith))
-            (or-false (getD before k false || timedIn t layers time k))
-        joined k (no l) (yes e) n =
-            rw (
-              le-ltb (layerOf t k) layer (omega arith),
-              lt-ltb (layerOf t k) next (let far = walk-forward layers layer inside next is-next in omega arith),
-              eq-eqb (layerOf t k) layer e,
-              ap (has layers) e ∙ known .member inside,
-              or-false (getD before k false),
-            )
-        joined k (no l) (no e) (yes n) =
-            rw (
-              le-ltb (layerOf t k) layer (omega arith),
-              lt-ltb (layerOf t k) next n,
-              ne-eqb (layerOf t k) layer e,
-              passed layers layer (layerOf t k) (omega arith) (omega arith),
-            )
-            (or-false (getD before k false || false))
-        joined k (no l) (no e) (no n) =
-            rw (le-ltb (layerOf t k) layer (omega arith), le-ltb (layerOf t k) next (omega arith), ne-eqb (layerOf t k) layer e)
-            (or-false (getD before k false || false))
 
-        member-at : next < 64 → has layers next ≡ true
-        member-at h =
-            rw is-next
-            (both-left (has layers (lowest (later layers layer))) _
-            (sym (has-later layers layer (lowest (later layers layer)))
-            ∙ seek-first (has (later layers layer)) 64 .found (omega arith)))
+    module _ (some : left ≡ 0 → ⊥) (layer : ℕ) (is-lowest : layer ≡ lowest left) where
+      pub walk-layer : layer < 64
+      walk-layer = let h = lowest-small left (known .within) some in omega arith
 
-  -- past the last layer all are done
-  pub walk-end : (marks : List Bool) (layer : ℕ) → Walked t layers time layer before marks → 64 ≤ layer → layers < 2 ^ 64
-      → Stands (rowsIn t) (λ k. getD before k false || timedIn t layers time k) before marks
-  walk-end marks layer known past small =
-      record {
-        as-long = known .stands .as-long;
-        at = λ k h. known .stands .at k h ∙ ap (λ (b : Bool). getD before k false || b) (all k (has layers (layerOf t k)) refl);
-        beyond = known .stands .beyond;
-      }
-    where
-      all : (k : ℕ) (b : Bool) → has layers (layerOf t k) ≡ b → timedBelow t layers time layer k ≡ timedIn t layers time k
-      all k true m = rw (lt-ltb (layerOf t k) layer (let low = has-within 64 small m in omega arith))
-      all k false m = rw m (nothing (ltb (layerOf t k) layer))
+      pub walk-member : has layers layer ≡ true
+      walk-member = known .part layer (ap (has left) is-lowest ∙ lowest-member left (known .within) some)
+
+      -- its row is marked, and the rest is left
+      pub walk-next : rowsIn t ≤ length before → Rising t layer → (row : ℕ) → row ≡ rowAt t layer time
+          → Walked t layers time before (rest left) (markedAt (rowsIn t) row marks)
+      walk-next fits rising row is-row =
+          record {
+            within = rest-within left (known .within);
+            part = λ l m. known .part l (rest-member left l m);
+            as-long = mark-long (rowsIn t) row marks ∙ known .as-long;
+            at = λ k h.
+                ap (λ (b : Bool). b || timedIn t (rest left) time k)
+                (mark-at (rowsIn t) row marks (omega (arith, known .as-long)) k h
+                ∙ ap (λ (b : Bool). getD marks k false || b) (ap (eqb k) is-row ∙ sym (sought-is t layer rising time k h)))
+                ∙ regrouped (getD marks k false) (eqb (layerOf t k) layer) (has (rest left) (layerOf t k)) (eqb (decodingOf t k) time)
+                ∙ ap (λ (b : Bool). getD marks k false || (b && eqb (decodingOf t k) time))
+                (ap (λ (l : ℕ). eqb (layerOf t k) l || has (rest left) (layerOf t k)) is-lowest
+                ∙ sym (has-next left (known .within) some (layerOf t k)))
+                ∙ known .at k h;
+            beyond = λ k h. mark-beyond (rowsIn t) row marks k h ∙ known .beyond k h;
+          }
         where
-          nothing : (a : Bool) → (a && false) ≡ false
-          nothing true = refl
-          nothing false = refl
+          regrouped : (marked here later timed : Bool) → ((marked || (here && timed)) || (later && timed)) ≡ (marked || ((here || later) && timed))
+          regrouped true here later timed = refl
+          regrouped false true later true = refl
+          regrouped false true true false = refl
+          regrouped false true false false = refl
+          regrouped false false later timed = refl
 
 -- ---- row after row, from marks that were cleared: those that a row before row j claims are marked
 

@@ -20,7 +20,7 @@ use Rattle.combinators.specs.Bools.{both-left, both-right, false-unless}
 use Rattle.sets.specs.Sets.{has}
 use Rattle.sets.proofs.Laws.{has-none, has-below}
 use Rattle.rows.specs.Table.{Table, rowsIn, layerOf, decodingOf, matchOf}
-use Rattle.assembling.specs.Index.{Rising}
+use Rattle.row_index.specs.Index.{Rising}
 use Rattle.claims.specs.Claims.{embeds, claimedBy, claimed, isHead, headsOf}
 use Rattle.claims.specs.Marks.{Stands}
 use Rattle.claims.specs.Meaning.{Claims, Claimed, Head, Heads}

@@ -9,7 +9,7 @@ use lib.ListN.{length, getD, set}
 use Rattle.closure.specs.declared.Layers.{Layers}
 use Rattle.sets.specs.Sets.{has}
 use Rattle.rows.specs.Table.{Table, rowsIn, layerOf, decodingOf}
-use Rattle.assembling.specs.Index.{Within, Sorted, Rising}
+use Rattle.row_index.specs.Index.{Within, Sorted, Rising}
 use Rattle.claims.specs.Claims.{embeds}
 
 -- one value for each of the first places, and what stood there before at those beyond them

@@ -9,8 +9,8 @@ ghost use lib.ListN.{length, getD};
 ghost use Rattle.rows.specs.Table.{table};
 ghost use Rattle.claims.specs.Claims.{claimed as claimedOf};
 ghost use Rattle.claims.specs.Marks.{Stands, markedAt, timedIn, Sought, Claimable};
-use assembling::row_at;
 use closure::Layers;
+use row_index::row_at;
 
 // Takes away what stands at the first `count` places.
 pub fn clear(marks: &mut [bool], count: usize)
@@ -51,11 +51,12 @@ fn mark_timed(
         (λ k. getD (now (marks .entry)) k false || timedIn (table (now (indices .entry)) (now (decodings .entry)) []) layers time k)
         (now (marks .entry)) (now (marks .exit)) ⌝ }
 {
-    let mut layer = sets::lowest(layers) as usize;
-    while layer < 64 {
+    let mut left = layers;
+    while left != 0 {
+        let layer = sets::lowest(left) as usize;
         let row = row_at(indices, decodings, starts, order, layer, time, next);
         mark(marks, indices.len(), row);
-        layer = sets::lowest(sets::without(layers, sets::below(layers, layer + 1))) as usize;
+        left = sets::rest(left);
     }
 }
 

@@ -166,3 +166,15 @@ module _ (test : ℕ → Bool) where
 pub count-alike : (test other : ℕ → Bool) (n : ℕ) → ((k : ℕ) → k < n → test k ≡ other k) → count test n ≡ count other n
 count-alike test other zero f = refl
 count-alike test other (suc n) f = rw (count-alike test other n (λ k h. f k (omega arith)), f n (omega arith))
+
+-- a test that passes only where another does counts no more
+pub count-fewer : (test other : ℕ → Bool) (n : ℕ) → ((k : ℕ) → k < n → test k ≡ true → other k ≡ true) → count test n ≤ count other n
+count-fewer test other zero f = omega arith
+count-fewer test other (suc n) f = go (test n) refl (other n) refl (count-fewer test other n (λ k h. f k (omega arith)))
+  where
+    go : (a : Bool) → test n ≡ a → (b : Bool) → other n ≡ b → count test n ≤ count other n
+        → cond a (suc (count test n)) (count test n) ≤ cond b (suc (count other n)) (count other n)
+    go true p true q ih = omega arith
+    go true p false q ih = both-ways (f n (omega arith) p) q
+    go false p true q ih = omega arith
+    go false p false q ih = ih

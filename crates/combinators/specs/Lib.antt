@@ -1,6 +1,7 @@
 pub mod Bools
 pub mod Below
 pub mod Those
+pub mod Each
 pub mod Ascending
 pub mod Lists
 pub mod Members

@@ -45,17 +45,17 @@ use Rattle.closure.specs.declared.Layers.{Layers}
 use Rattle.closure.specs.declared.Closure.the-variants.{Complete}
 use Rattle.closure.specs.Meaning.{RestsOn, Answers as ClosureAnswers}
 use Rattle.loop_layers.specs.Meaning.{LayersOf}
-use Rattle.joining.specs.declared.answer.Joined.{Joined}
-use Rattle.joining.specs.declared.answer.Joined.the-variants.{Units, Refused}
+use Rattle.join_answers.specs.declared.answer.Joined.{Joined}
+use Rattle.join_answers.specs.declared.answer.Joined.the-variants.{Units, Refused}
 use Rattle.rows.specs.Table.{Table, layerOf, mostRows}
 use Rattle.rows.specs.Meaning.{FirstRow, NoRow, InOrder}
 use Rattle.claims.specs.Meaning.{Head}
 use Rattle.spans.specs.Meaning.{SpansTooFar}
 use Rattle.heads.specs.Meaning.{AssemblesOwn, NoAssembly, SharesRow}
 use Rattle.unit_lists.specs.Sequence.{Lists, lists}
-use Rattle.joining.specs.Meaning.{Accepted}
-use Rattle.joining.specs.Meaning as Joining
-use Rattle.joining.proofs.Meant as joining
+use Rattle.join_answers.specs.Meaning.{Accepted}
+use Rattle.join_answers.specs.Meaning as Joining
+use Rattle.join_answers.proofs.Meant as joining
 use Rattle.importing.specs.Meaning as Import
 use Rattle.promised.specs.Calls.{Promised}
 use Rattle.promised.specs.Readers.{LoopGiven, readLoop, loopReadComputed, loop-read, readTimes, times-read}

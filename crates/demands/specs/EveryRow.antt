@@ -16,10 +16,10 @@ use Rattle.heads.specs.Meaning.{SharesRow}
 use Rattle.unit_lists.specs.Sequence.{Lists, unitRows, unitSizes}
 use Rattle.every_row.specs.Statements.{EachOnce, total, TotalOrder, TargetRow}
 use Rattle.every_row.proofs.Order as order
-use Rattle.joining.specs.declared.answer.Joined.the-variants.{Units}
-use Rattle.joining.specs.Joining.{frameOf, joinedOf, roomOf}
-use Rattle.joining.specs.Meaning.{Accepted}
-use Rattle.joining.proofs.EveryRow as shown
+use Rattle.join_answers.specs.declared.answer.Joined.the-variants.{Units}
+use Rattle.join_answers.specs.Joining.{frameOf, joinedOf, roomOf}
+use Rattle.join_answers.specs.Meaning.{Accepted}
+use Rattle.join_answers.proofs.EveryRow as shown
 
 pub record EveryRow : Type 0 where
   -- of an accepted answer, as it is meant

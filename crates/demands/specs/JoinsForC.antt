@@ -11,10 +11,10 @@ use Rattle.buffers.specs.Buffers.{over}
 use Rattle.vocabulary.specs.declared.refusal.Refusal.the-variants.{NoRoom}
 use Rattle.rows.specs.Table.{Table, table, mostRows}
 use Rattle.unit_lists.specs.Sequence.{Lists, lists}
-use Rattle.joining.specs.declared.answer.Joined.{Joined}
-use Rattle.joining.specs.declared.answer.Joined.the-variants as Joined
-use Rattle.joining.specs.Joining.{mostLong, longestTable}
-use Rattle.joining.specs.Steps.{spaces}
+use Rattle.join_answers.specs.declared.answer.Joined.{Joined}
+use Rattle.join_answers.specs.declared.answer.Joined.the-variants as Joined
+use Rattle.join_answers.specs.Joining.{mostLong, longestTable}
+use Rattle.join_answers.specs.Steps.{spaces}
 use Rattle.thoquenry_joins.specs.Joins.{layersGiven}
 use Rattle.thoquenry_joins.proofs.Bounds.{most-short}
 use Rattle.thoquenry_joins.proofs.thq_join.Kinds as join-kinds

@@ -16,10 +16,10 @@ use Rattle.closure.specs.declared.Layers.{Layers}
 use Rattle.es_loop.specs.Reading.{loopRead}
 use Rattle.rows.specs.Table.{Table, mostRows}
 use Rattle.unit_lists.specs.Sequence.{Lists}
-use Rattle.joining.specs.declared.answer.Joined.{Joined}
-use Rattle.joining.specs.declared.answer.Joined.the-variants as Joined
-use Rattle.joining.specs.Joining.{roomOf, joinedOf, listsAfter, mostLong, longestTable}
-use Rattle.joining.specs.Steps.{spaces}
+use Rattle.join_answers.specs.declared.answer.Joined.{Joined}
+use Rattle.join_answers.specs.declared.answer.Joined.the-variants as Joined
+use Rattle.join_answers.specs.Joining.{roomOf, joinedOf, listsAfter, mostLong, longestTable}
+use Rattle.join_answers.specs.Steps.{spaces}
 use Rattle.importing.specs.Importing.{layersRead, importOf}
 use Rattle.c_answers.specs.declared.Asked.{Asked}
 use Rattle.c_answers.specs.Answers.{askedFor}

@@ -7,8 +7,8 @@ use mathlib.Core.List.{List, [], _∷_, _++_}
 use mathlib.Core.Path.{_≡_, refl}
 use lib.IntN.{pos}
 use lib.ListN.{take, drop, replicate}
-use Rattle.sets.specs.Sets.{size}
-use Rattle.assembling.specs.Assemblies.{edgesOf, membersOf}
+use Rattle.sets.specs.Sets.{size, membersOf}
+use Rattle.assembling.specs.Assemblies.{edgesOf}
 use Rattle.rows.specs.Table.{Table, table}
 use Rattle.entry_rows.specs.Rows.{headOf, tailOf, rowTooWide, entryIn}
 use Rattle.c_answers.specs.Answers.{Reply, reply}

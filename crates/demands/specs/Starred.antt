@@ -22,12 +22,13 @@ use Rattle.pes_writer.specs.declared.Written.the-variants as Written
 use Rattle.stamps.specs.declared.Times.{Times}
 use Rattle.pes_reader.specs.Reading.{readOf}
 use Rattle.pes_writer.specs.Writing.{headerOf, writeOf, bufferOf}
-use Rattle.joining.specs.declared.answer.Joined.{Joined}
-use Rattle.joining.specs.declared.answer.Joined.the-variants.{Units, Refused}
+use Rattle.join_answers.specs.declared.answer.Joined.{Joined}
+use Rattle.join_answers.specs.declared.answer.Joined.the-variants.{Units, Refused}
 use Rattle.rows.specs.Table.{Table, table}
-use Rattle.assembling.specs.Assemblies.{edgesOf, membersOf}
+use Rattle.assembling.specs.Assemblies.{edgesOf}
+use Rattle.sets.specs.Sets.{membersOf}
 use Rattle.unit_lists.specs.Sequence.{headsByLayer, Lists, lists}
-use Rattle.joining.specs.Joining.{roomOf}
+use Rattle.join_answers.specs.Joining.{roomOf}
 use Rattle.importing.specs.Importing.{importOf, importedLists}
 
 -- a question and its answer

@@ -20,7 +20,7 @@ use Rattle.closure.specs.Meaning as Target
 use Rattle.loop_layers.specs.Meaning.{LayersOf}
 use Rattle.rows.specs.Table.{Table, mostRows}
 use Rattle.unit_lists.specs.Sequence.{Lists}
-use Rattle.joining.specs.Meaning as Joining
+use Rattle.join_answers.specs.Meaning as Joining
 use Rattle.agreement.specs.Meaning.{Answer, Gives}
 use Rattle.embedding.specs.Before.{MoreThan8, Told, refused, accepted}
 use Rattle.embedding.specs.ReadingBefore as Read

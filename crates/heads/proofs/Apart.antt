@@ -15,10 +15,9 @@ use Rattle.combinators.specs.Bools.{false-unless}
 use Rattle.combinators.specs.Lists.{any, gather, any-which, nth-getD, nth-inside}
 use Rattle.combinators.specs.Members.{member, member-at, member-which}
 use Rattle.combinators.specs.Once.{Once, once-places, once-append, once-count}
-use Rattle.sets.specs.Sets.{has}
+use Rattle.sets.specs.Sets.{has, membersOf}
 use Rattle.rows.specs.Table.{Table, rowsIn, layerOf}
 use Rattle.rows.specs.Meaning.{NoRow}
-use Rattle.assembling.specs.Assemblies.{membersOf}
 use Rattle.assembling.proofs.Own.{rests-further}
 use Rattle.claims.specs.Meaning.{Head}
 use Rattle.heads.specs.Units.{Frame, ownOf, assemblyOf, unitOf}

@@ -13,9 +13,10 @@ use lib.ListN.{length, getD, set, replicate, length-set}
 use lib.Seq.{getD-set-same, getD-set-other}
 use Rattle.closure.specs.declared.Layers.{Layers}
 use Rattle.closure.specs.Meaning.{RestsOn, by}
-use Rattle.assembling.specs.Assemblies.{Assembly, upperOf, lowerOf, rowAt, pairedRow, partner, edgesOf, assembledFrom, assembled}
+use Rattle.row_index.specs.Index.{rowAt}
+use Rattle.assembling.specs.Assemblies.{Assembly, upperOf, lowerOf, pairedRow, partner, edgesOf, assembledFrom, assembled}
 use Rattle.rows.specs.Table.{Table, rowsIn, layerOf, decodingOf, matchOf}
-use Rattle.assembling.specs.Index.{Rising}
+use Rattle.row_index.specs.Index.{Rising}
 use Rattle.assembling.proofs.Assembled.{row-only, Led, all-met, all-own, heads, begin-long, begin-target, begin-other, begin-own, lower-below}
 use Rattle.heads.proofs.Frames.{edge-names, edge-listed, led-edges, row-for-each, rests-below, target-below}
 use Rattle.heads.specs.Orderly.{Orderly}

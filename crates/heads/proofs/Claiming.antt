@@ -16,13 +16,14 @@ use Rattle.combinators.specs.Lists.{any, any-same}
 use Rattle.combinators.specs.Members.{member, member-last}
 use Rattle.combinators.specs.Once.{Small}
 use Rattle.rows.specs.Table.{Table, rowsIn}
+use Rattle.sets.specs.Sets.{membersOf}
 use Rattle.claims.specs.Marks.{Stands}
 use Rattle.heads.specs.declared.Judged.{Judged}
-use Rattle.heads.specs.Units.{Frame, isHead, ownOf, assemblyOf, unitOf, rowsBelow, unpaired, shares, firstUnpaired, firstShared}
+use Rattle.heads.specs.Units.{Frame, frame, isHead, ownOf, assemblyOf, unitOf, rowsBelow, unpaired, shares, firstUnpaired, firstShared}
 use Rattle.heads.specs.Judging.{Placed, Whole, marked, Kept, Judges}
 use Rattle.heads.proofs.Gathers.{gathered-more, gathered-same}
 use Rattle.heads.proofs.Tested.{is-unpaired, no-head}
-use Rattle.heads.proofs.Kept.{unit-small, kept-unit, kept-inside, complete-at, rows-fit}
+use Rattle.heads.proofs.Kept.{unit-length, unit-small, kept-unit, kept-inside, complete-at, rows-fit}
 
 -- ---- the marks: below a limit they stand at the members of a list and nowhere else
 
@@ -120,8 +121,12 @@ module _ (t : Table) (f : Frame) (k units place : ℕ) (used : List Bool) (kept 
             row = λ layer o. (let r = whole .row k layer inside m e o in omega (arith, known .marks .long));
           }
 
-      pub paired-on : (j : ℕ) → j < k + 1 → unpaired t f j ≡ false
+      paired-on : (j : ℕ) → j < k + 1 → unpaired t f j ≡ false
       paired-on = below-more _ _ (known .paired) (is-unpaired t f k m true e)
+
+      -- which sets the layers rest on makes no difference to that
+      pub paired-alone : (j : ℕ) → j < k + 1 → unpaired t (frame (f .closure) (f .claimed) [] (f .edges)) j ≡ false
+      paired-alone = paired-on
 
       -- what the marks say is what the definition asks
       shares-is : any (λ row. getD used row false) (unitOf t f k) ≡ shares t f k
@@ -151,8 +156,11 @@ module _ (t : Table) (f : Frame) (k units place : ℕ) (used : List Bool) (kept 
         pub unit-fits : place + length (unitOf t f k) ≤ rowsIn t
         unit-fits = omega (arith, next-is, rows-fit t f whole (k + 1) (omega arith) paired-on apart-on)
 
-        pub unit-room : place + length (unitOf t f k) ≤ length kept
+        unit-room : place + length (unitOf t f k) ≤ length kept
         unit-room = omega (arith, unit-fits, known .room)
+
+        pub members-room : place + length (membersOf (ownOf t f k)) ≤ length kept
+        members-room = subst (λ (n : ℕ). place + n ≤ length kept) (unit-length t f k) unit-room
 
         laid : (after : List ℕ) → after ≡ sets kept place (unitOf t f k) → take (place + length (unitOf t f k)) after ≡ rowsBelow t f (k + 1)
         laid after is =

@@ -14,14 +14,14 @@ use lib.Seq.{slice, take-take, take-at, drop-at, ext-getD}
 use Rattle.combinators.specs.Lists.{any}
 use Rattle.combinators.specs.Members.{member}
 use Rattle.combinators.specs.Once.{Once, Small, small-append, once-append, once-short}
-use Rattle.sets.specs.Sets.{has, size}
+use Rattle.sets.specs.Sets.{has, size, membersOf}
 use Rattle.rows.specs.Table.{Table, rowsIn, layerOf}
-use Rattle.assembling.specs.Assemblies.{membersOf, noRows}
+use Rattle.assembling.specs.Assemblies.{noRows}
 use Rattle.assembling.proofs.Assembled.{as-long, begin-long}
 use Rattle.heads.specs.Units.{Frame, isHead, ownOf, assemblyOf, unitOf, rowsBelow, unpaired, shares}
 use Rattle.heads.specs.Judging.{Whole, cleared}
 use Rattle.heads.proofs.Gathers.{gathered-more, gathered-same, gathered-rest}
-use Rattle.heads.proofs.Members.{members-ascending, member-members, members-size}
+use Rattle.sets.proofs.Members.{members-ascending, member-members, members-size}
 use Rattle.heads.proofs.Marking.{unit-at, unit-long, cleared-at, length-cleared}
 
 module _ (t : Table) (f : Frame) where

@@ -1,4 +1,3 @@
-pub mod Members
 pub mod Marking
 pub mod Tested
 pub mod Gathers

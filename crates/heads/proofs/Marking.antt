@@ -14,12 +14,11 @@ use lib.ListN.{length, getD, set, length-map, length-set}
 use lib.Seq.{getD-set-same, getD-set-other, sets}
 use Rattle.combinators.specs.Lists.{any}
 use Rattle.combinators.specs.Members.{member}
-use Rattle.sets.specs.Sets.{has, lowest}
+use Rattle.sets.specs.Sets.{has, lowest, rest, membersOf}
 use Rattle.sets.proofs.Laws.{lowest-member}
-use Rattle.assembling.specs.Assemblies.{membersOf}
+use Rattle.sets.proofs.Members.{members-next, members-none, lowest-small, rest-member, rest-past, rest-within}
 use Rattle.heads.specs.Units.{unitFrom}
-use Rattle.heads.specs.Judging.{above, marked, cleared}
-use Rattle.heads.proofs.Members.{members-next, members-none, lowest-small, above-member, above-past, above-within}
+use Rattle.heads.specs.Judging.{marked, cleared}
 
 pub unit-at : (members rows : List ℕ) (p : ℕ) → p < length members → getD (unitFrom members rows) p 0 ≡ getD rows (getD members p 0) 0
 unit-at [] rows p h = absurd (omega arith)
@@ -35,14 +34,14 @@ none-left : (rows : List ℕ) (left : ℕ) → left ≡ 0 → unitFrom (membersO
 none-left rows left e = ap (λ (s : ℕ). unitFrom (membersOf s) rows) e ∙ ap (λ (l : List ℕ). unitFrom l rows) members-none
 
 module _ (left layer : ℕ) (is-lowest : layer ≡ lowest left) (within : left < 2 ^ 64) (some : left ≡ 0 → ⊥) where
-  members-taken : membersOf left ≡ layer ∷ membersOf (above left layer)
-  members-taken = members-next left within some ∙ ap (λ (l : ℕ). l ∷ membersOf (above left l)) (sym is-lowest)
+  members-taken : membersOf left ≡ layer ∷ membersOf (rest left)
+  members-taken = members-next left within some ∙ ap (λ (l : ℕ). l ∷ membersOf (rest left)) (sym is-lowest)
 
-  fewer-left : length (membersOf left) ≡ suc (length (membersOf (above left layer)))
+  fewer-left : length (membersOf left) ≡ suc (length (membersOf (rest left)))
   fewer-left = ap length members-taken
 
   -- the measure of a walk
-  pub less-left : (next : ℕ) → next ≡ above left layer → length (membersOf next) < length (membersOf left)
+  pub less-left : (next : ℕ) → next ≡ rest left → length (membersOf next) < length (membersOf left)
   less-left next e = let same = ap (λ (s : ℕ). length (membersOf s)) e in omega (arith, fewer-left)
 
   pub is-left : has left layer ≡ true
@@ -51,7 +50,7 @@ module _ (left layer : ℕ) (is-lowest : layer ≡ lowest left) (within : left <
   pub small-layer : layer < 64
   small-layer = omega (arith, lowest-small left within some)
 
-  rows-taken : (rows : List ℕ) → unitFrom (membersOf left) rows ≡ getD rows layer 0 ∷ unitFrom (membersOf (above left layer)) rows
+  rows-taken : (rows : List ℕ) → unitFrom (membersOf left) rows ≡ getD rows layer 0 ∷ unitFrom (membersOf (rest left)) rows
   rows-taken rows = ap (λ (l : List ℕ). unitFrom l rows) members-taken
 
 -- ---- whether one is marked
@@ -76,19 +75,19 @@ module _ (rows : List ℕ) (own : ℕ) (used : List Bool) where
       pub here-looked : has own layer ≡ true
       here-looked = known .part layer (is-left left layer is-lowest (known .within) some)
 
-      tested : any isUsed (unitFrom (membersOf own) rows) ≡ (getD used (getD rows layer 0) false || any isUsed (unitFrom (membersOf (above left layer)) rows))
+      tested : any isUsed (unitFrom (membersOf own) rows) ≡ (getD used (getD rows layer 0) false || any isUsed (unitFrom (membersOf (rest left)) rows))
       tested = sym (known .same) ∙ ap (any isUsed) (rows-taken left layer is-lowest (known .within) some rows)
 
       pub used-here : getD used (getD rows layer 0) false ≡ true → true ≡ any isUsed (unitFrom (membersOf own) rows)
-      used-here e = sym (tested ∙ ap (λ (b : Bool). b || any isUsed (unitFrom (membersOf (above left layer)) rows)) e)
+      used-here e = sym (tested ∙ ap (λ (b : Bool). b || any isUsed (unitFrom (membersOf (rest left)) rows)) e)
 
-      pub unused-here : getD used (getD rows layer 0) false ≡ false → (next : ℕ) → next ≡ above left layer → Looking next
+      pub unused-here : getD used (getD rows layer 0) false ≡ false → (next : ℕ) → next ≡ rest left → Looking next
       unused-here e next is-next =
           rw is-next
           (record {
-            within = above-within left (known .within) some layer;
-            part = λ l m. known .part l (above-member left layer l m);
-            same = sym (tested ∙ ap (λ (b : Bool). b || any isUsed (unitFrom (membersOf (above left layer)) rows)) e);
+            within = rest-within left (known .within);
+            part = λ l m. known .part l (rest-member left l m);
+            same = sym (tested ∙ ap (λ (b : Bool). b || any isUsed (unitFrom (membersOf (rest left)) rows)) e);
           })
 
 -- ---- marked and kept, and taken out again
@@ -130,34 +129,34 @@ module _ (none : ℕ) (rows₀ : List ℕ) (own place : ℕ) (used₀ : List Boo
       pub place-inside : at < place + length (membersOf own)
       place-inside = omega (arith, known .end, fewer-left left layer is-lowest (known .within) some)
 
-      pub keeping-more : (next : ℕ) → next ≡ above left layer
+      pub keeping-more : (next : ℕ) → next ≡ rest left
           → Keeping (set rows layer none) (set used (getD rows layer 0) true) (set kept at (getD rows layer 0)) next (at + 1)
       keeping-more next is-next =
           subst (λ (row : ℕ). Keeping (set rows layer none) (set used row true) (set kept at row) next (at + 1)) (sym row-before)
           (subst (λ (s : ℕ). Keeping (set rows layer none) (set used (getD rows₀ layer 0) true) (set kept at (getD rows₀ layer 0)) s (at + 1)) (sym is-next)
           kept-here)
         where
-          taken : membersOf left ≡ layer ∷ membersOf (above left layer)
+          taken : membersOf left ≡ layer ∷ membersOf (rest left)
           taken = members-taken left layer is-lowest (known .within) some
 
-          rows-here : unitFrom (membersOf left) rows₀ ≡ getD rows₀ layer 0 ∷ unitFrom (membersOf (above left layer)) rows₀
+          rows-here : unitFrom (membersOf left) rows₀ ≡ getD rows₀ layer 0 ∷ unitFrom (membersOf (rest left)) rows₀
           rows-here = rows-taken left layer is-lowest (known .within) some rows₀
 
-          kept-here : Keeping (set rows layer none) (set used (getD rows₀ layer 0) true) (set kept at (getD rows₀ layer 0)) (above left layer) (at + 1)
+          kept-here : Keeping (set rows layer none) (set used (getD rows₀ layer 0) true) (set kept at (getD rows₀ layer 0)) (rest left) (at + 1)
           kept-here =
               record {
-                within = above-within left (known .within) some layer;
-                part = λ l m. known .part l (above-member left layer l m);
+                within = rest-within left (known .within);
+                part = λ l m. known .part l (rest-member left l m);
                 long-used = length-set used (getD rows₀ layer 0) true ∙ known .long-used;
                 long-kept = length-set kept at (getD rows₀ layer 0) ∙ known .long-kept;
                 end = omega (arith, known .end, fewer-left left layer is-lowest (known .within) some);
                 as-before = λ l m.
-                    getD-set-other rows layer l none 0 (λ e. (let rise = above-past left layer l m in omega arith))
-                    ∙ known .as-before l (above-member left layer l m);
+                    getD-set-other rows layer l none 0 (λ e. (let rise = rest-past left l m in omega arith))
+                    ∙ known .as-before l (rest-member left l m);
                 blank = sym (ap (λ (l : List ℕ). cleared none l rows) taken) ∙ known .blank;
                 marks = sym (ap (λ (l : List ℕ). marked l used) rows-here) ∙ known .marks;
                 content =
-                    ap (λ (n : ℕ). sets (set kept at (getD rows₀ layer 0)) n (unitFrom (membersOf (above left layer)) rows₀)) (add-one at)
+                    ap (λ (n : ℕ). sets (set kept at (getD rows₀ layer 0)) n (unitFrom (membersOf (rest left)) rows₀)) (add-one at)
                     ∙ sym (ap (sets kept at) rows-here)
                     ∙ known .content;
               }

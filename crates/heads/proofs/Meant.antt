@@ -22,11 +22,11 @@ use Rattle.combinators.specs.Bools.{both-left, both-right}
 use Rattle.combinators.specs.Lists.{any, Nth, any-true, any-which, nth-getD, getD-nth, nth-inside, getD-map}
 use Rattle.combinators.specs.Members.{member, member-at, member-which}
 use Rattle.combinators.specs.Those.{those-at, those-which}
-use Rattle.sets.specs.Sets.{has}
+use Rattle.sets.specs.Sets.{has, membersOf}
 use Rattle.rows.specs.Table.{Table, rowsIn, layerOf, decodingOf}
 use Rattle.rows.specs.Meaning.{FirstRow, NoRow}
 use Rattle.rows.proofs.FirstRows.{found, none, is-first, is-none}
-use Rattle.assembling.specs.Assemblies.{Assembly, edgesOf, membersOf, assembled}
+use Rattle.assembling.specs.Assemblies.{Assembly, edgesOf, assembled}
 use Rattle.claims.specs.Meaning.{Head}
 use Rattle.claims.specs.Claims as claims
 use Rattle.claims.proofs.Meant as claims-meant

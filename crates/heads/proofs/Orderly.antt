@@ -20,7 +20,8 @@ use Rattle.sets.specs.Sets.{has}
 use Rattle.clock.specs.Clock.{ticks}
 use Rattle.rows.specs.Table.{Table, rowsIn, layerOf, decodingOf, matchOf, outOfRange, breaksOrder}
 use Rattle.rows.specs.Meaning.{InOrder}
-use Rattle.assembling.specs.Index.{Starts, Order, Rising, Ready}
+use Rattle.row_index.specs.Index.{Starts, Order, Rising}
+use Rattle.assembling.specs.Ready.{Ready}
 use Rattle.assembling.specs.Assemblies.{lowerOf, edgesOf}
 use Rattle.heads.specs.Orderly.{Closed, Orderly}
 use Rattle.heads.proofs.Frames.{edge-names}

@@ -7,14 +7,10 @@ use mathlib.Core.Path.{_≡_}
 use lib.ListN.{length, getD, set}
 use lib.Seq.{slice}
 use Rattle.combinators.specs.Once.{Once, Small}
-use Rattle.sets.specs.Sets.{has, without, below}
+use Rattle.sets.specs.Sets.{has}
 use Rattle.rows.specs.Table.{Table, rowsIn}
 use Rattle.heads.specs.declared.Judged.{Judged}
 use Rattle.heads.specs.Units.{Frame, isHead, ownOf, assemblyOf, unitOf, firstUnpaired, firstShared, unitsIn}
-
--- the members of a set above a number
-abbrev pub above : ℕ → ℕ → ℕ
-above s layer = without s (below s (layer + 1))
 
 -- a row number for each member of a set, below a bound
 pub record Placed (own : ℕ) (rows : List ℕ) (bound : ℕ) : Type 0 where

@@ -10,7 +10,7 @@ use Rattle.closure.specs.Meaning.{WholeClosure}
 use Rattle.sets.specs.Sets.{has}
 use Rattle.rows.specs.Table.{Table, rowsIn, breaksOrder}
 use Rattle.assembling.specs.Assemblies.{edgesOf}
-use Rattle.assembling.specs.Index.{Within}
+use Rattle.row_index.specs.Index.{Within}
 use Rattle.claims.specs.Claims.{claimed}
 use Rattle.heads.specs.Units.{Frame}
 

@@ -10,9 +10,9 @@ use Rattle.combinators.specs.Below.{seek, count}
 use Rattle.combinators.specs.Lists.{any, gather}
 use Rattle.combinators.specs.Members.{member}
 use Rattle.combinators.specs.Those.{those}
-use Rattle.sets.specs.Sets.{has}
+use Rattle.sets.specs.Sets.{has, membersOf}
 use Rattle.rows.specs.Table.{Table, rowsIn, layerOf, decodingOf}
-use Rattle.assembling.specs.Assemblies.{Assembly, membersOf, assembled}
+use Rattle.assembling.specs.Assemblies.{Assembly, assembled}
 
 -- what units are made over: the layers of the closure as a set, a mark for each row that is claimed, for each layer of the closure the set of the layers that
 -- it rests on, itself included, and the edges of the closure

@@ -7,12 +7,11 @@ ghost use Prim.Native.Nat.{ℕ, _+_, _≤_, _<_};
 ghost use lib.ListN.{length, getD};
 ghost use lib.Seq.{sets as laid};
 ghost use Rattle.combinators.specs.Lists.{any};
-ghost use Rattle.sets.specs.Sets.{lowest};
+ghost use Rattle.sets.specs.Sets.{membersOf};
 ghost use Rattle.rows.specs.Table.{table};
-ghost use Rattle.assembling.specs.Index.{Ready};
-ghost use Rattle.assembling.specs.Assemblies.{membersOf};
+ghost use Rattle.assembling.specs.Ready.{Ready};
 ghost use Rattle.heads.specs.Units.{frame, unitFrom, unpaired as isUnpaired, firstUnpaired};
-ghost use Rattle.heads.specs.Judging.{above, Placed, Whole, cleared, marked, Judges};
+ghost use Rattle.heads.specs.Judging.{Placed, Whole, cleared, marked, Judges};
 use assembling::assemble;
 
 // What was found of the heads: the first with no assembly and the first that shares a row with one before it, each the number of rows where there is none;
@@ -21,14 +20,6 @@ pub struct Judged {
     pub unpaired: usize,
     pub shared: usize,
     pub units: usize,
-}
-
-// The members of a set above its lowest, which is `layer`: so a set is walked in rising order.
-fn rest_of(set: u64, layer: usize) -> u64
-    requires { ⌜ layer < 64 ⌝ }
-    ensures { λ r. ⌜ r ≡ above set layer ⌝ }
-{
-    sets::without(set, sets::below(set, layer + 1))
 }
 
 // Whether a row of the unit is marked as used.
@@ -42,7 +33,7 @@ fn any_used(rows: &[usize; 64], own: u64, used: &[bool]) -> bool
         if used[rows[layer]] {
             return true;
         }
-        left = rest_of(left, layer);
+        left = sets::rest(left);
     }
     false
 }
@@ -71,7 +62,7 @@ fn keep(
         used[row] = true;
         kept[at] = row;
         at += 1;
-        left = rest_of(left, layer);
+        left = sets::rest(left);
     }
 }
 

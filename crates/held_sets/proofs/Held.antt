@@ -27,7 +27,7 @@ use Rattle.entry_rows.specs.Rows.{rowCount, rowAt, rowTooWide, someTooWide, row
 use Rattle.entry_rows.proofs.Laws.{row-length, rows-length, no-record-entry, hierarchy-entry, extension-entry, implied-entry}
 use Rattle.entry_rows.proofs.Given.{entry-at, row-fine}
 use Rattle.entry_rows.proofs.Judged.{length-entries, kind-fine}
-use Rattle.kept_closures.proofs.Worked.{each-only, each-at, length-each}
+use Rattle.combinators.specs.Each.{each-only, each-at, length-each}
 use Rattle.loop_layers.specs.Meaning.{LayerAt, LayerOf}
 use Rattle.layer_set.specs.declared.«set».LayerSet.{LayerSet}
 use Rattle.layer_set.specs.Sets.{storedIn, noEntry, entryAt, setOf, placedOf}

@@ -7,11 +7,12 @@ use lib.IntN.{pos}
 use Rattle.vocabulary.specs.declared.stream_types.Reading.the-variants.{Edition2009, Edition2015}
 use Rattle.vocabulary.specs.declared.refusal.Refusal.the-variants.{DoesNotFit, NoSuchLayer, OutOfRange, TimeOrderBroken, Unpaired, UsedTwice, SpanTooWide, NoRoom}
 use Rattle.es_loop.specs.Examples.{loopA}
-use Rattle.joining.specs.declared.answer.Joined.the-variants.{Units, Refused}
+use Rattle.join_answers.specs.declared.answer.Joined.the-variants.{Units, Refused}
 use Rattle.rows.specs.Table.{Table, table}
-use Rattle.assembling.specs.Assemblies.{edgesOf, membersOf}
+use Rattle.assembling.specs.Assemblies.{edgesOf}
+use Rattle.sets.specs.Sets.{membersOf}
 use Rattle.unit_lists.specs.Sequence.{headsByLayer, lists}
-use Rattle.joining.specs.Joining.{Room}
+use Rattle.join_answers.specs.Joining.{Room}
 use Rattle.importing.specs.Importing.{importOf, importedLists}
 
 abbrev room : ℕ → ℕ → ℕ → Room

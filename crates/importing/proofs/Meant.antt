@@ -16,11 +16,11 @@ use Rattle.closure.specs.declared.Layers.{Layers}
 use Rattle.loop_layers.specs.Layers.{layersOf}
 use Rattle.loop_layers.specs.Meaning.{LayersOf}
 use Rattle.loop_layers.proofs.Meant.{layers-meant, layers-only, entries-read}
-use Rattle.joining.specs.declared.answer.Joined.{Joined}
+use Rattle.join_answers.specs.declared.answer.Joined.{Joined}
 use Rattle.rows.specs.Table.{Table, mostRows}
 use Rattle.unit_lists.specs.Sequence.{Lists}
-use Rattle.joining.specs.Joining.{roomOf, joinedOf, listsAfter}
-use Rattle.joining.proofs.Meant.{joined-meant, joined-only}
+use Rattle.join_answers.specs.Joining.{roomOf, joinedOf, listsAfter}
+use Rattle.join_answers.proofs.Meant.{joined-meant, joined-only}
 use Rattle.importing.specs.Importing.{layersRead, importIn, importOf, importedLists}
 use Rattle.importing.specs.Meaning.{Answers, loop-refused, loop-accepted}
 

@@ -12,11 +12,11 @@ use Rattle.es_loop.specs.Reading.{loopRead}
 use Rattle.closure.specs.declared.Layers.{Layers}
 use Rattle.loop_layers.specs.Layers.{layersOf}
 use Rattle.loop_layers.specs.Closures.{entriesRead}
-use Rattle.joining.specs.declared.answer.Joined.{Joined}
-use Rattle.joining.specs.declared.answer.Joined.the-variants.{Refused}
+use Rattle.join_answers.specs.declared.answer.Joined.{Joined}
+use Rattle.join_answers.specs.declared.answer.Joined.the-variants.{Refused}
 use Rattle.rows.specs.Table.{Table, mostRows}
 use Rattle.unit_lists.specs.Sequence.{Lists}
-use Rattle.joining.specs.Joining.{Room, joinedOf, listsAfter}
+use Rattle.join_answers.specs.Joining.{Room, joinedOf, listsAfter}
 
 -- the layers of the entries that were read
 abbrev pub layersRead : LoopRead → Layers

@@ -12,11 +12,11 @@ use Rattle.es_loop.specs.Reading.{refusedWith, accepted}
 use Rattle.es_loop.specs.Meaning as Loop
 use Rattle.closure.specs.declared.Layers.{Layers}
 use Rattle.loop_layers.specs.Meaning.{LayersOf}
-use Rattle.joining.specs.declared.answer.Joined.{Joined}
-use Rattle.joining.specs.declared.answer.Joined.the-variants.{Refused}
+use Rattle.join_answers.specs.declared.answer.Joined.{Joined}
+use Rattle.join_answers.specs.declared.answer.Joined.the-variants.{Refused}
 use Rattle.rows.specs.Table.{Table, mostRows}
 use Rattle.unit_lists.specs.Sequence.{Lists}
-use Rattle.joining.specs.Meaning as Joining
+use Rattle.join_answers.specs.Meaning as Joining
 
 -- THE ANSWER to the bytes of a loop, a target, a row table and three lists, with what the lists hold after it: 'the answer is the closure with
 -- the answer of joining, or the refusal with its place'.

@@ -4,7 +4,7 @@
 ghost use mathlib.Core.Path.{_≡_};
 ghost use Rattle.rows.specs.Table.{table};
 ghost use Rattle.unit_lists.specs.Sequence.{lists};
-ghost use Rattle.joining.specs.Joining.{roomOf};
+ghost use Rattle.join_answers.specs.Joining.{roomOf};
 ghost use Rattle.importing.specs.Importing.{importOf, importedLists};
 use es_loop::Outcome;
 use joining::Joined;

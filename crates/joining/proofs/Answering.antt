@@ -11,12 +11,14 @@ use lib.ListN.{length, take, replicate, length-append}
 use lib.Seq.{getD-take, take-append-seam, ext-getD, length-take-le}
 use Rattle.closure.specs.declared.Layers.{Layers}
 use Rattle.combinators.specs.Below.{seek-first}
+use Rattle.combinators.specs.Each.{eachBelow, length-each, each-at}
 use Rattle.combinators.specs.Bools.{neither-left, neither-right}
 use Rattle.combinators.specs.Padding.{padTo}
 use Rattle.rows.specs.Table.{Table, rowsIn}
 use Rattle.vocabulary.specs.declared.refusal.Refusal.the-variants.{Unpaired, UsedTwice, SpanTooWide, NoRoom}
 use Rattle.assembling.specs.Assemblies.{edgesOf}
-use Rattle.assembling.specs.Index.{Starts, Order, Ready}
+use Rattle.row_index.specs.Index.{Starts, Order}
+use Rattle.assembling.specs.Ready.{Ready}
 use Rattle.claims.specs.Claims.{claimed}
 use Rattle.claims.specs.Marks.{Stands}
 use Rattle.spans.specs.Spans.{wideSpan}
@@ -27,12 +29,12 @@ use Rattle.heads.specs.Orderly.{Orderly, Framed}
 use Rattle.heads.proofs.Orderly.{ready}
 use Rattle.heads.proofs.Wholeness.{frame-whole}
 use Rattle.unit_lists.specs.Sequence.{Lists}
-use Rattle.joining.specs.declared.answer.Joined.{Joined}
-use Rattle.joining.specs.declared.answer.Joined.the-variants.{Units, Refused}
-use Rattle.joining.specs.Joining.{tabulated, ownSet, frameOf, closureRows, Room, tooSmall, unitsJoined, tableJoined, listsAfter}
-use Rattle.joining.specs.Steps.{Joinable, framedLists}
-use Rattle.joining.proofs.Framing.{tabulated-long, tabulated-at, framed}
-use Rattle.joining.proofs.Cases.{is-unpaired, is-shared, is-wide, is-no-room, are-units, IsOver, units-over, refused, is-over}
+use Rattle.join_answers.specs.declared.answer.Joined.{Joined}
+use Rattle.join_answers.specs.declared.answer.Joined.the-variants.{Units, Refused}
+use Rattle.join_answers.specs.Joining.{ownSet, frameOf, closureRows, Room, tooSmall, unitsJoined, tableJoined, listsAfter}
+use Rattle.join_answers.specs.Steps.{Joinable, framedLists}
+use Rattle.join_answers.proofs.Framing.{framed}
+use Rattle.join_answers.proofs.Cases.{is-unpaired, is-shared, is-wide, is-no-room, are-units, IsOver, units-over, refused, is-over}
 
 -- ---- what a joinable frame has
 
@@ -114,16 +116,16 @@ part-held rows marks fits = omega (arith, length-take-le rows marks fits)
 
 -- the marks of the rows alone
 pub marks-are : (layers : Layers) (closure : ℕ) (t : Table) (before marks : List Bool) → Stands (rowsIn t) (claimed layers closure t) before marks
-    → rowsIn t ≤ length marks → take (rowsIn t) marks ≡ tabulated (claimed layers closure t) (rowsIn t)
+    → rowsIn t ≤ length marks → take (rowsIn t) marks ≡ eachBelow (claimed layers closure t) (rowsIn t)
 marks-are layers closure t before marks stands fits =
-    ext-getD false (take (rowsIn t) marks) (tabulated (claimed layers closure t) (rowsIn t))
-    (length-take-le (rowsIn t) marks fits ∙ sym (tabulated-long (claimed layers closure t) (rowsIn t)))
+    ext-getD false (take (rowsIn t) marks) (eachBelow (claimed layers closure t) (rowsIn t))
+    (length-take-le (rowsIn t) marks fits ∙ sym (length-each (claimed layers closure t) (rowsIn t)))
     (λ k h. (let l : k < rowsIn t = omega (arith, length-take-le (rowsIn t) marks fits) in
-    getD-take (rowsIn t) marks k false l ∙ stands .at k l ∙ sym (tabulated-at (claimed layers closure t) false (rowsIn t) k l)))
+    getD-take (rowsIn t) marks k false l ∙ stands .at k l ∙ sym (each-at (claimed layers closure t) (rowsIn t) k false l)))
 
 -- and all of it together is the frame of the closure over the table
-pub frame-is : (layers : Layers) (closure : ℕ) (t : Table) (marks : List Bool) (own edges : List ℕ) → marks ≡ tabulated (claimed layers closure t) (rowsIn t)
-    → own ≡ tabulated (ownSet layers closure) 64 → edges ≡ edgesOf layers closure → frame closure marks own edges ≡ frameOf layers closure t
+pub frame-is : (layers : Layers) (closure : ℕ) (t : Table) (marks : List Bool) (own edges : List ℕ) → marks ≡ eachBelow (claimed layers closure t) (rowsIn t)
+    → own ≡ eachBelow (ownSet layers closure) 64 → edges ≡ edgesOf layers closure → frame closure marks own edges ≡ frameOf layers closure t
 frame-is layers closure t marks own edges p q r = rw (p, q, r)
 
 pub joinable : (layers : Layers) (target closure : ℕ) (t : Table) → Orderly layers target closure t → (f : Frame) → f ≡ frameOf layers closure t → Joinable closure t f

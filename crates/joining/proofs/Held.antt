@@ -6,8 +6,8 @@ use mathlib.Core.Path.{_≡_}
 use native.Mathlib.Nat.{not-suc-le-zero}
 use native.Mathlib.Omega.{arith}
 use lib.ListN.{length, getD}
-use Rattle.joining.specs.Joining.{mostLong}
-use Rattle.joining.specs.Steps.{spaces, Holds}
+use Rattle.join_answers.specs.Joining.{mostLong}
+use Rattle.join_answers.specs.Steps.{spaces, Holds}
 
 -- the least is at most any of them
 held-at : (l : List ℕ) (i : ℕ) → i < length l → mostLong l ≤ getD l i 0

@@ -3,36 +3,26 @@ ghost use mathlib.Core.Path.{_≡_};
 ghost use Prim.Native.Nat.{ℕ};
 ghost use lib.ListN.{length};
 ghost use Rattle.rows.specs.Table.{table, mostRows};
-ghost use Rattle.assembling.specs.Index.{Starts, Order};
+ghost use Rattle.row_index.specs.Index.{Starts, Order};
 ghost use Rattle.heads.specs.Units.{frame};
 ghost use Rattle.heads.specs.Orderly.{Closed, Orderly};
 ghost use Rattle.unit_lists.specs.Sequence.{lists};
-ghost use Rattle.joining.specs.Joining.{frameOf, unitsJoined, tableJoined, joinedOf, roomOf, listsAfter, mostLong};
-ghost use Rattle.joining.specs.Steps.{spaces, Holds, Joinable, framedLists};
-use super::frame::own_sets;
-use super::room::closure_rows;
-use super::room::most_long;
-use super::room::too_small;
+ghost use Rattle.join_answers.specs.Joining.{frameOf, unitsJoined, tableJoined, joinedOf, roomOf, listsAfter, mostLong};
+ghost use Rattle.join_answers.specs.Steps.{spaces, Holds, Joinable, framedLists};
 use assembling::edges_of;
-use assembling::lay_order;
-use assembling::starts_of;
 use closure::Closure;
 use closure::Layers;
+use join_answers::Joined;
+use join_answers::closure_rows;
+use join_answers::most_long;
+use join_answers::own_sets;
+use join_answers::too_small;
+use row_index::lay_order;
+use row_index::starts_of;
 use rows::MOST_ROWS;
 use rows::Verdict;
 use unit_lists::write_units;
 use vocabulary::Refusal;
-
-// The answer of joining: the set of the closure's layer indices, the number of units, and how many closure rows the table has, which is how many places of the
-// lists the units fill; or why there is none.
-pub enum Joined {
-    Units {
-        closure: u64,
-        units: usize,
-        rows: usize,
-    },
-    Refused(Refusal),
-}
 
 // The units over a frame: 15, 16, 18 and 17, and then the lists. What the work space holds afterwards says nothing.
 fn join_framed(
@@ -92,7 +82,7 @@ fn join_framed(
     if spans::measure(closure, indices, decodings, keys) {
         return Joined::Refused(Refusal::SpanTooWide);
     }
-    let rows = closure_rows(closure, indices);
+    let rows = closure_rows(closure, indices, starts);
     if too_small(rows, numbers.len(), lags.len(), sizes.len()) {
         return Joined::Refused(Refusal::NoRoom);
     }

@@ -1,11 +1,9 @@
-// Rows of components joined to units, as document 01 has it under 'Rows and units' and document 02 under W-204: the layers of a loop, a target and a table of rows
-// give the units of all rows that no other row claims, or the refusal (11 to 18) with its place.
+// Rows of components joined to units: the layers of a loop, a target and a table of rows give the answer of the crate `join_answers`, 11 to 18 or the units, and the
+// three lists that hold them. In two steps, the closure of the target and the table over it.
 mod answer;
-mod frame;
-mod room;
 
-pub use answer::Joined;
 pub use answer::join;
 pub use answer::join_long;
 pub use answer::join_table;
-pub use room::LONGEST_TABLE;
+pub use join_answers::Joined;
+pub use join_answers::LONGEST_TABLE;

@@ -25,13 +25,13 @@ use Rattle.kept_closures.proofs.Resting.{rests-then, First, none, named
 -- ---- what is put together
 
 module _ (kept : List ℕ) (names m : ℕ) where
-  abbrev closureAt : ℕ → ℕ
+  abbrev pub closureAt : ℕ → ℕ
   closureAt j = getD kept j 0
 
-  abbrev gives : ℕ → Bool
+  abbrev pub gives : ℕ → Bool
   gives j = has names j && (has (closureAt j) m || eqb m j)
 
-  united-has : (n : ℕ) → has (united kept names n) m ≡ some gives n
+  pub united-has : (n : ℕ) → has (united kept names n) m ≡ some gives n
   united-has zero = has-none m
   united-has (suc j) = go (has names j) (united-has j)
     where

@@ -1,5 +1,6 @@
 pub mod Resting
 pub mod Fresh
+pub mod Putting
 pub mod Steps
 pub mod Less
 pub mod Worked

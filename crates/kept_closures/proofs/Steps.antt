@@ -1,4 +1,4 @@
--- The steps of the functions: a closure put together index by index, and what is kept while a layer comes.
+-- The steps of the functions: what is kept while a layer comes.
 -- Assumes nothing.
 use Prim.Native.Nat.{ℕ, zero, suc, _+_, _-_, _*_, _%_, _^_, _<_, _≤_}
 use mathlib.Core.Bool.{Bool, true, false, not, cond, _||_}
@@ -19,50 +19,6 @@ use Rattle.closure.specs.Closures.{isLayer, restedOn}
 use Rattle.kept_closures.specs.Kept.{Columns, columns, freshOf, lacksOne, storedAt, FreshAt, Places, Kept, withLayer, withNamed, united, closureOver, grownAt, stepsFrom, columnsAdded}
 use Rattle.kept_closures.proofs.Resting.{is-there}
 use Rattle.kept_closures.proofs.Fresh.{fresh-same, fresh-more, fresh-own, rested-own, same-absent, not-above}
-
--- ---- a closure put together
-
-pub named-in : (closure names j resting : ℕ) → j < 64 → has names j ≡ true
-    → joined closure (joined resting (1 * 2 ^ j % 2 ^ 64)) ≡ withNamed closure names j resting
-named-in closure names j resting h e =
-    ap (λ (s : ℕ). joined closure (joined resting s)) (one-shifted 64 j h)
-    ∙ ap (λ (b : Bool). cond b (joined closure (joined resting (only j))) closure) (sym e)
-
-pub named-out : (closure names j resting : ℕ) → has names j ≡ false → closure ≡ withNamed closure names j resting
-named-out closure names j resting e = ap (λ (b : Bool). cond b (joined closure (joined resting (only j))) closure) (sym e)
-
-joined-assoc : (s t u : ℕ) → joined (joined s t) u ≡ joined s (joined t u)
-joined-assoc s t u = same-members (joined (joined s t) u) (joined s (joined t u)) each
-  where
-    or-assoc : (a b c : Bool) → (a || b) || c ≡ a || (b || c)
-    or-assoc true b c = refl
-    or-assoc false b c = refl
-
-    each : (i : ℕ) → has (joined (joined s t) u) i ≡ has (joined s (joined t u)) i
-    each i =
-        has-joined (joined s t) u i
-        ∙ ap (λ (b : Bool). b || has u i) (has-joined s t i)
-        ∙ or-assoc (has s i) (has t i) (has u i)
-        ∙ sym (has-joined s (joined t u) i ∙ ap (λ (b : Bool). has s i || b) (has-joined t u i))
-
-pub over-start : (closures : List ℕ) (i names : ℕ) → i < 64 → 1 * 2 ^ i % 2 ^ 64 ≡ joined (only i) (united closures names 0)
-over-start closures i names h = one-shifted 64 i h ∙ same-members (only i) (joined (only i) 0) (λ m. sym (has-joined (only i) 0 m ∙ nothing (has (only i) m) (has 0 m) (has-none m)))
-  where
-    nothing : (a b : Bool) → b ≡ false → a || b ≡ a
-    nothing true b e = refl
-    nothing false b e = e
-
-pub over-next : (closures : List ℕ) (i names j closure : ℕ) → closure ≡ joined (only i) (united closures names j)
-    → withNamed closure names j (getD closures j 0) ≡ joined (only i) (united closures names (j + 1))
-over-next closures i names j closure e =
-    ap (λ (s : ℕ). withNamed s names j (getD closures j 0)) e
-    ∙ go (has names j)
-    ∙ ap (λ (n : ℕ). joined (only i) (united closures names n)) (let s : suc j ≡ j + 1 = omega arith in s)
-  where
-    go : (b : Bool) → cond b (joined (joined (only i) (united closures names j)) (joined (getD closures j 0) (only j))) (joined (only i) (united closures names j))
-        ≡ joined (only i) (cond b (joined (united closures names j) (joined (getD closures j 0) (only j))) (united closures names j))
-    go true = joined-assoc (only i) (united closures names j) (joined (getD closures j 0) (only j))
-    go false = refl
 
 -- ---- what is kept
 

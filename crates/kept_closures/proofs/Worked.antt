@@ -1,46 +1,25 @@
 -- What is worked out afresh meets the invariant, and nothing else does: two sets of columns that meet it are the same. And how it is worked out, the lower indices
 -- first.
 -- Assumes nothing.
-use Prim.Native.Nat.{ℕ, zero, suc, _+_, _<_, _≤_}
+use Prim.Native.Nat.{ℕ, _+_, _<_, _≤_}
 use mathlib.Core.Bool.{Bool, true, false, not, cond, _&&_}
-use mathlib.Core.List.{List, [], _∷_, _++_}
+use mathlib.Core.List.{List}
 use mathlib.Core.Path.{_≡_, refl, sym, ap, ap₂, _∙_, subst}
 use native.Mathlib.Decide.{ℕ-discrete}
 use native.Mathlib.Omega.{arith}
 use borrow.Author.Tests.{lt-ltb}
 use lib.Dec.{eqb, ltb}
-use lib.ListN.{length, getD, replicate, length-append, getD-replicate, List·getD-append}
-use lib.Seq.{ext-getD, getD-at}
+use lib.ListN.{length, getD, set, replicate, length-set, getD-replicate}
+use lib.Seq.{getD-set-same, getD-set-other}
 use Rattle.combinators.specs.Bools.{both-ways}
+use Rattle.combinators.specs.Each.{eachBelow, length-each, each-at, each-only}
 use Rattle.sets.specs.Sets.{has, without, size}
 use Rattle.sets.proofs.Laws.{has-none, has-without, same-members}
 use Rattle.closure.specs.declared.Layers.{Layers}
 use Rattle.closure.specs.Closures.{isLayer, restedOn}
-use Rattle.kept_closures.specs.Kept.{Columns, columns, layersBy, freshOf, lacksOne, storedAt, FreshAt, Places, Kept, closureOver, stepsFrom, eachBelow, freshColumns, workedBy, noColumns}
+use Rattle.kept_closures.specs.Kept.{Columns, columns, layersBy, freshOf, lacksOne, storedAt, FreshAt, Places, Kept, closureOver, stepsFrom, freshColumns, workedBy, noColumns}
 use Rattle.kept_closures.proofs.Fresh.{put-together}
 use Rattle.kept_closures.proofs.Steps.{Halfway, by-storing, by-leaving, all-stepped}
-
--- ---- a list by its places
-
-module _ {A : Type 0} (f : ℕ → A) where
-  pub length-each : (n : ℕ) → length (eachBelow f n) ≡ n
-  length-each zero = refl
-  length-each (suc n) = length-append (eachBelow f n) (f n ∷ []) ∙ ap (λ (k : ℕ). k + 1) (length-each n) ∙ (let s : n + 1 ≡ suc n = omega arith in s)
-
-  pub each-at : (n i : ℕ) (d : A) → i < n → getD (eachBelow f n) i d ≡ f i
-  each-at zero i d h = absurd (omega arith)
-  each-at (suc n) i d h = go (each-at n i d) (ℕ-discrete i n)
-    where
-      go : (i < n → getD (eachBelow f n) i d ≡ f i) → Dec (i ≡ n) → getD (eachBelow f n ++ f n ∷ []) i d ≡ f i
-      go lower (yes e) = ap (λ (k : ℕ). getD (eachBelow f n ++ f n ∷ []) k d) e ∙ getD-at (eachBelow f n) (f n) [] d n (length-each n) ∙ ap f (sym e)
-      go lower (no e) =
-          let inside : i < n = omega arith in
-          List·getD-append (eachBelow f n) (f n ∷ []) d i (rw (length-each n) inside) ∙ lower inside
-
-  pub each-only : (l : List A) (n : ℕ) (d : A) → length l ≡ n → ((i : ℕ) → i < n → getD l i d ≡ f i) → l ≡ eachBelow f n
-  each-only l n d long at =
-      ext-getD d l (eachBelow f n) (long ∙ sym (length-each n))
-      (λ i h. let inside : i < n = rw long at h in at i inside ∙ sym (each-at n i d inside))
 
 -- ---- the invariant, met by what is worked out afresh and by nothing else
 
@@ -129,3 +108,42 @@ module _ (layers : Layers) where
 
   pub worked-out : stepsFrom (workedBy (layers .present) (layers .embedded)) 0 64 noColumns ≡ freshColumns layers
   worked-out = kept-only layers (stepsFrom step 0 64 noColumns) (all-stepped noLayer layers step 0 64 noColumns refl next at-start)
+
+-- ---- the closures alone, index by index
+
+pub record Worked (layers : Layers) (closures : List ℕ) (index : ℕ) : Type 0 where
+  pub long : length closures ≡ 64
+  pub done : (j : ℕ) → j < index → getD closures j 0 ≡ freshOf layers j
+
+module _ (layers : Layers) where
+  pub each-start : Worked layers (replicate 64 0) 0
+  each-start = record { long = refl; done = λ j h. absurd (omega arith) }
+
+  pub each-next : (closures : List ℕ) (index closure : ℕ) → index < 64 → Worked layers closures index
+      → closure ≡ cond (has (layers .present) index) (closureOver closures index (getD (layers .embedded) index 0)) 0
+      → Worked layers (set closures index closure) (index + 1)
+  each-next closures index closure small known e =
+      record {
+        long = length-set closures index closure ∙ known .long;
+        done = λ j h. go j h (ℕ-discrete j index);
+      }
+    where
+      layer-here : isLayer layers index ≡ has (layers .present) index
+      layer-here = ap (λ (b : Bool). b && has (layers .present) index) (lt-ltb index 64 small)
+
+      here : (b : Bool) → has (layers .present) index ≡ b → cond b (closureOver closures index (getD (layers .embedded) index 0)) 0 ≡ cond b (restedOn layers index) 0
+      here true m = put-together layers closures index (layer-here ∙ m) (known .done)
+      here false m = refl
+
+      go : (j : ℕ) → j < index + 1 → Dec (j ≡ index) → getD (set closures index closure) j 0 ≡ freshOf layers j
+      go j h (yes p) =
+          ap (λ (k : ℕ). getD (set closures index closure) k 0) p
+          ∙ getD-set-same closures index closure 0 (omega (arith, known .long))
+          ∙ e
+          ∙ here (has (layers .present) index) refl
+          ∙ ap (λ (b : Bool). cond b (restedOn layers index) 0) (sym layer-here)
+          ∙ ap (freshOf layers) (sym p)
+      go j h (no p) = getD-set-other closures index j closure 0 p ∙ known .done j (omega arith)
+
+  pub each-end : (closures : List ℕ) (index : ℕ) → 64 ≤ index → Worked layers closures index → closures ≡ eachBelow (freshOf layers) 64
+  each-end closures index past known = each-only (freshOf layers) closures 64 0 (known .long) (λ j h. known .done j (omega arith))

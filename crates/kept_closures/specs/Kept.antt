@@ -4,10 +4,11 @@
 -- Assumes nothing.
 use Prim.Native.Nat.{ℕ, zero, suc, _+_, _-_, _<_}
 use mathlib.Core.Bool.{Bool, false, not, cond, _&&_}
-use mathlib.Core.List.{List, [], _∷_, _++_}
+use mathlib.Core.List.{List}
 use mathlib.Core.Path.{_≡_}
 use lib.Dec.{eqb, ltb}
 use lib.ListN.{length, getD, set, replicate}
+use Rattle.combinators.specs.Each.{eachBelow}
 use Rattle.sets.specs.Sets.{has, joined, only, added, without, size, lowest}
 use Rattle.closure.specs.declared.Layers.{Layers}
 use Rattle.vocabulary.specs.declared.refusal.Refusal.the-variants.{NoSuchLayer, EmbeddedLayerAbsent}
@@ -116,10 +117,6 @@ columnsRemoved present embedded i kept =
     shrunkAbove left i (set embedded i 0) (storedAt left 0 i kept)
 
 -- ALL OF IT, WORKED OUT AFRESH: by index what each layer rests on, how many that are, and whether one is absent; and nothing where there is no layer
-abbrev pub eachBelow : {A : Type 0} → (ℕ → A) → ℕ → List A
-eachBelow f zero = []
-eachBelow f (suc n) = eachBelow f n ++ f n ∷ []
-
 unfoldable pub freshColumns : Layers → Columns
 freshColumns layers =
     columns

@@ -1,10 +1,12 @@
 // What each layer rests on, kept with it while layers come and go, so that the answer to any target is at hand: nothing is worked out afresh but what a
 // change can have changed.
+ghost use mathlib.Core.Bool.{cond};
 ghost use mathlib.Core.Path.{_≡_};
 ghost use Prim.Native.Nat.{_<_};
 ghost use lib.ListN.{set};
-ghost use Rattle.sets.specs.Sets.{added, without, only};
-ghost use Rattle.kept_closures.specs.Kept.{layersBy, columns, storedAt, withNamed, closureOver, grownAt, grownAbove, shrunkAt, shrunkAbove, workedAt, columnsAdded, columnsRemoved, freshColumns, answerKept};
+ghost use Rattle.combinators.specs.Each.{eachBelow};
+ghost use Rattle.sets.specs.Sets.{has, added, without, only};
+ghost use Rattle.kept_closures.specs.Kept.{layersBy, freshOf, columns, storedAt, closureOver, grownAt, grownAbove, shrunkAt, shrunkAbove, workedAt, columnsAdded, columnsRemoved, freshColumns, answerKept};
 use closure::Closure;
 use vocabulary::LayerIndex;
 use vocabulary::Refusal;
@@ -27,27 +29,17 @@ fn keep(
     absents[index] = sets::without(closure, present) != 0;
 }
 
-// A closure with a lower index and what that rests on, if the index is named.
-fn with_named(closure: u64, names: u64, lower: usize, resting: u64) -> u64
-    requires { ⌜ lower < 64 ⌝ }
-    ensures { λ r. ⌜ r ≡ withNamed closure names lower resting ⌝ }
-{
-    if sets::member(names, lower) {
-        return closure | (resting | (1 << lower));
-    }
-    closure
-}
-
 // The closure of a layer that names these, from what is kept of the layers below it.
 fn closure_over(closures: &[u64; 64], index: usize, names: u64) -> u64
     requires { ⌜ index < 64 ⌝ }
     ensures { λ r. ⌜ r ≡ closureOver (now (closures .entry)) index names ⌝ }
 {
     let mut closure: u64 = 1 << index;
-    let mut lower = 0;
-    while lower < index {
-        closure = with_named(closure, names, lower, closures[lower]);
-        lower += 1;
+    let mut left = sets::below(names, index);
+    while left != 0 {
+        let lower = sets::lowest(left) as usize;
+        closure |= closures[lower] | (1 << lower);
+        left = sets::rest(left);
     }
     closure
 }
@@ -223,6 +215,31 @@ pub fn work_out(
         work_out_at(present, index, embedded[index], closures, sizes, absents);
         index += 1;
     }
+}
+
+// The closure of a layer put together, or nothing where there is no layer of the index.
+fn closure_at(present: u64, closures: &[u64; 64], index: usize, names: u64) -> u64
+    requires { ⌜ index < 64 ⌝ }
+    ensures { λ r. ⌜ r ≡ cond (has present index) (closureOver (now (closures .entry)) index names) 0 ⌝ }
+{
+    if !sets::member(present, index) {
+        return 0;
+    }
+    closure_over(closures, index, names)
+}
+
+// The closures alone, of all layers at once: by index what each rests on, and nothing where there is no layer.
+pub fn every_closure(present: u64, embedded: &[u64; 64]) -> [u64; 64]
+    ensures { λ r. ⌜ r ≡ eachBelow (freshOf (layersBy present (now (embedded .entry)))) 64 ⌝ }
+{
+    let mut closures = [0u64; 64];
+    let mut index = 0;
+    while index < 64 {
+        let closure = closure_at(present, &closures, index, embedded[index]);
+        closures[index] = closure;
+        index += 1;
+    }
+    closures
 }
 
 // THE ANSWER TO A TARGET from what is kept, with nothing to be walked: the closure, or 11, or 12 with the lowest missing index.

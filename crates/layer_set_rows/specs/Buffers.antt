@@ -13,7 +13,8 @@ use Rattle.implied.specs.Rule.{given}
 use Rattle.judging.specs.Judging.{typeNotAllowed, wrongFlags, wrongEmbedded}
 use Rattle.es_loop.specs.declared.entries.Entry.{Entry}
 use Rattle.es_loop.specs.Conditions.{slotOf}
-use Rattle.kept_closures.specs.Kept.{Columns, eachBelow}
+use Rattle.combinators.specs.Each.{eachBelow}
+use Rattle.kept_closures.specs.Kept.{Columns}
 use Rattle.entry_rows.specs.Rows.{rowAt, someTooWide, rowOf, entryIn, entriesBelow}
 use Rattle.layer_set.specs.declared.«set».LayerSet.{LayerSet}
 use Rattle.layer_set.specs.declared.«set».Placed.{Placed}

@@ -11,9 +11,9 @@ use Rattle.closure.specs.declared.Layers.{Layers}
 use Rattle.loop_layers.specs.Meaning.{LayersOf}
 use Rattle.rows.specs.Table.{Table}
 use Rattle.rows.specs.Meaning.{InOrder}
-use Rattle.joining.specs.declared.answer.Joined.{Joined}
+use Rattle.join_answers.specs.declared.answer.Joined.{Joined}
 use Rattle.unit_lists.specs.Sequence.{Lists}
-use Rattle.joining.specs.Meaning as Joining
+use Rattle.join_answers.specs.Meaning as Joining
 use Rattle.importing.specs.Meaning as Import
 use Rattle.other_layers.specs.Meaning.{DifferOutside, SameJoining, SameImport}
 use Rattle.other_layers.proofs.Rows.{Same, number-back, flip, same, shape, breaks-first, none-breaks, spans, head-row}

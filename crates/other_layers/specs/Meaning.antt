@@ -18,9 +18,9 @@ use Rattle.loop_layers.specs.Meaning.{LayersOf}
 use Rattle.rows.specs.Table.{Table, rowsIn, layerOf, decodingOf, matchOf}
 use Rattle.rows.specs.Meaning.{NoRow, RowOutOfRange}
 use Rattle.spans.specs.Meaning.{ClosureRow}
-use Rattle.joining.specs.declared.answer.Joined.{Joined}
+use Rattle.join_answers.specs.declared.answer.Joined.{Joined}
 use Rattle.unit_lists.specs.Sequence.{Lists}
-use Rattle.joining.specs.Meaning as Joining
+use Rattle.join_answers.specs.Meaning as Joining
 use Rattle.importing.specs.Meaning as Import
 
 -- 'the same number of rows', in each column

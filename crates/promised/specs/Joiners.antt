@@ -13,21 +13,21 @@ use Rattle.vocabulary.specs.Refusals.{numberOf}
 use Rattle.vocabulary.specs.declared.stream_types.Reading.{Reading}
 use Rattle.closure.specs.declared.Layers.{Layers}
 use Rattle.heads.specs.Orderly.{Closed}
-use Rattle.joining.specs.declared.answer.Joined.{Joined}
-use Rattle.joining.specs.declared.answer.Joined.the-variants as Joined
+use Rattle.join_answers.specs.declared.answer.Joined.{Joined}
+use Rattle.join_answers.specs.declared.answer.Joined.the-variants as Joined
 use Rattle.rows.specs.Table.{Table, table, mostRows}
 use Rattle.unit_lists.specs.Sequence.{Lists, lists}
-use Rattle.joining.specs.Joining.{frameOf, roomOf, tableJoined, joinedOf, listsAfter, mostLong}
-use Rattle.joining.specs.Steps.{spaces, Holds, framedLists}
+use Rattle.join_answers.specs.Joining.{frameOf, roomOf, tableJoined, joinedOf, listsAfter, mostLong}
+use Rattle.join_answers.specs.Steps.{spaces, Holds, framedLists}
 use Rattle.joining.proofs.join_table.Kinds as join-table-kinds
 use Rattle.joining.proofs.join_table.Reads as join-table
 use Rattle.joining.proofs.join_long.Kinds as join-long-kinds
 use Rattle.joining.proofs.join_long.Reads as join-long
 use Rattle.joining.proofs.join.Kinds as join-kinds
 use Rattle.joining.proofs.join.Reads as join
-use Rattle.joining.specs.Meaning as Joining
-use Rattle.joining.proofs.Cases.{IsOver, units-over, refused, is-over}
-use Rattle.joining.proofs.Meant as joining
+use Rattle.join_answers.specs.Meaning as Joining
+use Rattle.join_answers.proofs.Cases.{IsOver, units-over, refused, is-over}
+use Rattle.join_answers.proofs.Meant as joining
 use Rattle.importing.specs.Importing.{importOf, importedLists}
 use Rattle.importing.proofs.import.Kinds as import-kinds
 use Rattle.importing.proofs.import.Reads as import-reads

@@ -3,9 +3,11 @@
 -- Assumes nothing.
 use Prim.Native.Nat.{ℕ, _/_, _%_, _^_}
 use mathlib.Core.Bool.{Bool, cond}
+use mathlib.Core.List.{List}
 use lib.Bits.{bitAnd, bitOr, bitXor}
 use lib.Dec.{eqb, ltb}
 use Rattle.combinators.specs.Below.{seek, count}
+use Rattle.combinators.specs.Those.{those}
 
 -- whether i is a member: bit i is 1
 abbrev pub has : ℕ → ℕ → Bool
@@ -38,3 +40,11 @@ lowest s = seek (has s) 64
 -- the number of members below 64
 unfoldable pub size : ℕ → ℕ
 size s = count (has s) 64
+
+-- the members but the lowest
+abbrev pub rest : ℕ → ℕ
+rest s = without s (only (lowest s))
+
+-- the members below 64 in rising order
+unfoldable pub membersOf : ℕ → List ℕ
+membersOf s = those (has s) 64

@@ -1,7 +1,7 @@
 // Sets of numbers below 64, such as layer indices, each held in one u64: i is a member when bit i is 1.
 // specs/Sets.antt says what each function answers, proofs/Laws.antt what that means.
 ghost use mathlib.Core.Path.{_≡_};
-ghost use Rattle.sets.specs.Sets.{has, added, without as withoutOf, below as belowOf, lowest as lowestOf, size as sizeOf};
+ghost use Rattle.sets.specs.Sets.{has, added, without as withoutOf, below as belowOf, lowest as lowestOf, rest as restOf, size as sizeOf};
 
 // Whether `index` is a member; no index above 63 is.
 pub fn member(set: u64, index: usize) -> bool
@@ -45,6 +45,16 @@ pub fn lowest(set: u64) -> u8
     ensures { λ r. ⌜ r ≡ lowestOf set ⌝ }
 {
     u64::trailing_zeros(set) as u8
+}
+
+// The members but the lowest: a set is walked in rising order by its lowest member and what is then left.
+pub fn rest(set: u64) -> u64
+    ensures { λ r. ⌜ r ≡ restOf set ⌝ }
+{
+    if set == 0 {
+        return 0;
+    }
+    set & (set - 1)
 }
 
 // The number of members.

@@ -27,7 +27,7 @@ use Rattle.closure.specs.declared.Closure.{Closure}
 use Rattle.loop_layers.specs.Closures.{tableIn, closureIn, loopClosure}
 use Rattle.listing.specs.Lines.{answerText, loopText}
 use Rattle.rows.specs.Table.{Table}
-use Rattle.joining.specs.Joining.{Room}
+use Rattle.join_answers.specs.Joining.{Room}
 use Rattle.importing.specs.Importing.{importIn, importOf}
 
 -- the descriptors but those of tag 49

@@ -15,16 +15,16 @@ use Rattle.combinators.specs.Bools.{false-unless, either-which}
 use Rattle.combinators.specs.Members.{member}
 use Rattle.combinators.specs.Once.{Once, once-short, Small}
 use Rattle.combinators.specs.Padding.{padTo}
-use Rattle.sets.specs.Sets.{has, joined, only, added, without}
+use Rattle.sets.specs.Sets.{has, joined, only, added, without, membersOf}
 use Rattle.sets.proofs.Laws.{has-none, has-joined, has-only, has-without, has-below, has-within, below-within, without-within, same-members}
 use Rattle.closure.specs.declared.Layers.{Layers}
 use Rattle.closure.specs.Closures.{isLayer, namedBy, named}
 use Rattle.closure.proofs.Scan.{is-layer}
 use Rattle.stream_lists.specs.declared.ListBuilt.{ListBuilt}
 use Rattle.stream_lists.specs.Insertion.{placed}
-use Rattle.stream_lists.specs.Lists.{referred, prepends, asked, setOf, inOrder, referring, noLayer, streamList, builtFrom, listBuilt}
+use Rattle.stream_lists.specs.Lists.{referred, prepends, asked, setOf, referring, noLayer, streamList, builtFrom, listBuilt}
 use Rattle.stream_lists.specs.Holding.{Ready}
-use Rattle.stream_lists.proofs.Ordered.{member-order, order-once}
+use Rattle.sets.proofs.Members.{member-members, members-once}
 use Rattle.stream_lists.proofs.Placed.{member-placed, placed-once, small-members, members-small}
 
 -- ---- the set of a list
@@ -34,12 +34,12 @@ has-set j [] = has-none j
 has-set j (x ∷ list) = has-joined (only x) (setOf list) j ∙ ap₂ (λ (a b : Bool). a || b) (has-only x j) (has-set j list)
 
 -- with an index, and what goes before it
-pub set-placed : (x new : ℕ) (list : List ℕ) → x < 64 → new < 2 ^ 64 → setOf (placed x (inOrder new) list) ≡ added (joined (setOf list) new) x
+pub set-placed : (x new : ℕ) (list : List ℕ) → x < 64 → new < 2 ^ 64 → setOf (placed x (membersOf new) list) ≡ added (joined (setOf list) new) x
 set-placed x new list small within =
-    same-members (setOf (placed x (inOrder new) list)) (added (joined (setOf list) new) x)
-    (λ j. has-set j (placed x (inOrder new) list)
-    ∙ member-placed j x (inOrder new) list
-    ∙ ap (λ (b : Bool). member j list || (b || eqb j x)) (member-order new within j)
+    same-members (setOf (placed x (membersOf new) list)) (added (joined (setOf list) new) x)
+    (λ j. has-set j (placed x (membersOf new) list)
+    ∙ member-placed j x (membersOf new) list
+    ∙ ap (λ (b : Bool). member j list || (b || eqb j x)) (member-members new within j)
     ∙ sym (or-assoc (member j list) (has new j) (eqb j x))
     ∙ sym (ap (λ (b : Bool). has (cond b (joined (joined (setOf list) new) (only x)) (joined (setOf list) new)) j) (lt-ltb x 64 small)
     ∙ has-joined (joined (setOf list) new) (only x) j
@@ -120,24 +120,24 @@ module _ (layers : Layers) where
       has-fresh j =
           has-without (asked layers reference) (setOf list) j ∙ ap (λ (b : Bool). has (asked layers reference) j && not b) (has-set j list)
 
-      present-not-fresh : (j : ℕ) → member j list ≡ true → member j (inOrder (without (asked layers reference) (setOf list))) ≡ false
+      present-not-fresh : (j : ℕ) → member j list ≡ true → member j (membersOf (without (asked layers reference) (setOf list))) ≡ false
       present-not-fresh j m =
-          member-order (without (asked layers reference) (setOf list)) fresh-within j ∙ has-fresh j
+          member-members (without (asked layers reference) (setOf list)) fresh-within j ∙ has-fresh j
           ∙ ap (λ (b : Bool). has (asked layers reference) j && not b) m ∙ never (has (asked layers reference) j)
         where
           never : (b : Bool) → b && false ≡ false
           never true = refl
           never false = refl
 
-      itself-not-fresh : member (referred reference) (inOrder (without (asked layers reference) (setOf list))) ≡ false
+      itself-not-fresh : member (referred reference) (membersOf (without (asked layers reference) (setOf list))) ≡ false
       itself-not-fresh =
-          member-order (without (asked layers reference) (setOf list)) fresh-within (referred reference) ∙ has-fresh (referred reference)
+          member-members (without (asked layers reference) (setOf list)) fresh-within (referred reference) ∙ has-fresh (referred reference)
           ∙ ap (λ (b : Bool). b && not (member (referred reference) list)) asked-lower
 
       pub referring-once : Once (referring layers list reference)
       referring-once =
-          placed-once (referred reference) (inOrder (without (asked layers reference) (setOf list))) list once
-          (order-once (without (asked layers reference) (setOf list)) fresh-within) present-not-fresh itself-not-fresh
+          placed-once (referred reference) (membersOf (without (asked layers reference) (setOf list))) list once
+          (members-once (without (asked layers reference) (setOf list)) fresh-within) present-not-fresh itself-not-fresh
 
       pub referring-small : Small 64 (referring layers list reference)
       referring-small =
@@ -145,11 +145,11 @@ module _ (layers : Layers) where
           (λ j m. which j (either-which (member j list) (member j new || eqb j (referred reference)) (sym (member-placed j (referred reference) new list) ∙ m)))
         where
           new : List ℕ
-          new = inOrder (without (asked layers reference) (setOf list))
+          new = membersOf (without (asked layers reference) (setOf list))
 
           last : (j : ℕ) → mathlib.Core.Logic._⊎_ (member j new ≡ true) (eqb j (referred reference) ≡ true) → j < 64
           last j (mathlib.Core.Logic.inl m) =
-              has-within 64 fresh-within (sym (member-order (without (asked layers reference) (setOf list)) fresh-within j) ∙ m)
+              has-within 64 fresh-within (sym (member-members (without (asked layers reference) (setOf list)) fresh-within j) ∙ m)
           last j (mathlib.Core.Logic.inr e) = subst (λ (k : ℕ). k < 64) (sym (eqb-true j (referred reference) e)) referred-small
 
           which : (j : ℕ) → mathlib.Core.Logic._⊎_ (member j list ≡ true) (member j new || eqb j (referred reference) ≡ true) → j < 64
@@ -203,9 +203,9 @@ module _ (layers : Layers) where
           }
         where
           same-list : (reference new : ℕ) → new ≡ without (asked layers reference) present
-              → placed (reference % 64) (inOrder new) (take count members) ≡ referring layers (known .list) reference
+              → placed (reference % 64) (membersOf new) (take count members) ≡ referring layers (known .list) reference
           same-list reference new e =
-              ap₂ (λ (n : ℕ) (l : List ℕ). placed (reference % 64) (inOrder n) l)
+              ap₂ (λ (n : ℕ) (l : List ℕ). placed (reference % 64) (membersOf n) l)
               (e ∙ ap (without (asked layers reference)) (known .set)) front
 
       module _ (inside : at < length references) where
@@ -223,15 +223,15 @@ module _ (layers : Layers) where
         -- one reference more
         pub building-more : (new count′ present′ : ℕ) (members′ : List ℕ) → noLayer layers (getD references at 0) ≡ false
             → new ≡ without (asked layers (getD references at 0)) present
-            → count′ ≡ length (placed (getD references at 0 % 64) (inOrder new) (take count members))
-            → members′ ≡ padTo 64 0 (placed (getD references at 0 % 64) (inOrder new) (take count members))
+            → count′ ≡ length (placed (getD references at 0 % 64) (membersOf new) (take count members))
+            → members′ ≡ padTo 64 0 (placed (getD references at 0 % 64) (membersOf new) (take count members))
             → present′ ≡ added (joined present new) (getD references at 0 % 64)
             → Building members′ count′ present′ (at + 1)
         building-more new count′ present′ members′ clear e counted filled set =
             let reference = getD references at 0 in
             let same-new : new ≡ without (asked layers reference) (setOf (known .list)) = e ∙ ap (without (asked layers reference)) (known .set) in
-            let same : placed (reference % 64) (inOrder new) (take count members) ≡ referring layers (known .list) reference =
-            ap₂ (λ (n : ℕ) (l : List ℕ). placed (reference % 64) (inOrder n) l) same-new front in
+            let same : placed (reference % 64) (membersOf new) (take count members) ≡ referring layers (known .list) reference =
+            ap₂ (λ (n : ℕ) (l : List ℕ). placed (reference % 64) (membersOf n) l) same-new front in
             record {
               list = referring layers (known .list) reference;
               once = referring-once reference (known .list) (known .once) (known .small);

@@ -8,13 +8,13 @@ use native.Mathlib.Omega.{arith}
 use lib.Dec.{eqb}
 use lib.ListN.{length, getD}
 use Rattle.combinators.specs.Lists.{any}
-use Rattle.sets.specs.Sets.{has, without, below, lowest}
-use Rattle.sets.proofs.Laws.{has-none, has-without, same-members, without-within}
+use Rattle.sets.specs.Sets.{has, without, lowest, rest, membersOf}
+use Rattle.sets.proofs.Laws.{has-none, has-without, same-members}
 use Rattle.closure.specs.declared.Layers.{Layers}
 use Rattle.closure.specs.Closures.{namedBy}
 use Rattle.closure.proofs.Scan.{above-63}
-use Rattle.stream_lists.specs.Lists.{inOrder, escapes, isClosed}
-use Rattle.stream_lists.proofs.Ordered.{order-next, order-none}
+use Rattle.stream_lists.specs.Lists.{escapes, isClosed}
+use Rattle.sets.proofs.Members.{members-next, members-none, rest-within}
 use Rattle.stream_lists.proofs.Building.{named-small}
 
 without-none : (set : ℕ) → without 0 set ≡ 0
@@ -36,36 +36,36 @@ module _ (layers : Layers) (set : ℕ) where
   -- all members
   pub record Looking (left : ℕ) : Type 0 where
     pub within : left < 2 ^ 64
-    pub same : any (escapes layers set) (inOrder left) ≡ any (escapes layers set) (inOrder set)
+    pub same : any (escapes layers set) (membersOf left) ≡ any (escapes layers set) (membersOf set)
 
   pub looking-start : set < 2 ^ 64 → Looking set
   looking-start w = record { within = w; same = refl }
 
   module _ (left : ℕ) (known : Looking left) where
     pub looking-end : left ≡ 0 → true ≡ isClosed layers set
-    looking-end e = ap not (sym (ap (any (escapes layers set)) (ap inOrder e ∙ order-none)) ∙ known .same)
+    looking-end e = ap not (sym (ap (any (escapes layers set)) (ap membersOf e ∙ members-none)) ∙ known .same)
 
     module _ (more : left ≡ 0 → ⊥) (index : ℕ) (e : index ≡ lowest left) where
-      next : inOrder left ≡ index ∷ inOrder (without left (below left (index + 1)))
+      next : membersOf left ≡ index ∷ membersOf (rest left)
       next =
-          order-next left (known .within) more
-          ∙ ap (λ (k : ℕ). k ∷ inOrder (without left (below left (k + 1)))) (sym e)
+          members-next left (known .within) more
+          ∙ ap (λ (k : ℕ). k ∷ membersOf (rest left)) (sym e)
 
-      pub looking-less : length (inOrder (without left (below left (index + 1)))) < length (inOrder left)
+      pub looking-less : length (membersOf (rest left)) < length (membersOf left)
       looking-less = omega (arith, ap length next)
 
       pub looking-escaped : escapes layers set index ≡ true → false ≡ isClosed layers set
       looking-escaped f =
           ap not
-          (sym (ap (λ (b : Bool). b || any (escapes layers set) (inOrder (without left (below left (index + 1))))) f)
+          (sym (ap (λ (b : Bool). b || any (escapes layers set) (membersOf (rest left))) f)
           ∙ sym (ap (any (escapes layers set)) next)
           ∙ known .same)
 
-      pub looking-more : escapes layers set index ≡ false → Looking (without left (below left (index + 1)))
+      pub looking-more : escapes layers set index ≡ false → Looking (rest left)
       looking-more f =
           record {
-            within = without-within 64 left (below left (index + 1)) (known .within);
-            same = sym (ap (λ (b : Bool). b || any (escapes layers set) (inOrder (without left (below left (index + 1))))) f)
+            within = rest-within left (known .within);
+            same = sym (ap (λ (b : Bool). b || any (escapes layers set) (membersOf (rest left))) f)
                 ∙ sym (ap (any (escapes layers set)) next)
                 ∙ known .same;
           }

@@ -10,12 +10,10 @@ use lib.ListN.{length, take, set, replicate, length-append, length-take}
 use lib.Seq.{take-at}
 use Rattle.combinators.specs.Members.{member}
 use Rattle.combinators.specs.Padding.{padTo, length-padTo, store-padTo}
-use Rattle.sets.specs.Sets.{has, without, below, lowest, size}
-use Rattle.sets.proofs.Laws.{without-within}
+use Rattle.sets.specs.Sets.{has, lowest, size, rest, membersOf}
 use Rattle.stream_lists.specs.Insertion.{placed, placeOf, opened}
-use Rattle.stream_lists.specs.Lists.{inOrder}
 use Rattle.stream_lists.specs.Holding.{Ready}
-use Rattle.stream_lists.proofs.Ordered.{order-next, order-none, order-length}
+use Rattle.sets.proofs.Members.{members-next, members-none, members-size, rest-within}
 use Rattle.stream_lists.proofs.Opened.{opened-none, opened-length, opened-more, opened-list}
 use Rattle.stream_lists.proofs.Placed.{placed-same, placed-absent, placed-there, placed-twice, placed-in, placed-length, place-inside}
 use Rattle.stream_lists.proofs.Building.{has-set}
@@ -45,8 +43,8 @@ module _ (members : List ℕ) (count present index : ℕ) where
 
       pub add-room : count < 64
       add-room =
-          let long : length (placed index (inOrder 0) (take count members)) ≡ count + 1 =
-          ap (λ (l : List ℕ). length (placed index l (take count members))) order-none ∙ ap length longer
+          let long : length (placed index (membersOf 0) (take count members)) ≡ count + 1 =
+          ap (λ (l : List ℕ). length (placed index l (take count members))) members-none ∙ ap length longer
           ∙ length-append (take count members) (index ∷ []) ∙ ap (λ (n : ℕ). n + 1) (ready-long 0 r) in
           omega (arith, r .room)
 
@@ -66,7 +64,7 @@ pub record Inserting (a : List ℕ) (count place new : ℕ) (members : List ℕ)
   pub ends : end ≡ count + length done
   pub reached : at ≡ place + length done
   pub filled : members ≡ opened a count place done
-  pub rest : done ++ inOrder left ≡ inOrder new
+  pub to-come : done ++ membersOf left ≡ membersOf new
   pub within : left < 2 ^ 64
 
 module _ (a : List ℕ) (count place new : ℕ) (low : place ≤ count) where
@@ -77,39 +75,39 @@ module _ (a : List ℕ) (count place new : ℕ) (low : place ≤ count) where
         ends = sym (add-zero count);
         reached = sym (add-zero place);
         filled = sym (opened-none a count place low);
-        rest = refl;
+        to-come = refl;
         within = w;
       }
 
   module _ (members : List ℕ) (end at left : ℕ) (known : Inserting a count place new members end at left) where
-    pub inserting-end : left ≡ 0 → members ≡ opened a count place (inOrder new)
+    pub inserting-end : left ≡ 0 → members ≡ opened a count place (membersOf new)
     inserting-end e =
         known .filled
-        ∙ ap (opened a count place) (sym (append-nil (known .done)) ∙ ap (λ (l : List ℕ). known .done ++ l) (sym (ap inOrder e ∙ order-none)) ∙ known .rest)
+        ∙ ap (opened a count place) (sym (append-nil (known .done)) ∙ ap (λ (l : List ℕ). known .done ++ l) (sym (ap membersOf e ∙ members-none)) ∙ known .to-come)
 
     module _ (more : left ≡ 0 → ⊥) where
-      next : inOrder left ≡ lowest left ∷ inOrder (without left (below left (lowest left + 1)))
-      next = order-next left (known .within) more
+      next : membersOf left ≡ lowest left ∷ membersOf (rest left)
+      next = members-next left (known .within) more
 
-      pub inserting-less : length (inOrder (without left (below left (lowest left + 1)))) < length (inOrder left)
+      pub inserting-less : length (membersOf (rest left)) < length (membersOf left)
       inserting-less = omega (arith, ap length next)
 
-      long : length (known .done) + length (inOrder left) ≡ length (inOrder new)
-      long = sym (length-append (known .done) (inOrder left)) ∙ ap length (known .rest)
+      long : length (known .done) + length (membersOf left) ≡ length (membersOf new)
+      long = sym (length-append (known .done) (membersOf left)) ∙ ap length (known .to-come)
 
-      pub inserting-room : count + length (inOrder new) ≤ 64 → (at ≤ end) × (end < 64)
+      pub inserting-room : count + length (membersOf new) ≤ 64 → (at ≤ end) × (end < 64)
       inserting-room room = (
         omega (arith, known .ends, known .reached),
         omega (arith, known .ends, long, ap length next),
       )
 
-      pub inserting-long : length a ≡ 64 → count + length (inOrder new) ≤ 64 → length members ≡ 64
+      pub inserting-long : length a ≡ 64 → count + length (membersOf new) ≤ 64 → length members ≡ 64
       inserting-long sized room =
           ap length (known .filled) ∙ opened-length a count place (known .done) low (omega (arith, long, ap length next)) ∙ sized
 
-      pub inserting-more : (index : ℕ) (members′ : List ℕ) → length a ≡ 64 → count + length (inOrder new) ≤ 64 → index ≡ lowest left
+      pub inserting-more : (index : ℕ) (members′ : List ℕ) → length a ≡ 64 → count + length (membersOf new) ≤ 64 → index ≡ lowest left
           → members′ ≡ opened members end at (index ∷ [])
-          → Inserting a count place new members′ (end + 1) (at + 1) (without left (below left (index + 1)))
+          → Inserting a count place new members′ (end + 1) (at + 1) (rest left)
       inserting-more index members′ sized room e f =
           let one : length (known .done ++ (index ∷ [])) ≡ length (known .done) + 1 = length-append (known .done) (index ∷ []) in
           record {
@@ -119,11 +117,11 @@ module _ (a : List ℕ) (count place new : ℕ) (low : place ≤ count) where
             filled = f
                 ∙ same (known .filled) (known .ends) (known .reached)
                 ∙ opened-more a count place index (known .done) low (omega (arith, long, ap length next));
-            rest = append-assoc (known .done) (index ∷ []) (inOrder (without left (below left (index + 1))))
-                ∙ ap (λ (k : ℕ). known .done ++ (k ∷ inOrder (without left (below left (k + 1))))) e
+            to-come = append-assoc (known .done) (index ∷ []) (membersOf (rest left))
+                ∙ ap (λ (k : ℕ). known .done ++ (k ∷ membersOf (rest left))) e
                 ∙ ap (λ (l : List ℕ). known .done ++ l) (sym next)
-                ∙ known .rest;
-            within = without-within 64 left (below left (index + 1)) (known .within);
+                ∙ known .to-come;
+            within = rest-within left (known .within);
           }
         where
           same : members ≡ opened a count place (known .done) → end ≡ count + length (known .done) → at ≡ place + length (known .done)
@@ -144,18 +142,18 @@ module _ (members : List ℕ) (count present index new : ℕ) (r : Ready members
         room = omega (
           arith,
           r .room,
-          placed-length index (inOrder new) (take count members),
-          placed-length index (inOrder 0) (take count members),
-          ap length order-none,
+          placed-length index (membersOf new) (take count members),
+          placed-length index (membersOf 0) (take count members),
+          ap length members-none,
         );
       }
 
   -- nothing goes before the index
   pub before-nothing : (length′ : ℕ) (members′ : List ℕ) → new ≡ 0 → length′ ≡ length (placed index [] (take count members))
       → members′ ≡ padTo 64 0 (placed index [] (take count members))
-      → (length′ ≡ length (placed index (inOrder new) (take count members))) × (members′ ≡ padTo 64 0 (placed index (inOrder new) (take count members)))
+      → (length′ ≡ length (placed index (membersOf new) (take count members))) × (members′ ≡ padTo 64 0 (placed index (membersOf new) (take count members)))
   before-nothing length′ members′ e p q =
-      let none : [] ≡ inOrder new = sym (ap inOrder e ∙ order-none) in (
+      let none : [] ≡ membersOf new = sym (ap membersOf e ∙ members-none) in (
         p ∙ ap (λ (l : List ℕ). length (placed index l (take count members))) none,
         q ∙ ap (λ (l : List ℕ). padTo 64 0 (placed index l (take count members))) none,
       )
@@ -170,11 +168,11 @@ module _ (members : List ℕ) (count present index new : ℕ) (r : Ready members
 
     pub before-short : (longer ≤ 64) × (length added ≡ 64)
     before-short =
-        let short : length (placed index [] (take count members)) ≤ 64 = omega (arith, r .room, placed-length index (inOrder new) (take count members)) in
+        let short : length (placed index [] (take count members)) ≤ 64 = omega (arith, r .room, placed-length index (membersOf new) (take count members)) in
         (omega arith, ap length q ∙ length-padTo 64 0 (placed index [] (take count members)) short)
 
-    pub before-room : longer + length (inOrder new) ≤ 64
-    before-room = omega (arith, r .room, placed-length index (inOrder new) (take count members))
+    pub before-room : longer + length (membersOf new) ≤ 64
+    before-room = omega (arith, r .room, placed-length index (membersOf new) (take count members))
 
     module _ (place : ℕ) (e : place ≡ placeOf index (take longer added)) where
       found : place ≡ placeOf index (placed index [] (take count members))
@@ -183,23 +181,23 @@ module _ (members : List ℕ) (count present index new : ℕ) (r : Ready members
       pub before-inside : place ≤ longer
       before-inside = omega (arith, found, place-inside index (placed index [] (take count members)) (placed-in index (take count members)))
 
-      pub before-all : (size′ : ℕ) (members′ : List ℕ) → size′ ≡ size new → members′ ≡ opened added longer place (inOrder new)
-          → (longer + size′ ≡ length (placed index (inOrder new) (take count members)))
-          × (members′ ≡ padTo 64 0 (placed index (inOrder new) (take count members)))
+      pub before-all : (size′ : ℕ) (members′ : List ℕ) → size′ ≡ size new → members′ ≡ opened added longer place (membersOf new)
+          → (longer + size′ ≡ length (placed index (membersOf new) (take count members)))
+          × (members′ ≡ padTo 64 0 (placed index (membersOf new) (take count members)))
       before-all size′ members′ f g = (
-        ap₂ (λ (m n : ℕ). m + n) p (f ∙ order-length new) ∙ sym (placed-length index (inOrder new) (take count members)),
+        ap₂ (λ (m n : ℕ). m + n) p (f ∙ sym (members-size new)) ∙ sym (placed-length index (membersOf new) (take count members)),
         g
             ∙ same p q found
-            ∙ opened-list (placed index [] (take count members)) (inOrder new) (placeOf index (placed index [] (take count members)))
+            ∙ opened-list (placed index [] (take count members)) (membersOf new) (placeOf index (placed index [] (take count members)))
             (omega (arith, place-inside index (placed index [] (take count members)) (placed-in index (take count members))))
             (omega (arith, before-room))
-            ∙ ap (padTo 64 0) (sym (placed-there index (inOrder new) (placed index [] (take count members)) (placed-in index (take count members)))
-            ∙ placed-twice index (inOrder new) (take count members)),
+            ∙ ap (padTo 64 0) (sym (placed-there index (membersOf new) (placed index [] (take count members)) (placed-in index (take count members)))
+            ∙ placed-twice index (membersOf new) (take count members)),
       )
         where
           same : longer ≡ length (placed index [] (take count members)) → added ≡ padTo 64 0 (placed index [] (take count members))
               → place ≡ placeOf index (placed index [] (take count members))
-              → opened added longer place (inOrder new)
+              → opened added longer place (membersOf new)
               ≡ opened (padTo 64 0 (placed index [] (take count members))) (length (placed index [] (take count members)))
-              (placeOf index (placed index [] (take count members))) (inOrder new)
+              (placeOf index (placed index [] (take count members))) (membersOf new)
           same x y z = rw (x, y, z)

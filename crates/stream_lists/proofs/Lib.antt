@@ -1,4 +1,3 @@
-pub mod Ordered
 pub mod Opened
 pub mod Placed
 pub mod Building

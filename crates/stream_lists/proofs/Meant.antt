@@ -14,7 +14,7 @@ use Rattle.combinators.specs.Bools.{both-left, both-right, both-ways, either-ri
 use Rattle.combinators.specs.Ascending.{Ascending, ascending-one}
 use Rattle.combinators.specs.Lists.{any, any-which, any-false, getD-nth, nth-getD, nth-inside, Nth, here, there}
 use Rattle.combinators.specs.Members.{member}
-use Rattle.sets.specs.Sets.{has, without, lowest}
+use Rattle.sets.specs.Sets.{has, without, lowest, membersOf}
 use Rattle.sets.proofs.Laws.{has-none, has-without, has-within, lowest-member, without-within}
 use Rattle.closure.specs.declared.Layers.{Layers}
 use Rattle.closure.specs.Closures.{isLayer, named}
@@ -23,9 +23,9 @@ use Rattle.closure.proofs.Reached.{names, has-named, layer-below-64}
 use Rattle.closure.proofs.Scan.{is-layer}
 use Rattle.stream_lists.specs.declared.ListBuilt.{ListBuilt}
 use Rattle.stream_lists.specs.Insertion.{placed}
-use Rattle.stream_lists.specs.Lists.{referred, prepends, asked, setOf, inOrder, referring, noLayer, streamList, builtFrom, listBuilt, escapes, isClosed}
+use Rattle.stream_lists.specs.Lists.{referred, prepends, asked, setOf, referring, noLayer, streamList, builtFrom, listBuilt, escapes, isClosed}
 use Rattle.stream_lists.specs.Meaning.{ToPrepend, Adds, at-the-end, where-it-stands, Lists, none, next, NoLayer, itself, dependency, Answers, refused, built, Closed}
-use Rattle.stream_lists.proofs.Ordered.{order-ascending}
+use Rattle.sets.proofs.Members.{members-ascending}
 use Rattle.stream_lists.proofs.Placed.{placed-absent}
 use Rattle.stream_lists.proofs.Building.{has-set, asked-within, named-within}
 
@@ -66,17 +66,17 @@ module _ (layers : Layers) where
       prepend-fresh j p =
           fresh-is j ∙ ap₂ (λ (a b : Bool). a && not b) (names-asked j (p .flagged) (p .embedded)) (p .not-yet)
 
-      new-ascending : Ascending (ToPrepend layers reference list) (inOrder (without (asked layers reference) (setOf list)))
+      new-ascending : Ascending (ToPrepend layers reference list) (membersOf (without (asked layers reference) (setOf list)))
       new-ascending =
-          let a = order-ascending (without (asked layers reference) (setOf list)) (without-within 64 (asked layers reference) (setOf list) (asked-within layers reference)) in
+          let a = members-ascending (without (asked layers reference) (setOf list)) (without-within 64 (asked layers reference) (setOf list) (asked-within layers reference)) in
           record {
-            each = λ i h. fresh-prepend (getD (inOrder (without (asked layers reference) (setOf list))) i 0) (a .each i h);
+            each = λ i h. fresh-prepend (getD (membersOf (without (asked layers reference) (setOf list))) i 0) (a .each i h);
             all = λ n p. a .all n (prepend-fresh n p);
             rising = a .rising;
           }
 
-      new-only : (new : List ℕ) → Ascending (ToPrepend layers reference list) new → new ≡ inOrder (without (asked layers reference) (setOf list))
-      new-only new a = ascending-one (ToPrepend layers reference list) new (inOrder (without (asked layers reference) (setOf list))) a new-ascending
+      new-only : (new : List ℕ) → Ascending (ToPrepend layers reference list) new → new ≡ membersOf (without (asked layers reference) (setOf list))
+      new-only new a = ascending-one (ToPrepend layers reference list) new (membersOf (without (asked layers reference) (setOf list))) a new-ascending
 
   -- ---- one reference
 
@@ -107,7 +107,7 @@ module _ (layers : Layers) where
       x = referred reference
 
       new : List ℕ
-      new = inOrder (without (asked layers reference) (setOf list))
+      new = membersOf (without (asked layers reference) (setOf list))
 
       go : (b : Bool) → member (referred reference) list ≡ b → Adds layers reference list (referring layers list reference)
       go false e =
@@ -121,11 +121,11 @@ module _ (layers : Layers) where
   pub adds-only : (reference : ℕ) (list : List ℕ) {after : List ℕ} → Adds layers reference list after → after ≡ referring layers list reference
   adds-only reference list (at-the-end new e a) =
       ap (λ (n : List ℕ). list ++ (n ++ (referred reference ∷ []))) (new-only reference list new a)
-      ∙ sym (placed-absent (referred reference) (inOrder (without (asked layers reference) (setOf list))) list e)
+      ∙ sym (placed-absent (referred reference) (membersOf (without (asked layers reference) (setOf list))) list e)
   adds-only reference list (where-it-stands front new back s e a) =
       ap (λ (n : List ℕ). front ++ (n ++ (referred reference ∷ back))) (new-only reference list new a)
-      ∙ sym (ap (placed (referred reference) (inOrder (without (asked layers reference) (setOf list)))) s
-      ∙ placed-split (referred reference) (inOrder (without (asked layers reference) (setOf list))) front back e)
+      ∙ sym (ap (placed (referred reference) (membersOf (without (asked layers reference) (setOf list)))) s
+      ∙ placed-split (referred reference) (membersOf (without (asked layers reference) (setOf list))) front back e)
 
   -- ---- 42
 
@@ -256,15 +256,15 @@ module _ (layers : Layers) where
     pub closed-meant : isClosed layers set ≡ true → Closed layers set
     closed-meant e =
         record {
-          inside = λ i j m n. (let w = order-ascending set within .all i m in
+          inside = λ i j m n. (let w = members-ascending set within .all i m in
               names-inside i
               (ap (escapes layers set) (sym (w .2))
-              ∙ any-false (escapes layers set) (not-true (any (escapes layers set) (inOrder set)) e) (getD-nth (inOrder set) (w .0) 0 (w .1)))
+              ∙ any-false (escapes layers set) (not-true (any (escapes layers set) (membersOf set)) e) (getD-nth (membersOf set) (w .0) 0 (w .1)))
               j n);
         }
 
     pub closed-only : Closed layers set → isClosed layers set ≡ true
-    closed-only c = ap not (false-unless (any (escapes layers set) (inOrder set)) (λ e. none-escapes (any-which (escapes layers set) (inOrder set) e)))
+    closed-only c = ap not (false-unless (any (escapes layers set) (membersOf set)) (λ e. none-escapes (any-which (escapes layers set) (membersOf set) e)))
       where
         escaped : (i : ℕ) → has set i ≡ true → escapes layers set i ≡ true → ⊥
         escaped i m e =
@@ -279,7 +279,7 @@ module _ (layers : Layers) where
             (not-true (has set (lowest (without (named layers i) set)))
             (both-right (has (named layers i) (lowest (without (named layers i) set))) (not (has set (lowest (without (named layers i) set)))) both))
 
-        none-escapes : (k : ℕ) × (i : ℕ) × Nth (inOrder set) k i × (escapes layers set i ≡ true) → ⊥
+        none-escapes : (k : ℕ) × (i : ℕ) × Nth (membersOf set) k i × (escapes layers set i ≡ true) → ⊥
         none-escapes (k, i, n, e) =
             escaped i
-            (ap (has set) (sym (nth-getD 0 n)) ∙ order-ascending set within .each k (nth-inside n)) e
+            (ap (has set) (sym (nth-getD 0 n)) ∙ members-ascending set within .each k (nth-inside n)) e

@@ -12,15 +12,15 @@ use lib.Dec.{eqb}
 use Rattle.combinators.specs.Bools.{apart, both-left, either-left, either-right, either-which}
 use Rattle.combinators.specs.Lists.{Nth, here, there}
 use Rattle.combinators.specs.Members.{member}
-use Rattle.sets.specs.Sets.{has, only, without}
+use Rattle.sets.specs.Sets.{has, only, without, membersOf}
 use Rattle.sets.proofs.Laws.{has-without, joined-within, only-within, without-within}
 use Rattle.closure.specs.declared.Layers.{Layers}
 use Rattle.closure.specs.Closures.{isLayer, restedOn}
 use Rattle.closure.specs.Meaning.{RestsOn, itself, by}
 use Rattle.closure.proofs.Reached.{layer-below-64, member-rests-on, rests-on-member}
-use Rattle.stream_lists.specs.Lists.{referred, asked, setOf, inOrder, referring, isClosed}
+use Rattle.stream_lists.specs.Lists.{referred, asked, setOf, referring, isClosed}
 use Rattle.stream_lists.specs.Meaning.{NoLayer, dependency, Lists, none, next, Closed, ClosuresJoined, Ordered}
-use Rattle.stream_lists.proofs.Ordered.{order-ascending, member-order, member-holds, holds-member}
+use Rattle.sets.proofs.Members.{members-ascending, member-members, member-holds, holds-member}
 use Rattle.stream_lists.proofs.Placed.{member-placed}
 use Rattle.stream_lists.proofs.Building.{has-set, asked-within}
 use Rattle.stream_lists.proofs.Meant.{asked-names, adds-only, closed-meant, closed-only}
@@ -39,7 +39,7 @@ module _ (layers : Layers) where
       which (either-which (member i list) (member i new || eqb i (referred reference)) (sym (member-placed i (referred reference) new list) ∙ m))
     where
       new : List ℕ
-      new = inOrder (without (asked layers reference) (setOf list))
+      new = membersOf (without (asked layers reference) (setOf list))
 
       within : without (asked layers reference) (setOf list) < 2 ^ 64
       within = without-within 64 (asked layers reference) (setOf list) (asked-within layers reference)
@@ -48,7 +48,7 @@ module _ (layers : Layers) where
       last (inl n) =
           let is-asked : has (asked layers reference) i ≡ true =
           both-left (has (asked layers reference) i) (not (has (setOf list) i))
-          (sym (has-without (asked layers reference) (setOf list) i) ∙ sym (member-order (without (asked layers reference) (setOf list)) within i) ∙ n) in
+          (sym (has-without (asked layers reference) (setOf list) i) ∙ sym (member-members (without (asked layers reference) (setOf list)) within i) ∙ n) in
           let w = asked-names layers reference i is-asked in
           layer-unless reference clear (isLayer layers i) (λ e. dependency (w .0) (w .1) e)
       last (inr e) =
@@ -80,11 +80,11 @@ module _ (layers : Layers) where
             (go l (λ i m. f i (either-right (eqb i x) (member i l) m)))
 
     -- its set in ascending order is the list ordered by index
-    pub ordered-list : Ordered list (inOrder (setOf list))
+    pub ordered-list : Ordered list (membersOf (setOf list))
     ordered-list =
-        let a = order-ascending (setOf list) set-small in
+        let a = members-ascending (setOf list) set-small in
         record {
-          each = λ i h. sym (has-set (lib.ListN.getD (inOrder (setOf list)) i 0) list) ∙ a .each i h;
+          each = λ i h. sym (has-set (lib.ListN.getD (membersOf (setOf list)) i 0) list) ∙ a .each i h;
           all = λ n m. a .all n (has-set n list ∙ m);
           rising = a .rising;
         }

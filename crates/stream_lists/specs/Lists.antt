@@ -9,8 +9,7 @@ use lib.Dec.{eqb}
 use lib.ListN.{length}
 use Rattle.combinators.specs.Lists.{any}
 use Rattle.combinators.specs.Padding.{padTo}
-use Rattle.combinators.specs.Those.{those}
-use Rattle.sets.specs.Sets.{has, joined, only, without}
+use Rattle.sets.specs.Sets.{joined, only, without, membersOf}
 use Rattle.closure.specs.declared.Layers.{Layers}
 use Rattle.closure.specs.Closures.{isLayer, named}
 use Rattle.stream_lists.specs.declared.StreamList.{StreamList}
@@ -29,20 +28,17 @@ prepends reference = eqb (reference / 64 % 2) 1
 abbrev pub asked : Layers → ℕ → ℕ
 asked layers reference = cond (prepends reference) (named layers (referred reference)) 0
 
--- ---- a list as a set, and a set as a list that rises
+-- ---- a list as a set
 
 abbrev pub setOf : List ℕ → ℕ
 setOf [] = 0
 setOf (x ∷ list) = joined (only x) (setOf list)
 
-unfoldable pub inOrder : ℕ → List ℕ
-inOrder set = those (has set) 64
-
 -- ---- the list
 
 -- one reference more: what it asks for and is not present yet, in ascending order, immediately before its place
 abbrev pub referring : Layers → List ℕ → ℕ → List ℕ
-referring layers list reference = placed (referred reference) (inOrder (without (asked layers reference) (setOf list))) list
+referring layers list reference = placed (referred reference) (membersOf (without (asked layers reference) (setOf list))) list
 
 -- 42: the reference, or a dependency to be prepended, is no layer of the loop
 abbrev pub noLayer : Layers → ℕ → Bool
@@ -68,4 +64,4 @@ abbrev pub escapes : Layers → ℕ → ℕ → Bool
 escapes layers set i = not (eqb (without (named layers i) set) 0)
 
 abbrev pub isClosed : Layers → ℕ → Bool
-isClosed layers set = not (any (escapes layers set) (inOrder set))
+isClosed layers set = not (any (escapes layers set) (membersOf set))

@@ -4,8 +4,8 @@ ghost use mathlib.Core.Path.{_≡_};
 ghost use Prim.Native.Nat.{_+_, _<_, _≤_};
 ghost use lib.ListN.{length, take};
 ghost use Rattle.combinators.specs.Padding.{padTo};
+ghost use Rattle.sets.specs.Sets.{membersOf};
 ghost use Rattle.stream_lists.specs.Insertion.{placed, placeOf, opened};
-ghost use Rattle.stream_lists.specs.Lists.{inOrder};
 ghost use Rattle.stream_lists.specs.Holding.{Ready};
 
 // The place of an index in the list, or the list's length where it has no such member.
@@ -38,8 +38,8 @@ fn insert(members: &mut [u8; 64], count: usize, place: usize, index: u8)
 
 // A set's members more, in ascending order, from a place of the list on.
 fn insert_all(members: &mut [u8; 64], count: usize, place: usize, new: u64)
-    requires { ⌜ (place ≤ count) × (count + length (inOrder new) ≤ 64) × (length (now members) ≡ 64) ⌝ }
-    ensures { λ _. ⌜ now (members .exit) ≡ opened (now (members .entry)) count place (inOrder new) ⌝ }
+    requires { ⌜ (place ≤ count) × (count + length (membersOf new) ≤ 64) × (length (now members) ≡ 64) ⌝ }
+    ensures { λ _. ⌜ now (members .exit) ≡ opened (now (members .entry)) count place (membersOf new) ⌝ }
 {
     let mut end = count;
     let mut at = place;
@@ -47,7 +47,7 @@ fn insert_all(members: &mut [u8; 64], count: usize, place: usize, new: u64)
     while left != 0 {
         let index = sets::lowest(left);
         insert(members, end, at, index);
-        left = sets::without(left, sets::below(left, index as usize + 1));
+        left = sets::rest(left);
         end += 1;
         at += 1;
     }
@@ -75,8 +75,8 @@ pub fn place_before(
     new: u64,
 ) -> usize
     requires { ⌜ Ready (now members) count present index new ⌝ }
-    ensures { λ r. ⌜ (r ≡ length (placed index (inOrder new) (take count (now (members .entry)))))
-        × (now (members .exit) ≡ padTo 64 0 (placed index (inOrder new) (take count (now (members .entry))))) ⌝ }
+    ensures { λ r. ⌜ (r ≡ length (placed index (membersOf new) (take count (now (members .entry)))))
+        × (now (members .exit) ≡ padTo 64 0 (placed index (membersOf new) (take count (now (members .entry))))) ⌝ }
 {
     let with_index = add(members, count, present, index);
     if new == 0 {

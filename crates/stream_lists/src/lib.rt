@@ -108,7 +108,7 @@ pub fn closed(layers: Layers, present: u64) -> bool
         if escapes(layers, present, index) {
             return false;
         }
-        left = sets::without(left, sets::below(left, index + 1));
+        left = sets::rest(left);
     }
     true
 }

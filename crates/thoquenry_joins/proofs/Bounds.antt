@@ -24,9 +24,9 @@ use Rattle.rows.specs.Table.{Table, rowsIn, mostRows, wrongShape, outOfRange, f
 use Rattle.rows.proofs.Verdicts.{shape-short}
 use Rattle.spans.specs.Spans.{isClosureRow, wideSpan}
 use Rattle.heads.specs.Units.{Frame, unpaired, shares, firstUnpaired, firstShared, unitsIn}
-use Rattle.joining.specs.declared.answer.Joined.{Joined}
-use Rattle.joining.specs.declared.answer.Joined.the-variants.{Units, Refused}
-use Rattle.joining.specs.Joining.{frameOf, closureRows, Room, tooSmall, unitsJoined, joinedBy, tableJoined, joinedIn, joinedOf, longestTable, mostLong}
+use Rattle.join_answers.specs.declared.answer.Joined.{Joined}
+use Rattle.join_answers.specs.declared.answer.Joined.the-variants.{Units, Refused}
+use Rattle.join_answers.specs.Joining.{frameOf, closureRows, Room, tooSmall, unitsJoined, joinedBy, tableJoined, joinedIn, joinedOf, longestTable, mostLong}
 use Rattle.importing.specs.Importing.{layersRead, importFor, importOf}
 use Rattle.combinators.specs.Bools.{either-way, or-else}
 use Rattle.thoquenry.specs.Bounds.{SmallOutcome, SmallClosure, small-closure-of, small-loop}

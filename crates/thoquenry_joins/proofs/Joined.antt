@@ -7,8 +7,8 @@ use lib.ListN.{length}
 use Rattle.closure.specs.declared.Layers.{Layers}
 use Rattle.rows.specs.Table.{Table}
 use Rattle.unit_lists.specs.Sequence.{Lists}
-use Rattle.joining.specs.declared.answer.Joined.{Joined}
-use Rattle.joining.specs.Joining.{listsAfter}
+use Rattle.join_answers.specs.declared.answer.Joined.{Joined}
+use Rattle.join_answers.specs.Joining.{listsAfter}
 use Rattle.thoquenry_joins.specs.Joins.{withSummary, joinedAnswer, summaryAfter, JoinReply, joinReply}
 use Rattle.thoquenry_joins.proofs.Rooms.{barred, short-summary, whole-summary, barred-lists, barred-summary}
 

@@ -18,9 +18,9 @@ use Rattle.rows.specs.Table.{Table, rowsIn}
 use Rattle.spans.specs.Spans.{wideSpan}
 use Rattle.heads.specs.Units.{Frame, firstUnpaired, firstShared, unitsIn}
 use Rattle.unit_lists.specs.Sequence.{Lists}
-use Rattle.joining.specs.declared.answer.Joined.{Joined}
-use Rattle.joining.specs.declared.answer.Joined.the-variants.{Units, Refused}
-use Rattle.joining.specs.Joining.{frameOf, closureRows, Room, tooSmall, unitsJoined, joinedBy, joinedIn, joinedOf, listsAfter}
+use Rattle.join_answers.specs.declared.answer.Joined.{Joined}
+use Rattle.join_answers.specs.declared.answer.Joined.the-variants.{Units, Refused}
+use Rattle.join_answers.specs.Joining.{frameOf, closureRows, Room, tooSmall, unitsJoined, joinedBy, joinedIn, joinedOf, listsAfter}
 use Rattle.thoquenry_joins.specs.Joins.{withSummary, summaryAfter}
 
 -- what is left of an answer without room for the summary

@@ -13,9 +13,9 @@ use Rattle.es_loop.specs.Reading.{loopRead}
 use Rattle.rows.specs.Table.{Table, mostRows}
 use Rattle.buffers.specs.Buffers.{over}
 use Rattle.unit_lists.specs.Sequence.{Lists}
-use Rattle.joining.specs.declared.answer.Joined.{Joined}
-use Rattle.joining.specs.declared.answer.Joined.the-variants.{Units, Refused}
-use Rattle.joining.specs.Joining.{roomOf, joinedOf, listsAfter}
+use Rattle.join_answers.specs.declared.answer.Joined.{Joined}
+use Rattle.join_answers.specs.declared.answer.Joined.the-variants.{Units, Refused}
+use Rattle.join_answers.specs.Joining.{roomOf, joinedOf, listsAfter}
 use Rattle.importing.specs.Importing.{layersRead, importOf}
 use Rattle.c_answers.specs.declared.Asked.{Asked}
 use Rattle.c_answers.specs.declared.Asked.the-variants.{Known, Neither}

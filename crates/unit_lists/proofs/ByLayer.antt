@@ -21,9 +21,9 @@ use Rattle.ordering.specs.Runs.{keyIn}
 use Rattle.ordering.proofs.Meant.{each-in-order}
 use Rattle.ordering.proofs.Stored.{row-of-part}
 use Rattle.rows.specs.Table.{Table, rowsIn, layerOf}
-use Rattle.assembling.specs.Index.{isOf, rowsOf, Within, Sorted}
-use Rattle.assembling.proofs.Placing.{start-rises, place-among, start-past-all}
-use Rattle.assembling.proofs.Searching.{end-is, end-inside, place-holds, places-rise}
+use Rattle.row_index.specs.Index.{isOf, rowsOf, Within, Sorted}
+use Rattle.row_index.proofs.Placing.{start-rises, place-among, start-past-all}
+use Rattle.row_index.proofs.Searching.{end-is, end-inside, place-holds, places-rise}
 use Rattle.spans.specs.Spans.{keyAt}
 use Rattle.unit_order.specs.Laying.{unmarked, headsAt, headsFirst, Orderable}
 use Rattle.unit_order.proofs.Each.{each-at, each-places, each-append, two-places}

@@ -18,7 +18,7 @@ use Rattle.sets.specs.Sets.{size}
 use Rattle.ordering.specs.Meaning.{Each}
 use Rattle.ordering.specs.Meaning as meaning
 use Rattle.rows.specs.Table.{Table, table, rowsIn, decodingOf}
-use Rattle.assembling.specs.Index.{Starts, Order}
+use Rattle.row_index.specs.Index.{Starts, Order}
 use Rattle.spans.specs.Spans.{startOf, keyOf, keysOf, wideSpan}
 use Rattle.spans.proofs.Measuring.{key-laid}
 use Rattle.heads.specs.Units.{Frame, frame, ownOf, unitOf, lagsOf, lagsFrom}

@@ -13,7 +13,7 @@ use Rattle.combinators.specs.Lists.{gather}
 use Rattle.combinators.specs.Once.{Small}
 use Rattle.sets.specs.Sets.{has, size}
 use Rattle.rows.specs.Table.{Table, rowsIn, layerOf, decodingOf}
-use Rattle.assembling.specs.Index.{Within, Sorted}
+use Rattle.row_index.specs.Index.{Within, Sorted}
 use Rattle.spans.specs.Spans.{keyAt}
 use Rattle.heads.specs.Units.{Frame, isHead, ownOf, lagsFrom}
 use Rattle.unit_lists.specs.Sequence.{headsInOrder, Lists, lists}

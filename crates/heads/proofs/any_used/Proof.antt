@@ -4,7 +4,7 @@ use Prim.Native.Nat.{_<_}
 use native.Mathlib.Omega.{arith}
 use borrow.Author.Needs.{needs}
 use lib.ListN.{length}
-use Rattle.assembling.specs.Assemblies.{membersOf}
+use Rattle.sets.specs.Sets.{membersOf}
 use Rattle.heads.proofs.Marking.{Looking, looking-start, looking-end, used-here, unused-here, here-looked, small-layer, less-left}
 use Rattle.heads.proofs.any_used.Statement.{statement}
 use Rattle.heads.proofs.any_used.Tie as tie
@@ -40,15 +40,15 @@ shared-slice-read-if1 c = c .before .before .before .before .before .before .pre
 returns : tie.Need-returns Inv-loop μ-loop
 returns c = used-here _ _ _ _ (c .before .before .before .before .before .loop .inv) (c .before .before .before .before .loop-test .taken) _ (c .before .before .before .lowest .ensures) (c .if1 .taken)
 
-rest-of-requires : tie.Need-rest-of-requires Inv-loop μ-loop
-rest-of-requires c κs = omega (arith, small (c .before .before .before))
+rest-requires : tie.Need-rest-requires Inv-loop μ-loop
+rest-requires c κs = search needs
 
 loop-less : tie.Need-loop-less Inv-loop μ-loop
-loop-less c = less-left _ _ (c .before .before .before .before .lowest .ensures) (c .before .before .before .before .before .before .loop .inv .within) (c .before .before .before .before .before .loop-test .taken) _ (c .rest-of .ensures)
+loop-less c = less-left _ _ (c .before .before .before .before .lowest .ensures) (c .before .before .before .before .before .before .loop .inv .within) (c .before .before .before .before .before .loop-test .taken) _ (c .rest .ensures)
 
 loop-again : tie.Need-loop-again Inv-loop μ-loop
 loop-again c =
-    unused-here _ _ _ _ (c .before .before .before .before .before .before .loop .inv) (c .before .before .before .before .before .loop-test .taken) _ (c .before .before .before .before .lowest .ensures) (c .before .if1 .left) _ (c .rest-of .ensures)
+    unused-here _ _ _ _ (c .before .before .before .before .before .before .loop .inv) (c .before .before .before .before .before .loop-test .taken) _ (c .before .before .before .before .lowest .ensures) (c .before .if1 .left) _ (c .rest .ensures)
 
 returns-2 : tie.Need-returns-2 Inv-loop μ-loop
 returns-2 c = looking-end _ _ _ _ (c .before .loop .inv) (c .loop-test .left)
@@ -66,7 +66,7 @@ any-used-spec =
     element-copy-out-if1
     shared-slice-read-if1
     returns
-    rest-of-requires
+    rest-requires
     loop-less
     loop-again
     returns-2)

@@ -13,12 +13,13 @@ use lib.Seq.{sets, length-sets}
 use Rattle.combinators.specs.Below.{count-short}
 use Rattle.combinators.specs.Lists.{any}
 use Rattle.rows.specs.Table.{Table, table, layerOf}
-use Rattle.assembling.specs.Assemblies.{membersOf, noRows}
+use Rattle.assembling.specs.Assemblies.{noRows}
+use Rattle.sets.specs.Sets.{membersOf}
 use Rattle.heads.specs.Units.{Frame, frame, isHead, ownOf, assemblyOf, unitFrom, unitOf}
 use Rattle.heads.specs.Judging.{Placed, cleared, marked}
 use Rattle.heads.proofs.Tested.{head-tested, head-layer}
-use Rattle.heads.proofs.Kept.{unit-length, unit-size, cleared-again}
-use Rattle.heads.proofs.Claiming.{Walked, walked-start, walked-other, no-assembly, chosen, paired-on, is-shared, unit-fits, length-marked, walked-head, stopped, stopped-sharing, walked-end}
+use Rattle.heads.proofs.Kept.{unit-size, cleared-again}
+use Rattle.heads.proofs.Claiming.{Walked, walked-start, walked-other, no-assembly, chosen, paired-alone, is-shared, unit-fits, members-room, length-marked, walked-head, stopped, stopped-sharing, walked-end}
 use Rattle.heads.proofs.judge.Statement.{statement}
 use Rattle.heads.proofs.judge.Tie as tie
 
@@ -123,7 +124,7 @@ first-unpaired-requires : tie.Need-first-unpaired-requires Inv-loop μ-loop
 first-unpaired-requires c κs = (
   c .before .before .before .before .before .before .before .before .before .before .before .before .before .before .before .before .before .before .before .before .before .before .before .before .before .before .before .before .pre .0,
   c .before .before .before .before .before .before .before .before .before .before .before .before .before .before .before .before .before .before .before .before .before .before .before .before .before .before .before .before .pre .2,
-  paired-on _ _ _ _ _ _ _ _ (c .before .before .before .before .before .before .before .before .before .before .before .before .before .before .loop .inv .0) (c .before .before .before .before .before .before .before .before .before .before .before .before .before .loop-test .taken) (head (c .before .before .before .before .before .before .before .before .before)) (c .before .before .before .before .before .before .before .before .before .before .before .before .before .before .before .before .before .before .before .before .before .before .before .before .before .before .before .before .pre .1) (complete (c .before .before .before .before .before)),
+  paired-alone _ _ _ _ _ _ _ _ (c .before .before .before .before .before .before .before .before .before .before .before .before .before .before .loop .inv .0) (c .before .before .before .before .before .before .before .before .before .before .before .before .before .loop-test .taken) (head (c .before .before .before .before .before .before .before .before .before)) (c .before .before .before .before .before .before .before .before .before .before .before .before .before .before .before .before .before .before .before .before .before .before .before .before .before .before .before .before .pre .1) (complete (c .before .before .before .before .before)),
 )
 
 same-length-4 : tie.Need-same-length-4 Inv-loop μ-loop
@@ -150,7 +151,7 @@ fits c =
 keep-requires : tie.Need-keep-requires Inv-loop μ-loop
 keep-requires c κs = (
   subst (λ (rows : List ℕ). Placed (ownOf (tableAt (c .before .before .before .before .before .before .before .before .before .before .before .before)) (frameAt (c .before .before .before .before .before .before .before .before .before .before .before .before)) (c .before .before .before .before .before .before .before .before .before .before .before .before .before .before .before .before .before .loop .row)) rows (length (c .before .before .before .before .before .before .before .before .before .before .before .before .before .before .before .before .before .loop .used))) (sym (c .before .before .before .before .before .before .before .before .before .assemble .ensures .1)) (placed (c .before .before .before .before .before .before .before .before)),
-  omega (arith, fits (c .before .before .before), unit-length (tableAt (c .before .before .before .before .before .before .before .before .before .before .before .before)) (frameAt (c .before .before .before .before .before .before .before .before .before .before .before .before)) (c .before .before .before .before .before .before .before .before .before .before .before .before .before .before .before .before .before .loop .row), c .before .before .before .before .before .before .before .before .before .before .before .before .before .before .before .before .before .loop .inv .0 .room),
+  members-room _ _ _ _ _ _ _ _ (c .before .before .before .before .before .before .before .before .before .before .before .before .before .before .before .before .before .loop .inv .0) (c .before .before .before .before .before .before .before .before .before .before .before .before .before .before .before .before .loop-test .taken) (head (c .before .before .before .before .before .before .before .before .before .before .before .before)) (c .before .before .before .before .before .before .before .before .before .before .before .before .before .before .before .before .before .before .before .before .before .before .before .before .before .before .before .before .before .before .before .pre .1) (complete (c .before .before .before .before .before .before .before .before)) (sym (c .before .before .before .if3 .left) ∙ asked (c .before .before .before .before)),
 )
 
 mul-places : tie.Need-mul-places Inv-loop μ-loop

@@ -4,7 +4,7 @@ use Prim.Native.Nat.{_<_}
 use native.Mathlib.Omega.{arith}
 use borrow.Author.Needs.{needs}
 use lib.ListN.{length}
-use Rattle.assembling.specs.Assemblies.{membersOf}
+use Rattle.sets.specs.Sets.{membersOf}
 use Rattle.heads.proofs.Marking.{Keeping, keeping-start, keeping-more, row-before, here-own, place-inside, all-cleared, all-marked, all-kept, small-layer, less-left}
 use Rattle.heads.proofs.keep.Statement.{statement}
 use Rattle.heads.proofs.keep.Tie as tie
@@ -61,14 +61,14 @@ slice-write-kept c = omega (arith, room (c .before))
 add-at : tie.Need-add-at Inv-loop μ-loop
 add-at c = omega (arith, room (c .before))
 
-rest-of-requires : tie.Need-rest-of-requires Inv-loop μ-loop
-rest-of-requires c κs = omega (arith, small (c .before))
+rest-requires : tie.Need-rest-requires Inv-loop μ-loop
+rest-requires c κs = search needs
 
 loop-less : tie.Need-loop-less Inv-loop μ-loop
-loop-less c = less-left _ _ (c .before .before .lowest .ensures) (c .before .before .before .before .loop .inv .within) (c .before .before .before .loop-test .taken) _ (c .rest-of .ensures)
+loop-less c = less-left _ _ (c .before .before .lowest .ensures) (c .before .before .before .before .loop .inv .within) (c .before .before .before .loop-test .taken) _ (c .rest .ensures)
 
 loop-again : tie.Need-loop-again Inv-loop μ-loop
-loop-again c = keeping-more _ _ _ _ _ _ _ _ _ _ _ (c .before .before .before .before .loop .inv) (c .before .before .before .loop-test .taken) _ (c .before .before .lowest .ensures) _ (c .rest-of .ensures)
+loop-again c = keeping-more _ _ _ _ _ _ _ _ _ _ _ (c .before .before .before .before .loop .inv) (c .before .before .before .loop-test .taken) _ (c .before .before .lowest .ensures) _ (c .rest .ensures)
 
 same-length : tie.Need-same-length Inv-loop μ-loop
 same-length c = c .before .loop .inv .long-used
@@ -100,7 +100,7 @@ keep-spec =
     mul-kept
     slice-write-kept
     add-at
-    rest-of-requires
+    rest-requires
     loop-less
     loop-again
     same-length

@@ -7,7 +7,7 @@ use Rattle.es_loop.specs.declared.reader.Outcome.{Outcome}
 use Rattle.loop_layers.specs.declared.layer_sets.LayersRead.{LayersRead}
 use Rattle.rows.specs.Table.{table}
 use Rattle.unit_lists.specs.Sequence.{lists}
-use Rattle.joining.specs.Joining.{roomOf, listsAfter}
+use Rattle.join_answers.specs.Joining.{roomOf, listsAfter}
 use Rattle.importing.specs.Importing.{importFor}
 use Rattle.importing.proofs.import.Statement.{statement}
 use Rattle.importing.proofs.import.Tie as tie

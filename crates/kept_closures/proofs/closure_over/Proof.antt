@@ -1,53 +1,69 @@
--- `closure_over` meets its contract: the named indices below the one at hand are in, each with what it rests on.
--- Assumes nothing.
-use Prim.Native.Nat.{ℕ, _-_, _≤_}
-use mathlib.Core.Path.{_≡_, ap, _∙_}
+-- `closure_over` meets its contract. The invariant: what is put together so far, and what comes of those that are left (Putting). The measure is the number of
+-- members left. Assumes nothing.
+use Prim.Native.Nat.{ℕ, _<_}
+use mathlib.Core.Path.{_≡_, sym, subst}
 use native.Mathlib.Omega.{arith}
-use Rattle.sets.specs.Sets.{joined, only}
-use Rattle.kept_closures.specs.Kept.{united}
-use Rattle.kept_closures.proofs.Steps.{over-start, over-next}
+use borrow.Author.Needs.{needs}
+use lib.ListN.{length}
+use Rattle.sets.specs.Sets.{membersOf}
+use Rattle.sets.proofs.Members.{fewer-left}
+use Rattle.kept_closures.proofs.Putting.{Putting, putting-start, putting-next, putting-end, low-inside}
 use Rattle.kept_closures.proofs.closure_over.Statement.{statement}
 use Rattle.kept_closures.proofs.closure_over.Tie as tie
 
 abbrev Inv-loop : tie.InvT-loop
-Inv-loop closures index names closure₀ lower₀ closure lower = (lower ≤ index) × (closure ≡ joined (only index) (united closures names lower))
+Inv-loop closures index names closure₀ left₀ closure left = Putting closures index names closure left
 
 abbrev μ-loop : tie.MeasureT-loop
-μ-loop closures index names closure₀ lower₀ closure lower = index - lower
+μ-loop closures index names closure₀ left₀ closure left = length (membersOf left)
 
 shl-closure : tie.Need-shl-closure Inv-loop μ-loop
 shl-closure c = c .pre
 
+below-requires : tie.Need-below-requires Inv-loop μ-loop
+below-requires c κs = search needs
+
 loop-holds : tie.Need-loop-holds Inv-loop μ-loop
-loop-holds c = (omega arith, over-start (c .args .closures .now) (c .args .index) (c .args .names) (c .pre))
+loop-holds c = rw (c .below .ensures) (putting-start _ _ _ (c .before .pre))
 
-mul-with-named : tie.Need-mul-with-named Inv-loop μ-loop
-mul-with-named c = let h = c .before .before .pre in omega arith
+lowest-requires : tie.Need-lowest-requires Inv-loop μ-loop
+lowest-requires c κs = search needs
 
-element-copy-out-with-named : tie.Need-element-copy-out-with-named Inv-loop μ-loop
-element-copy-out-with-named c = let h = c .before .before .pre in omega arith
+cast-lower : tie.Need-cast-lower Inv-loop μ-loop
+cast-lower c = search needs
 
-with-named-requires : tie.Need-with-named-requires Inv-loop μ-loop
-with-named-requires c κs = let h = c .before .before .before .pre in omega arith
+-- the index at hand is one
+small : (c : tie.After-lowest Inv-loop μ-loop) → c .lowest .result < 64
+small c =
+    let inside = low-inside _ _ _ _ _ (c .before .before .loop .inv) (c .before .loop-test .taken) _ (c .lowest .ensures) in
+    omega (arith, c .before .before .before .before .pre)
 
-add-lower : tie.Need-add-lower Inv-loop μ-loop
-add-lower c = let h = c .before .before .before .before .pre in omega arith
+mul-closure : tie.Need-mul-closure Inv-loop μ-loop
+mul-closure c = omega (arith, small c)
+
+element-copy-out-closure : tie.Need-element-copy-out-closure Inv-loop μ-loop
+element-copy-out-closure c = omega (arith, small c)
+
+shl-closure-2 : tie.Need-shl-closure-2 Inv-loop μ-loop
+shl-closure-2 c = small (c .before)
+
+rest-requires : tie.Need-rest-requires Inv-loop μ-loop
+rest-requires c κs = search needs
 
 loop-less : tie.Need-loop-less Inv-loop μ-loop
-loop-less c = omega arith
+loop-less c =
+    let left = c .before .before .before .before .loop .left in
+    subst (λ (s : ℕ). length (membersOf s) < length (membersOf left)) (sym (c .rest .ensures)) (fewer-left left (c .before .before .before .before .loop .inv .within) (c .before .before .before .loop-test .taken))
 
 loop-again : tie.Need-loop-again Inv-loop μ-loop
 loop-again c =
-    let a = c .before .before .before .before .args in
-    let at = c .before .before .before .loop in
-    (omega arith, c .with-named .ensures ∙ over-next (a .closures .now) (a .index) (a .names) (at .lower) (at .closure) (at .inv .1))
+    let a = c .before .before .before .before .before .before .args in
+    let loop = c .before .before .before .before .loop in
+    subst (Putting (a .closures .now) (a .index) (a .names) _) (sym (c .rest .ensures))
+    (putting-next (a .closures .now) (a .index) (a .names) (loop .closure) (loop .left) (loop .inv) (c .before .before .before .loop-test .taken) _ (c .before .before .lowest .ensures) (small (c .before .before)))
 
 returns : tie.Need-returns Inv-loop μ-loop
-returns c =
-    let a = c .before .before .args in
-    let at = c .before .loop in
-    let end : at .lower ≡ a .index = omega arith in
-    at .inv .1 ∙ ap (λ (n : ℕ). joined (only (a .index)) (united (a .closures .now) (a .names) n)) end
+returns c = putting-end _ _ _ _ _ (c .before .loop .inv) (c .loop-test .left)
 
 pub closure-over-spec : {M : Type 1} → statement M
 closure-over-spec =
@@ -56,11 +72,14 @@ closure-over-spec =
     Inv-loop
     μ-loop
     shl-closure
+    below-requires
     loop-holds
-    mul-with-named
-    element-copy-out-with-named
-    with-named-requires
-    add-lower
+    lowest-requires
+    cast-lower
+    mul-closure
+    element-copy-out-closure
+    shl-closure-2
+    rest-requires
     loop-less
     loop-again
     returns)

@@ -3,23 +3,16 @@ use Prim.Native.Nat.{ℕ, _+_, _<_}
 use mathlib.Core.Path.{_≡_, sym, ap, _∙_, subst}
 use native.Mathlib.Omega.{arith}
 use lib.ListN.{length}
-use Rattle.sets.specs.Sets.{without, below}
-use Rattle.stream_lists.specs.Lists.{inOrder}
+use Rattle.sets.specs.Sets.{membersOf}
 use Rattle.stream_lists.proofs.Closing.{Looking, looking-start, looking-less, looking-more, looking-escaped, looking-end}
 use Rattle.stream_lists.proofs.closed.Statement.{statement}
 use Rattle.stream_lists.proofs.closed.Tie as tie
-use Rattle.stream_lists.proofs.closed.Reads as reads
-use Rattle.stream_lists.proofs.closed.Lts as lts
-use Rattle.sets.proofs.below.Reads as below-reads
-use Rattle.sets.proofs.lowest.Reads as lowest-reads
-use Rattle.sets.proofs.without.Reads as without-reads
-use Rattle.stream_lists.proofs.escapes.Reads as escapes-reads
 
 abbrev Inv-loop : tie.InvT-loop
 Inv-loop layers present left₀ left = Looking layers present left
 
 abbrev μ-loop : tie.MeasureT-loop
-μ-loop layers present left₀ left = length (inOrder left)
+μ-loop layers present left₀ left = length (membersOf left)
 
 loop-holds : tie.Need-loop-holds Inv-loop μ-loop
 loop-holds c = looking-start _ _ (omega arith)
@@ -39,36 +32,23 @@ returns c =
     looking-escaped (a .layers) (a .present) _ (c .before .before .before .before .loop .inv) (c .before .before .before .loop-test .taken) _
     (c .before .before .lowest .ensures) (sym (c .before .escapes .ensures) ∙ c .if1 .taken)
 
-add-below : tie.Need-add-below Inv-loop μ-loop
-add-below c = omega arith
-
-below-requires : tie.Need-below-requires Inv-loop μ-loop
-below-requires c κs = tt
-
-without-requires : tie.Need-without-requires Inv-loop μ-loop
-without-requires c κs = tt
-
--- what is left after a turn: the members above this one
-turned : (c : lts.After-without (lowest-reads.Asked, lowest-reads.Learnt, escapes-reads.Asked, escapes-reads.Learnt, below-reads.Asked, below-reads.Learnt, without-reads.Asked, without-reads.Learnt) reads.Pre reads.Post Inv-loop μ-loop)
-    → c .without .result
-    ≡ without (c .before .before .before .before .before .before .loop .left)
-    (below (c .before .before .before .before .before .before .loop .left) (c .before .before .before .before .lowest .result + 1))
-turned c = c .without .ensures ∙ ap (without (c .before .before .before .before .before .before .loop .left)) (c .before .below .ensures)
+rest-requires : tie.Need-rest-requires Inv-loop μ-loop
+rest-requires c κs = tt
 
 loop-less : tie.Need-loop-less Inv-loop μ-loop
 loop-less c =
-    let a = c .before .before .before .before .before .before .before .args in
-    let at = c .before .before .before .before .before .before .loop in
-    subst (λ (n : ℕ). length (inOrder n) < length (inOrder (at .left))) (sym (turned c))
-    (looking-less (a .layers) (a .present) (at .left) (at .inv) (c .before .before .before .before .before .loop-test .taken) _ (c .before .before .before .before .lowest .ensures))
+    let a = c .before .before .before .before .before .before .args in
+    let at = c .before .before .before .before .before .loop in
+    subst (λ (n : ℕ). length (membersOf n) < length (membersOf (at .left))) (sym (c .rest .ensures))
+    (looking-less (a .layers) (a .present) (at .left) (at .inv) (c .before .before .before .before .loop-test .taken) _ (c .before .before .before .lowest .ensures))
 
 loop-again : tie.Need-loop-again Inv-loop μ-loop
 loop-again c =
-    let a = c .before .before .before .before .before .before .before .args in
-    let at = c .before .before .before .before .before .before .loop in
-    subst (Looking (a .layers) (a .present)) (sym (turned c))
-    (looking-more (a .layers) (a .present) (at .left) (at .inv) (c .before .before .before .before .before .loop-test .taken) _ (c .before .before .before .before .lowest .ensures)
-    (sym (c .before .before .before .escapes .ensures) ∙ c .before .before .if1 .left))
+    let a = c .before .before .before .before .before .before .args in
+    let at = c .before .before .before .before .before .loop in
+    subst (Looking (a .layers) (a .present)) (sym (c .rest .ensures))
+    (looking-more (a .layers) (a .present) (at .left) (at .inv) (c .before .before .before .before .loop-test .taken) _ (c .before .before .before .lowest .ensures)
+    (sym (c .before .before .escapes .ensures) ∙ c .before .if1 .left))
 
 returns-2 : tie.Need-returns-2 Inv-loop μ-loop
 returns-2 c =
@@ -86,9 +66,7 @@ closed-spec =
     cast-index
     escapes-requires
     returns
-    add-below
-    below-requires
-    without-requires
+    rest-requires
     loop-less
     loop-again
     returns-2)

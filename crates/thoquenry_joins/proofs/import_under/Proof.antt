@@ -11,7 +11,7 @@ use Rattle.es_loop.specs.declared.reader.Outcome.{Outcome}
 use Rattle.loop_layers.specs.declared.layer_sets.LayersRead.{LayersRead}
 use Rattle.rows.specs.Table.{Table, table}
 use Rattle.unit_lists.specs.Sequence.{Lists, lists}
-use Rattle.joining.specs.Joining.{roomOf}
+use Rattle.join_answers.specs.Joining.{roomOf}
 use Rattle.importing.specs.Importing.{importFor}
 use Rattle.thoquenry_joins.specs.Joins.{withSummary, JoinReply, joinReply}
 use Rattle.thoquenry_joins.proofs.Joined.{left-as}

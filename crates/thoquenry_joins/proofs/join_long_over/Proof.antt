@@ -4,8 +4,8 @@ use mathlib.Core.Path.{sym, _∙_, ap}
 use lib.ListN.{length}
 use Rattle.rows.specs.Table.{table}
 use Rattle.unit_lists.specs.Sequence.{lists}
-use Rattle.joining.specs.Joining.{roomOf, joinedOf, mostLong}
-use Rattle.joining.specs.Steps.{spaces}
+use Rattle.join_answers.specs.Joining.{roomOf, joinedOf, mostLong}
+use Rattle.join_answers.specs.Steps.{spaces}
 use Rattle.thoquenry_joins.proofs.Rooms.{barred, alike-joined}
 use Rattle.thoquenry_joins.proofs.Joined.{left-short, left-whole}
 use borrow.Author.Needs.{needs}

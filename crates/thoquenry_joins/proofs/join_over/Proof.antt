@@ -4,7 +4,7 @@ use mathlib.Core.Path.{sym, _∙_, ap}
 use lib.ListN.{length}
 use Rattle.rows.specs.Table.{table, mostRows}
 use Rattle.unit_lists.specs.Sequence.{lists}
-use Rattle.joining.specs.Joining.{roomOf, joinedOf}
+use Rattle.join_answers.specs.Joining.{roomOf, joinedOf}
 use Rattle.thoquenry_joins.proofs.Rooms.{barred, alike-joined}
 use Rattle.thoquenry_joins.proofs.Joined.{left-short, left-whole}
 use borrow.Author.Needs.{needs}

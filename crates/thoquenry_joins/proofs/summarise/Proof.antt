@@ -5,7 +5,7 @@ use mathlib.Core.Path.{sym, _∙_, ap}
 use mathlib.Core.List.{[], _∷_}
 use lib.ListN.{length-set}
 use Rattle.buffers.proofs.Laws.{sets-over}
-use Rattle.joining.specs.declared.answer.Joined.{Joined}
+use Rattle.join_answers.specs.declared.answer.Joined.{Joined}
 use Rattle.thoquenry_joins.specs.Joins.{joinedAnswer, summaryAfter}
 use native.Mathlib.Omega.{arith}
 use borrow.Author.Needs.{needs}

@@ -5,8 +5,8 @@ use lib.ListN.{length}
 use Rattle.closure.specs.declared.Layers.{Layers}
 use Rattle.rows.specs.Table.{table}
 use Rattle.unit_lists.specs.Sequence.{lists}
-use Rattle.joining.specs.Joining.{mostLong}
-use Rattle.joining.specs.Steps.{spaces}
+use Rattle.join_answers.specs.Joining.{mostLong}
+use Rattle.join_answers.specs.Steps.{spaces}
 use Rattle.thoquenry_joins.specs.Joins.{joinOver}
 use Rattle.thoquenry_joins.proofs.Joined.{left-as}
 use borrow.Author.Needs.{needs}

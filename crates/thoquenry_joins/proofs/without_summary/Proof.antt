@@ -1,7 +1,7 @@
 -- `without_summary` meets its contract: the arm that was taken says what joining answered.
 -- Assumes nothing.
 use mathlib.Core.Path.{sym, _∙_, ap}
-use Rattle.joining.specs.declared.answer.Joined.{Joined}
+use Rattle.join_answers.specs.declared.answer.Joined.{Joined}
 use Rattle.thoquenry_joins.specs.Joins.{withSummary, joinedAnswer}
 use native.Mathlib.Omega.{arith}
 use borrow.Author.Needs.{needs}

@@ -8,14 +8,14 @@ use native.Mathlib.Omega.{arith}
 use borrow.Author.Needs.{needs}
 use lib.ListN.{getD}
 use Rattle.combinators.specs.Gathering.{Gathered, gathered-start, gathered-room, gathered-more, gathered-same, gathered-count, gathered-array}
-use Rattle.assembling.specs.Assemblies.{isEdge, edgesOf, joins}
-use Rattle.assembling.proofs.Skipping.{gathered-next}
+use Rattle.assembling.specs.Assemblies.{isEdge, edgesOf, mostEdges, joins}
+use Rattle.assembling.proofs.Skipping.{gathered-next, few-edges}
 use Rattle.assembling.proofs.assembly.edges_of.Statement.{statement}
 use Rattle.assembling.proofs.assembly.edges_of.Tie as tie
 
 abbrev Inv-loop : tie.InvT-loop
 Inv-loop closure layers list₀ count₀ edge₀ list count edge =
-    Gathered (isEdge layers closure) 4096 edge count list
+    Gathered (isEdge layers closure) 4096 mostEdges edge count list
 
 abbrev μ-loop : tie.MeasureT-loop
 μ-loop closure layers list₀ count₀ edge₀ list count edge =
@@ -32,7 +32,7 @@ tested c =
     ∙ ap₂ (λ (u l : ℕ). joins (a .closure) (getD (a .t1 .embedded) u 0) u l) (c .before .before .before .upper-of .ensures) (c .before .lower-of .ensures)
 
 loop-holds : tie.Need-loop-holds Inv-loop μ-loop
-loop-holds c = gathered-start _ _
+loop-holds c = gathered-start _ _ _
 
 upper-of-requires : tie.Need-upper-of-requires Inv-loop μ-loop
 upper-of-requires c κs = search needs
@@ -52,14 +52,21 @@ is-edge-requires c κs = search needs
 cast-list : tie.Need-cast-list Inv-loop μ-loop
 cast-list c = omega arith
 
+-- there is room for an edge
+room : (c : tie.Then1 Inv-loop μ-loop) → c .before .before .before .before .before .before .loop .count < 2016
+room c =
+    let a = c .before .before .before .before .before .before .before .args in
+    gathered-room (isEdge (a .t1) (a .closure)) 4096 2016 _ _ _ (c .before .before .before .before .before .before .loop .inv) (c .before .before .before .before .before .loop-test .taken)
+    (few-edges (a .t1) (a .closure)) (sym (tested (c .before)) ∙ c .if1 .taken)
+
 mul-list : tie.Need-mul-list Inv-loop μ-loop
-mul-list c = omega (arith, gathered-room _ _ _ _ _ (c .before .before .before .before .before .before .loop .inv) (c .before .before .before .before .before .loop-test .taken))
+mul-list c = omega (arith, room c)
 
 array-write-list : tie.Need-array-write-list Inv-loop μ-loop
-array-write-list c = omega (arith, gathered-room _ _ _ _ _ (c .before .before .before .before .before .before .loop .inv) (c .before .before .before .before .before .loop-test .taken))
+array-write-list c = omega (arith, room c)
 
 add-count : tie.Need-add-count Inv-loop μ-loop
-add-count c = omega (arith, gathered-room _ _ _ _ _ (c .before .before .before .before .before .before .loop .inv) (c .before .before .before .before .before .loop-test .taken))
+add-count c = omega (arith, room c)
 
 next-edge-requires : tie.Need-next-edge-requires Inv-loop μ-loop
 next-edge-requires c κs = omega arith
@@ -74,8 +81,8 @@ loop-again c =
     let more = c .before .before .before .before .before .before .loop-test .taken in
     gathered-next (a .t1) (a .closure) (at .edge) _ _ _ _
     (⊎-elim
-    (λ w. rw (w .1, w .2) (gathered-more _ 4096 _ _ _ (at .inv) more (sym (tested (c .before .before)) ∙ w .0 .taken)))
-    (λ w. rw (w .1, w .2) (gathered-same _ 4096 _ _ _ (at .inv) more (sym (tested (c .before .before)) ∙ w .0 .left)))
+    (λ w. rw (w .1, w .2) (gathered-more (isEdge (a .t1) (a .closure)) 4096 2016 _ _ _ (at .inv) more (few-edges (a .t1) (a .closure)) (sym (tested (c .before .before)) ∙ w .0 .taken)))
+    (λ w. rw (w .1, w .2) (gathered-same _ 4096 2016 _ _ _ (at .inv) more (sym (tested (c .before .before)) ∙ w .0 .left)))
     (c .before .if1 .came))
     (c .before .before .before .before .before .upper-of .ensures) (c .next-edge .ensures)
 
@@ -83,8 +90,8 @@ returns : tie.Need-returns Inv-loop μ-loop
 unfolding edgesOf
 returns c =
     let at = c .before .loop in
-    let counted = gathered-count _ 4096 _ _ _ (at .inv) (c .loop-test .left) in
-    let filled = gathered-array _ 4096 _ _ _ (at .inv) (c .loop-test .left) in cc
+    let counted = gathered-count _ 4096 mostEdges _ _ _ (at .inv) (c .loop-test .left) in
+    let filled = gathered-array _ 4096 mostEdges _ _ _ (at .inv) (c .loop-test .left) in cc
 
 pub edges-of-spec : {M : Type 1} → statement M
 edges-of-spec =

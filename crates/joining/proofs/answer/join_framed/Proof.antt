@@ -11,8 +11,8 @@ use Rattle.spans.specs.Spans.{wideSpan}
 use Rattle.heads.specs.Units.{Frame, frame}
 use Rattle.unit_lists.specs.Sequence.{unitRows, unitSizes, Lists, lists}
 use Rattle.unit_lists.proofs.Written.{writable, written}
-use Rattle.joining.specs.Joining.{closureRows, tooSmall, roomOf}
-use Rattle.joining.proofs.Rooms.{rows-fit, sizes-fit}
+use Rattle.join_answers.specs.Joining.{closureRows, tooSmall, roomOf}
+use Rattle.join_answers.proofs.Rooms.{rows-fit, sizes-fit}
 use Rattle.joining.proofs.Answering.{index-ready, whole-frame, unpaired-answer, shared-answer, wide-answer, room-answer, units-answer, paired-first, apart-first, held, Enough, enough}
 use Rattle.joining.proofs.answer.join_framed.Statement.{statement}
 use Rattle.joining.proofs.answer.join_framed.Tie as tie
@@ -102,7 +102,7 @@ returns-3 c = (
 )
 
 closure-rows-requires : tie.Need-closure-rows-requires
-closure-rows-requires c κs = search needs
+closure-rows-requires c κs = c .before .before .before .before .before .before .before .before .before .before .before .before .before .before .before .before .before .before .before .before .before .before .before .before .before .before .before .before .before .before .before .before .before .pre .1
 
 too-small-requires : tie.Need-too-small-requires
 too-small-requires c κs = search needs

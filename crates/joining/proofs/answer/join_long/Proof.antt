@@ -8,8 +8,8 @@ use Rattle.closure.specs.Closures.{closureOf}
 use Rattle.rows.specs.Table.{table}
 use Rattle.heads.proofs.Orderly.{closed}
 use Rattle.unit_lists.specs.Sequence.{lists}
-use Rattle.joining.specs.Joining.{joinedIn, roomOf, mostLong}
-use Rattle.joining.specs.Steps.{spaces}
+use Rattle.join_answers.specs.Joining.{joinedIn, roomOf, mostLong}
+use Rattle.join_answers.specs.Steps.{spaces}
 use Rattle.joining.proofs.Held.{most-held}
 use Rattle.joining.proofs.Answering.{same-lists}
 use Rattle.joining.proofs.answer.join_long.Statement.{statement}

@@ -12,19 +12,19 @@ use Rattle.assembling.specs.Assemblies.{edgesOf}
 use Rattle.heads.specs.Units.{Frame}
 use Rattle.heads.proofs.Orderly.{claimable}
 use Rattle.unit_lists.specs.Sequence.{lists}
-use Rattle.joining.specs.Joining.{unitsJoined, roomOf}
-use Rattle.joining.specs.Steps.{framedLists}
+use Rattle.join_answers.specs.Joining.{unitsJoined, roomOf}
+use Rattle.join_answers.specs.Steps.{framedLists}
 use Rattle.joining.proofs.Answering.{part-is, part-fits, marks-are, part-held, frame-is, joinable}
 use Rattle.joining.proofs.answer.join_ordered.Statement.{statement}
 use Rattle.joining.proofs.answer.join_ordered.Tie as tie
 
 -- the edges that it lends
 edges-are : (c : tie.After-edges-of) → take (c .edges-of .result .count) (c .edges-of .result .list) ≡ edgesOf (c .before .before .before .before .before .before .before .before .before .before .before .before .before .before .before .before .before .before .args .layers) (c .before .before .before .before .before .before .before .before .before .before .before .before .before .before .before .before .before .before .args .closure)
-edges-are c = part-is 4096 _ _ _ (ap (λ (e : Edges). e .count) (c .edges-of .ensures)) (ap (λ (e : Edges). e .list) (c .edges-of .ensures))
+edges-are c = part-is 2016 _ _ _ (ap (λ (e : Edges). e .count) (c .edges-of .ensures)) (ap (λ (e : Edges). e .list) (c .edges-of .ensures))
 
 edges-fit : (c : tie.After-edges-of) → c .edges-of .result .count ≤ length (c .edges-of .result .list)
 edges-fit c =
-    part-fits 4096 _ (edgesOf (c .before .before .before .before .before .before .before .before .before .before .before .before .before .before .before .before .before .before .args .layers) (c .before .before .before .before .before .before .before .before .before .before .before .before .before .before .before .before .before .before .args .closure)) _ (ap (λ (e : Edges). e .count) (c .edges-of .ensures)) (ap (λ (e : Edges). e .list) (c .edges-of .ensures))
+    part-fits 2016 _ (edgesOf (c .before .before .before .before .before .before .before .before .before .before .before .before .before .before .before .before .before .before .args .layers) (c .before .before .before .before .before .before .before .before .before .before .before .before .before .before .before .before .before .before .args .closure)) _ (ap (λ (e : Edges). e .count) (c .edges-of .ensures)) (ap (λ (e : Edges). e .list) (c .edges-of .ensures))
 
 starts-of-requires : tie.Need-starts-of-requires
 starts-of-requires c κs = c .before .before .before .before .before .before .before .before .before .before .before .before .pre .0 .1 .within
@@ -36,7 +36,7 @@ edges-of-requires : tie.Need-edges-of-requires
 edges-of-requires c κs = search needs
 
 own-sets-requires : tie.Need-own-sets-requires
-own-sets-requires c κs = search needs
+own-sets-requires c κs = (c .before .before .before .before .before .before .before .before .before .before .before .before .before .before .before .before .before .before .before .pre .0 .0, c .before .before .before .before .before .before .before .before .before .before .before .before .before .before .before .before .before .before .before .pre .0 .1 .closed-over)
 
 mark-claimed-requires : tie.Need-mark-claimed-requires
 mark-claimed-requires c κs =

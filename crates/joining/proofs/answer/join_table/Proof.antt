@@ -6,8 +6,8 @@ use Rattle.rows.specs.Table.{Table, table}
 use Rattle.rows.proofs.Verdicts.{sound, shape-short}
 use Rattle.heads.proofs.Orderly.{orderly-by}
 use Rattle.unit_lists.specs.Sequence.{lists}
-use Rattle.joining.specs.declared.answer.Joined.{Joined}
-use Rattle.joining.specs.Joining.{frameOf, unitsJoined, joinedBy, roomOf}
+use Rattle.join_answers.specs.declared.answer.Joined.{Joined}
+use Rattle.join_answers.specs.Joining.{frameOf, unitsJoined, joinedBy, roomOf}
 use Rattle.joining.proofs.Held.{fewer-held}
 use Rattle.joining.proofs.answer.join_table.Statement.{statement}
 use Rattle.joining.proofs.answer.join_table.Tie as tie

@@ -6,7 +6,7 @@ use mathlib.Core.Path.{_≡_, refl, sym, ap, _∙_}
 use native.Mathlib.Omega.{arith}
 use lib.ListN.{length, getD, length-set}
 use Rattle.kept_closures.specs.Kept.{columns}
-use Rattle.kept_closures.proofs.Worked.{each-only}
+use Rattle.combinators.specs.Each.{each-only}
 use Rattle.layer_set_rows.specs.Buffers.{numberOf, storedNumbers}
 use borrow.Author.Needs.{needs}
 use Rattle.layer_set_rows.proofs.laying.lay_stored.Statement.{statement}

@@ -1,6 +1,6 @@
 -- `stream_lists::insertion::place_before` meets its contract: the index first, then what goes before it (Inserting). Assumes nothing.
 use native.Mathlib.Omega.{arith}
-use Rattle.stream_lists.proofs.Ordered.{order-length}
+use Rattle.sets.proofs.Members.{members-size}
 use Rattle.stream_lists.proofs.Inserting.{ready-first, before-nothing, before-short, before-room, before-inside, before-all}
 use borrow.Author.Needs.{needs}
 use Rattle.stream_lists.proofs.insertion.place_before.Statement.{statement}
@@ -42,7 +42,7 @@ add-result c =
     let begin = c .before .before .before .before .before .before .before .before in
     let a = begin .args in
     let added = c .before .before .before .before .before .before .add in
-    omega (arith, before-room (a .members .now) (a .count) (a .present) (a .index) (a .new) (begin .pre) _ _ (added .ensures .0) (added .ensures .1), c .size .ensures, order-length (a .new))
+    omega (arith, before-room (a .members .now) (a .count) (a .present) (a .index) (a .new) (begin .pre) _ _ (added .ensures .0) (added .ensures .1), c .size .ensures, members-size (a .new))
 
 returns-2 : tie.Need-returns-2
 returns-2 c =

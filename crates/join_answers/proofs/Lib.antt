@@ -1,0 +1,9 @@
+pub mod Framing
+pub mod Cases
+pub mod Contents
+pub mod Rooms
+pub mod Meant
+pub mod EveryRow
+pub mod Examples
+pub mod OwnSets
+pub mod ClosureRows
