@@ -1,4 +1,5 @@
 pub mod Parts
 pub mod Tables
 pub mod Points
+pub mod Values
 pub mod Meaning
