@@ -12,6 +12,8 @@ mod entries;
 mod join;
 mod layer_sets;
 mod loops;
+mod point_lists;
+mod points;
 mod stereo;
 mod times;
 
@@ -20,6 +22,11 @@ pub use entries::{Embedded, Entry, Extension, Hierarchy, Record};
 pub use join::{import, join, join_by_search, join_long, Columns, Lists, Rows, Units, MOST_ROWS};
 pub use layer_sets::{KeptSet, Layer, LayerSet};
 pub use loops::{read_loop, read_loop_with, write_loop, LONGEST_LOOP};
+pub use point_lists::{descriptor_of_lists, PointLists, POINT_NUMBERS};
+pub use points::{
+    read_points, write_points, FrameRate, LayerFlags, Point, PointDescriptor, Profile,
+    ProgramPoints, Reference, StreamList,
+};
 pub use stereo::{read_stereo, write_stereo, MvcExtension, StereoSet};
 pub use times::{distance, lag, read_times, write_times, Header, Times};
 
