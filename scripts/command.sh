@@ -15,12 +15,17 @@ wrong() {
     exit 2
 }
 
-# Takes a file as standard input, or standard input itself for `-`.
-take_input() {
-    [ "$1" != - ] || return 0
+# Ends where a file is none that can be read.
+may_be_read() {
     [ -e "$1" ] || wrong "$1: there is no such file"
     [ ! -d "$1" ] || wrong "$1: this is a directory"
     [ -r "$1" ] || wrong "$1: this file cannot be read (permission denied)"
+}
+
+# Takes a file as standard input, or standard input itself for `-`.
+take_input() {
+    [ "$1" != - ] || return 0
+    may_be_read "$1"
     # shellcheck disable=SC2217  # the shell's own standard input
     exec <"$1" || wrong "$1: this file cannot be opened"
 }

@@ -2,8 +2,8 @@
 
 mod common;
 
-use common::{bytes, file, same};
-use plain::{PointLists, Reading, Refusal, POINT_NUMBERS};
+use common::{bytes, file, same, ROOT};
+use plain::{FrameRate, Point, PointLists, Reading, Refusal, StreamList, POINT_NUMBERS};
 use std::fmt::Write;
 
 /// The parts of a line, one that is not there empty.
@@ -239,4 +239,62 @@ fn accepted_points() {
         points > 60 && closed > 40 && closed < points && descriptors > 60,
         "{points} {closed} {descriptors}"
     );
+}
+
+/// What `points` prints of a point after its number.
+fn line(point: &Point, list: &StreamList) -> String {
+    let told = |rate: Option<u32>| rate.map_or("none".to_string(), |rate| rate.to_string());
+    let rate = match point.frame_rate {
+        None => "frame_rate none".to_string(),
+        Some(FrameRate::Ticks(ticks)) => format!("frame_ticks {ticks}"),
+        Some(FrameRate::PerSecond(frames)) => format!("frame_rate {frames}"),
+        Some(FrameRate::Per1001Milliseconds(frames)) => format!("frame_rate {frames}/1.001"),
+    };
+    let members: Vec<String> = list.members.iter().map(u8::to_string).collect();
+    format!(
+        "target_ols {} temporal_id {} {rate} average {} maximum {} closed {} streams {}",
+        point.target_ols,
+        point.temporal_id,
+        told(point.average_bit_rate),
+        told(point.maximum_bit_rate),
+        if list.closed { "yes" } else { "no" },
+        if members.is_empty() {
+            "none".to_string()
+        } else {
+            members.join(" ")
+        }
+    )
+}
+
+/// What `points` prints of two loops.
+fn lines(program: &[u8], streams: &[u8]) -> String {
+    let read = match plain::read_points(program, streams) {
+        Err(Refusal { number, place }) => return format!("refused {number} entry {place}\n"),
+        Ok(read) => read,
+    };
+    let mut text = format!("accepted {}\n", read.streams.len());
+    for (number, (point, list)) in read.points().enumerate() {
+        writeln!(text, "point {number} {}", line(point, list)).unwrap();
+    }
+    text
+}
+
+#[test]
+fn samples() {
+    let sample = |name: &str| std::fs::read(format!("{ROOT}samples/{name}.bin")).expect(name);
+    let text = |name: &str| file(&format!("tests/points/{name}.txt"));
+    let streams = sample("mv-hevc");
+    for name in ["views", "none", "does-not-fit", "reserved", "unknown"] {
+        same(
+            &lines(&sample(&format!("points/{name}")), &streams),
+            &text(name),
+        );
+    }
+    let views = sample("points/views");
+    same(&lines(&[], &[]), &text("empty"));
+    same(&lines(&[], &streams), &text("empty"));
+    same(&lines(&[0; 1009], &streams), &text("too-long"));
+    same(&lines(&views, &[0; 1009]), &text("loop-too-long"));
+    same(&lines(&views, &sample("refused")), &text("refused-loop"));
+    same(&lines(&views, &sample("absent")), &text("unknown"));
 }
