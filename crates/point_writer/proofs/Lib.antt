@@ -1,0 +1,4 @@
+pub mod Walking
+pub mod Heads
+pub mod Lengths
+pub mod Judged
