@@ -300,6 +300,79 @@ uint64_t thq_write_stereo(const uint16_t *entries, size_t entries_length, const 
                           size_t out_length);
 
 /*
+ * One operation point of a program (Table 2-111bis of the 2015 amendment): 12 numbers of 32 bits each, 48 bytes, in the machine's byte order. Numbers 0 to 9 are the fields
+ * of its table, 7, 8 and 9 with 0 where the field is not there: frame_rate_indicator is there where constant_frame_rate_info_idc is not 0, and each of the two rates, in
+ * thousands of bits a second, where its flag is 1. The last two are worked out, and not looked at where a point is given.
+ *
+ *     number  bytes    field                           bits
+ *     0       0..3     target_ols                      8
+ *     1       4..7     ES_count                        8      the number of its references
+ *     2       8..11    numEsInOp                       6      the number of its layers
+ *     3       12..15   avg_bit_rate_info_flag          1
+ *     4       16..19   max_bit_rate_info_flag          1
+ *     5       20..23   constant_frame_rate_info_idc    2      0, or what the indicator tells: ticks, frames a second, frames in 1.001 seconds
+ *     6       24..27   applicable_temporal_id          3      the highest TemporalId
+ *     7       28..31   frame_rate_indicator            12
+ *     8       32..35   avg_bit_rate                    24
+ *     9       36..39   max_bit_rate                    24
+ *     10      40..43   streams                                the number of the members of its stream list
+ *     11      44..47   closed                                 1 where that list has every layer that a member of it names, and else 0
+ *
+ * What a point has several of stands in lists that all points share, in the order of the points:
+ *
+ *     references   a byte each: prepend_dependencies times 64, plus ES_reference, which is a layer index
+ *     layers       a byte each: necessary_layer_flag times 128, plus output_layer_flag times 64, plus ptl_ref_idx, which counts the profiles of all descriptors from 0 on
+ *     streams      a byte each: a layer index
+ *
+ * and `profiles` is 12 bytes for each profile_tier_level_info, kept whole and not looked into.
+ */
+typedef struct thq_point {
+    uint32_t target_ols;
+    uint32_t es_count;
+    uint32_t num_es_in_op;
+    uint32_t avg_bit_rate_info_flag;
+    uint32_t max_bit_rate_info_flag;
+    uint32_t constant_frame_rate_info_idc;
+    uint32_t applicable_temporal_id;
+    uint32_t frame_rate_indicator;
+    uint32_t avg_bit_rate;
+    uint32_t max_bit_rate;
+    uint32_t streams;
+    uint32_t closed;
+} thq_point;
+
+#define THQ_POINT_NUMBERS 12
+
+/*
+ * Reads the operation points of a program, by the 2015 reading: out of every operation point descriptor (tag 63, extension tag 5) in `program`, the program's own descriptor loop,
+ * which is what stands in program_info, over the layers of the elementary-stream loop `bytes`. `descriptors` receives two numbers for each descriptor, num_ptl and
+ * operation_points_count; `profiles` the profiles of all descriptors, in order; `points`, `references`, `layers` and `streams` what is laid out above. `summary` receives six
+ * numbers: how many descriptors, profiles, points, references, layers and streams these are. Counts the points.
+ *
+ * The stream list of a point is built by its references in order: each is put at the end where it is not present yet; and then, where its prepend_dependencies is 1, the
+ * layers that it names (a base layer names none) and that are not present yet, immediately before its place, in ascending order. Other descriptors are skipped, and so is tag 63 of
+ * length 0. Lists of 402, 1,008, 3,024, 1,008, 1,008 and 12,864 places hold what any program has.
+ * Refusals: 1 to 9 of `bytes`, at an entry; then 40 where `program` is longer than 1,008 bytes, a descriptor runs past it, or the fields of an operation point descriptor do not
+ * fill its length exactly; 41 where an ES_count is 255, which ends its descriptor, so that what stands behind it gives no 40; 42 where a reference, or a layer to be put before it, is no
+ * layer of the loop; then 17 where a list is shorter than what it is to receive, or `summary` than 6.
+ */
+uint64_t thq_read_points(const uint8_t *program, size_t program_length, const uint8_t *bytes, size_t bytes_length, uint32_t *descriptors,
+                         size_t descriptors_length, uint8_t *profiles, size_t profiles_length, uint32_t *points, size_t points_length,
+                         uint8_t *references, size_t references_length, uint8_t *layers, size_t layers_length, uint8_t *streams,
+                         size_t streams_length, uint32_t *summary, size_t summary_length);
+
+/*
+ * Writes one operation point descriptor, its tag and length included: the profiles, 12 bytes each, and the points, 12 numbers each, with their references and layers, all laid out as
+ * above. Counts the bytes written to `out`, at most 257.
+ * Refusals: 25 first, where a value is too wide for its field, a reference above 127 among them; where a field is other than 0 that is not there; where `profiles` or `points` is no multiple of 12
+ * long, or `references` or `layers` not as long as the points say; and for more than 63 profiles, 255 points, 255 references or 63 layers. Then 41 for a point of 255 references; then 25
+ * for a descriptor_length above 255; then 17.
+ */
+uint64_t thq_write_points(const uint8_t *profiles, size_t profiles_length, const uint32_t *points, size_t points_length,
+                          const uint8_t *references, size_t references_length, const uint8_t *layers, size_t layers_length, uint8_t *out,
+                          size_t out_length);
+
+/*
  * A LAYER SET, which changes as layers come and go: two buffers of fixed length, which the caller owns and the functions below fill.
  *
  * `layers` is 64 entries of 80 numbers each, as laid out above, one for each layer index: entry i is the layer of index i, or 80 zeros where the set

@@ -4,7 +4,7 @@ another: the functions' names, and the name, number, order, width and constness 
 parameter of the source is a pointer and, after it, a length. (ctypes does not say whether a pointer is const, so there it is not compared.)
 
 It also holds to one another
-  - the header's tables of an entry's numbers and of an MVC extension descriptor's, each with its struct, the struct of a layer set and the lengths of its buffers, and
+  - the header's tables of an entry's numbers, of an MVC extension descriptor's and of an operation point's, each with its struct, the struct of a layer set and the lengths of its buffers, and
     Rust's constants and the header's;
   - the refusals: the table of words (words/refusals.tsv), C's enum, Rust's constants and enum, Python's enum and the source's own enum
     (crates/vocabulary/src/refusal.rt) have the same numbers under the same names, with a place or without; every number has words of its own,
@@ -55,7 +55,7 @@ def kind_of(text, kinds, where):
 
 def c_functions(text):
     """Name to (result, parameters), each parameter (name, kind), of a header's prototypes."""
-    kinds = {"bool": "bool", "uint8_t": "u8", "uint16_t": "u16", "uint64_t": "u64", "int64_t": "i64", "size_t": "usize"}
+    kinds = {"bool": "bool", "uint8_t": "u8", "uint16_t": "u16", "uint32_t": "u32", "uint64_t": "u64", "int64_t": "i64", "size_t": "usize"}
     text = re.sub(r"/\*.*?\*/", "", text, flags=re.S)
     text = re.sub(r"^#.*$", "", text, flags=re.M)
     functions = {}
@@ -74,7 +74,7 @@ def c_functions(text):
 
 def rust_functions(text):
     """The same of the functions in Rust's `extern "C"` block."""
-    plain = ["bool", "u8", "u16", "u64", "i64", "usize"]
+    plain = ["bool", "u8", "u16", "u32", "u64", "i64", "usize"]
     kinds = {kind: kind for kind in plain + [f"*{way} {kind}" for way in ("const", "mut") for kind in plain]}
     text = re.sub(r"//.*", "", text)
     functions = {}
@@ -89,7 +89,7 @@ def rust_functions(text):
 
 def python_functions(text):
     """The same of the table DECLARATIONS; a pointer is '* u8'."""
-    kinds = {"c_bool": "bool", "c_uint8": "u8", "c_uint16": "u16", "c_uint64": "u64", "c_int64": "i64", "c_size_t": "usize", "c_char_p": "* u8"}
+    kinds = {"c_bool": "bool", "c_uint8": "u8", "c_uint16": "u16", "c_uint32": "u32", "c_uint64": "u64", "c_int64": "i64", "c_size_t": "usize", "c_char_p": "* u8"}
 
     def kind(node):
         if isinstance(node, ast.Call) and node.func.id == "POINTER":
@@ -112,7 +112,7 @@ def python_functions(text):
 
 def rattle_functions(text):
     """The same of the functions that the source exports; a slice is a pointer and a length."""
-    plain = {kind: kind for kind in ("bool", "u8", "u16", "u64", "i64", "usize")}
+    plain = {kind: kind for kind in ("bool", "u8", "u16", "u32", "u64", "i64", "usize")}
     text = re.sub(r"//.*", "", text)
     exported = re.findall(r'#\[no_mangle\]\s*pub extern "C" fn (\w+)\s*\(([^()]*)\)\s*->\s*(\w+)', text)
     if len(exported) != len(re.findall(r'extern "C"', text)):
@@ -148,14 +148,14 @@ def functions_differ(one, other, place):
     return found
 
 
-def layout_differs(text, struct_name, constant):
-    """What differs between a struct of the header and the table of its numbers, in the comment before it."""
+def layout_differs(text, struct_name, constant, bits=16):
+    """What differs between a struct of the header and the table of its numbers, of so many bits each, in the comment before it."""
     found = re.search(rf"/\*((?:(?!\*/).)*)\*/\s*(?:#define[^\n]*\s*)*typedef struct {struct_name} \{{(.*?)\}}", text, flags=re.S)
     if found is None:
         fail(f"{HEADER}: there is no struct {struct_name}, or no comment before it")
     comment, body = found.groups()
     struct, at = [], 0
-    for name, length in re.findall(r"uint16_t (\w+)(?:\[(\d+)\])?;", body):
+    for name, length in re.findall(rf"uint{bits}_t (\w+)(?:\[(\d+)\])?;", body):
         struct.append((at, at + int(length or 1) - 1, name))
         at += int(length or 1)
     rows = re.findall(r"^ \*     (\d+)(?:\.\.(\d+))?\s+(\d+)\.\.(\d+)\s+(\w+)", comment, flags=re.M)
@@ -166,9 +166,11 @@ def layout_differs(text, struct_name, constant):
     if [row[:2] for row in table] != [row[:2] for row in struct]:
         found.append(f"the table of numbers and the struct {struct_name} differ in their numbers")
     for (first, last, low, high, name), (_, _, called) in zip(table, struct):
-        if (low, high) != (2 * first, 2 * last + 1):
-            found.append(f"{struct_name}: number {first} stands in bytes {2 * first}..{2 * last + 1}")
-        if first < 16 and name.lower() != called:
+        low_byte, high_byte = bits // 8 * first, bits // 8 * (last + 1) - 1
+        if (low, high) != (low_byte, high_byte):
+            found.append(f"{struct_name}: number {first} stands in bytes {low_byte}..{high_byte}")
+        # numEsInOp is num_es_in_op in C
+        if first < 16 and name.lower().replace("_", "") != called.replace("_", ""):
             found.append(f"{struct_name}: number {first} is {name} in the table and {called} in the struct")
     return found
 
@@ -298,6 +300,7 @@ def all_differences(texts):
             + functions_differ(header, rattle_functions(texts[SOURCE]), SOURCE)
             + layout_differs(texts[HEADER], "thq_entry", "THQ_ENTRY_NUMBERS")
             + layout_differs(texts[HEADER], "thq_mvc_extension", "THQ_MVC_EXTENSION_NUMBERS")
+            + layout_differs(texts[HEADER], "thq_point", "THQ_POINT_NUMBERS", 32)
             + set_layout_differs(texts[HEADER])
             + constants_differ(texts[HEADER], texts[RUST])
             + refusals_differ(texts)
@@ -313,6 +316,11 @@ CHANGES = [
     (HEADER, "uint16_t view_order_index_min;", "uint16_t view_order_index_least;"),
     (HEADER, "    uint16_t no_sei_nal_unit_present;\n", ""),
     (HEADER, "#define THQ_MVC_EXTENSION_NUMBERS 8", "#define THQ_MVC_EXTENSION_NUMBERS 9"),
+    (HEADER, "    uint32_t frame_rate_indicator;\n", ""),
+    (HEADER, "uint32_t num_es_in_op;", "uint32_t number_of_streams;"),
+    (HEADER, " *     9       36..39 ", " *     9       36..40 "),
+    (HEADER, "#define THQ_POINT_NUMBERS 12", "#define THQ_POINT_NUMBERS 13"),
+    (HEADER, "const uint32_t *points", "const uint16_t *points"),
     (HEADER, "thq_entry layers[64]", "thq_entry layers[63]"),
     (HEADER, "uint64_t stored[THQ_SET_STORED]", "uint64_t stored[64]"),
     (HEADER, "#define THQ_SET_LAYERS 5120", "#define THQ_SET_LAYERS 5121"),
@@ -328,12 +336,15 @@ CHANGES = [
     (RUST, "embedded: *const u64", "embedded: *mut u64"),
     (RUST, "extensions: *const u16", "extensions: *mut u16"),
     (RUST, "THQ_MVC_EXTENSION_NUMBERS: usize = 8", "THQ_MVC_EXTENSION_NUMBERS: usize = 16"),
+    (RUST, "summary: *mut u32", "summary: *mut u64"),
+    (RUST, "THQ_POINT_NUMBERS: usize = 12", "THQ_POINT_NUMBERS: usize = 10"),
     (RUST, "pts: u64,\n        decoding: u64,", "decoding: u64,\n        pts: u64,"),
     (RUST, "THQ_REFUSED_TOO_WIDE: u64 = 25", "THQ_REFUSED_TOO_WIDE: u64 = 26"),
     (RUST, "pub const THQ_REFUSED_NO_PTS: u64 = 21;\n", ""),
     (PYTHON, '("indices", POINTER(c_uint8))', '("indices", POINTER(c_uint64))'),
     (PYTHON, '("present", c_uint64),', ""),
     (PYTHON, '("extensions", POINTER(c_uint16))', '("extensions", POINTER(c_uint8))'),
+    (PYTHON, '("points", POINTER(c_uint32))', '("points", POINTER(c_uint16))'),
     (PYTHON, '("layers", POINTER(c_uint16))', '("layers", POINTER(c_uint64))'),
     (PYTHON, '("bytes", c_char_p)', '("bytes", POINTER(c_uint16))'),
     (PYTHON, "libthoquenry.so.0.5", "libthoquenry.so.1"),

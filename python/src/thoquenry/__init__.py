@@ -8,7 +8,7 @@ this module stands in; or else the one that is installed. It is for x86-64 Linux
 """
 
 from array import array
-from ctypes import c_bool, c_int64, c_size_t, c_uint8, c_uint16, c_uint64
+from ctypes import c_bool, c_int64, c_size_t, c_uint8, c_uint16, c_uint32, c_uint64
 from dataclasses import astuple, dataclass, field
 from enum import IntEnum
 from itertools import chain, islice
@@ -20,9 +20,10 @@ from ._library import load
 from ._refusals import Number, Refused
 
 __all__ = [
-    "Component", "Entry", "Extension", "Header", "Hierarchy", "Implied", "Layer", "LayerSet", "MvcExtension", "Number", "Reading", "Refused", "Row",
-    "StereoSet", "Times", "Units",
-    "closure", "import_", "join", "join_long", "read_loop", "read_stereo", "read_times", "write_loop", "write_stereo", "write_times",
+    "Component", "Entry", "Extension", "FrameRate", "FrameRateKind", "Header", "Hierarchy", "Implied", "Layer", "LayerSet", "MvcExtension", "Number", "Point",
+    "PointDescriptor", "PointLayer", "PointStreams", "ProgramPoints", "Reading", "Reference", "Refused", "Row", "StereoSet", "Times", "Units",
+    "closure", "import_", "join", "join_long", "read_loop", "read_points", "read_stereo", "read_times", "write_loop", "write_points", "write_stereo",
+    "write_times",
 ]
 __version__ = "0.5.0"
 
@@ -38,6 +39,16 @@ _EMBEDDED_ROOM = 63
 
 # The numbers by which an MVC extension descriptor crosses to the library.
 _MVC_EXTENSION_NUMBERS = 8
+
+# The numbers by which an operation point crosses to the library, and the bytes of a profile; the most bytes of a descriptor; the least bytes of an operation point
+# descriptor, of a point, and of a point with a reference; and the most streams of a point.
+_POINT_NUMBERS = 12
+_PROFILE_BYTES = 12
+_DESCRIPTOR_BYTES = 257
+_LEAST_DESCRIPTOR = 5
+_LEAST_POINT = 4
+_LEAST_WITH_REFERENCE = 5
+_MOST_STREAMS = 64
 
 # The stream type of the second of two views.
 _MVC = 0x20
@@ -138,6 +149,94 @@ class StereoSet:
 
     entries: Tuple[Entry, Entry]
     extensions: Tuple[MvcExtension, MvcExtension]
+
+
+class FrameRateKind(IntEnum):
+    """What a frame rate counts: the ticks from one picture to the next, the frames in a second, or the frames in 1.001 seconds."""
+
+    TICKS = 1
+    PER_SECOND = 2
+    PER_1001_MILLISECONDS = 3
+
+
+@dataclass(frozen=True)
+class FrameRate:
+    """The frame rate of an operation point: what is counted, and frame_rate_indicator, twelve bits."""
+
+    kind: FrameRateKind
+    indicator: int
+
+
+@dataclass(frozen=True)
+class Reference:
+    """One reference of an operation point: the layer that is put at the end of its list of streams, where it is not in it yet, and whether the layers that it
+    names, and that are not in the list yet, are put immediately before it."""
+
+    layer_index: int
+    prepend_dependencies: bool = False
+
+
+@dataclass(frozen=True)
+class PointLayer:
+    """What an operation point says of one stream of its list. Where it is not necessary, the rest says nothing. `profile` is a place among the profiles of all
+    descriptors of the program, not judged."""
+
+    necessary: bool
+    output: bool
+    profile: int
+
+
+@dataclass(frozen=True)
+class Point:
+    """One operation point, as its descriptor has it: the references by which its list of streams is built, and what it says of the streams of that list, one after
+    another (whether there are as many is not judged). The temporal id is the highest of its pictures. Rates are in thousands of bits a second; what is not
+    told is None."""
+
+    target_ols: int
+    references: Tuple[Reference, ...] = ()
+    layers: Tuple[PointLayer, ...] = ()
+    temporal_id: int = 0
+    frame_rate: Optional[FrameRate] = None
+    average_bit_rate: Optional[int] = None
+    maximum_bit_rate: Optional[int] = None
+
+
+@dataclass(frozen=True)
+class PointDescriptor:
+    """One operation point descriptor: its profiles, 12 bytes each, kept whole and not looked into, and its points."""
+
+    profiles: Tuple[bytes, ...] = ()
+    points: Tuple[Point, ...] = ()
+
+
+@dataclass(frozen=True)
+class PointStreams:
+    """The streams of an operation point: their layer indices, each once, in the order of the point's list; and whether that list has every layer that one of its
+    members names. It is then the union of their closures, each of them complete."""
+
+    layers: Tuple[int, ...]
+    closed: bool
+
+
+@dataclass(frozen=True)
+class ProgramPoints:
+    """The operation points of a program: its descriptors, in the order of its loop, and the streams of each point, over all descriptors in order. It can be
+    iterated for the points of this program, each with its streams."""
+
+    descriptors: Tuple[PointDescriptor, ...] = ()
+    streams: Tuple[PointStreams, ...] = ()
+
+    @property
+    def profiles(self) -> Tuple[bytes, ...]:
+        """The profiles of all descriptors in order, which is what the layers of points refer to."""
+        return tuple(profile for descriptor in self.descriptors for profile in descriptor.profiles)
+
+    def __iter__(self) -> Iterator[Tuple[Point, PointStreams]]:
+        points = (point for descriptor in self.descriptors for point in descriptor.points)
+        return zip(points, self.streams)
+
+    def __len__(self) -> int:
+        return len(self.streams)
 
 
 @dataclass(frozen=True)
@@ -340,6 +439,77 @@ def write_stereo(entries: Iterable[Entry], extensions: Tuple[MvcExtension, MvcEx
     if any(index(rate) >= 2**16 for rate in numbers):
         raise Refused(Number.TOO_WIDE, 0)
     return _written(_LIBRARY.thq_write_stereo, entries, *_column("H", c_uint16, numbers))
+
+
+def read_points(program: bytes, loop: bytes) -> ProgramPoints:
+    """Reads the operation points of a program, by the 2015 reading: from its own descriptor loop, the bytes of program_info, and its elementary-stream loop. Refusals: 1
+    to 9 of the latter; then 40 where the former, or an operation point descriptor in it, does not fit, 41 where an ES_count is 255, and 42 where a reference, or a
+    layer to be put before it, is no layer of the loop."""
+    given, length = _loop(program)
+    most = min(length, _LOOP_BYTES)
+    rooms = [
+        _room(c_uint32, most // _LEAST_DESCRIPTOR * 2),
+        _room(c_uint8, most),
+        _room(c_uint32, most // _LEAST_POINT * _POINT_NUMBERS),
+        _room(c_uint8, most),
+        _room(c_uint8, most),
+        _room(c_uint8, most // _LEAST_WITH_REFERENCE * _MOST_STREAMS),
+        _room(c_uint32, 6),
+    ]
+    _accepted(_LIBRARY.thq_read_points(given, length, *_loop(loop), *chain.from_iterable(rooms)))
+    counts, profiles, numbers, references, layers, streams, summary = (room for room, _ in rooms)
+    descriptors, _, points, *_ = summary
+    left_profiles = (bytes(profiles[at:at + _PROFILE_BYTES]) for at in range(0, most, _PROFILE_BYTES))
+    rows = [numbers[at:at + _POINT_NUMBERS] for at in range(0, points * _POINT_NUMBERS, _POINT_NUMBERS)]
+    left_references, left_layers = map(_reference, references), map(_point_layer, layers)
+    left_points = (_point(row, left_references, left_layers) for row in rows)
+    left_streams = iter(streams)
+    return ProgramPoints(
+        tuple(PointDescriptor(tuple(islice(left_profiles, counts[at])), tuple(islice(left_points, counts[at + 1]))) for at in range(0, 2 * descriptors, 2)),
+        tuple(PointStreams(tuple(islice(left_streams, row[10])), row[11] == 1) for row in rows))
+
+
+def _reference(byte: int) -> Reference:
+    return Reference(byte & 63, byte & 64 != 0)
+
+
+def _point_layer(byte: int) -> PointLayer:
+    return PointLayer(byte & 128 != 0, byte & 64 != 0, byte & 63)
+
+
+def _point(numbers: List[int], references: Iterator[Reference], layers: Iterator[PointLayer]) -> Point:
+    """The point of the numbers that the library has written, with the next references and layers."""
+    target_ols, es_count, streams, has_average, has_maximum, kind, temporal_id, indicator, average, maximum, *_ = numbers
+    return Point(target_ols, tuple(islice(references, es_count)), tuple(islice(layers, streams)), temporal_id,
+                 FrameRate(FrameRateKind(kind), indicator) if kind else None, average if has_average else None, maximum if has_maximum else None)
+
+
+def write_points(descriptor: PointDescriptor) -> bytes:
+    """Writes one operation point descriptor, its tag and length included. Refusals: 25, for more profiles, points, references or layers than their counts can say
+    too, and for a profile that is not 12 bytes long; then 41 for a point of 255 references; then 25 for a descriptor that would be longer than its length can say."""
+    points = descriptor.points
+    layers = [layer for point in points for layer in point.layers]
+    profiles = [bytes(profile) for profile in descriptor.profiles]
+    # A byte of a layer has no bit to spare, so that the library could not be handed a place that is too wide.
+    if any(_number(layer.profile, 64) > 63 for layer in layers) or any(len(profile) != _PROFILE_BYTES for profile in profiles):
+        raise Refused(Number.TOO_WIDE, 0)
+    # Of an index above 63 a byte that is refused as too wide.
+    references = bytes(255 if _number(one.layer_index, 64) > 63 else bool(one.prepend_dependencies) << 6 | one.layer_index
+                       for point in points for one in point.references)
+    flags = bytes(bool(layer.necessary) << 7 | bool(layer.output) << 6 | layer.profile for layer in layers)
+    numbers = [number for point in points for number in _point_numbers(point)]
+    out, room = _room(c_uint8, _DESCRIPTOR_BYTES)
+    joined = b"".join(profiles)
+    answer = _LIBRARY.thq_write_points(joined, len(joined), *_column("I", c_uint32, numbers), references, len(references), flags, len(flags), out, room)
+    return bytes(out[:_accepted(answer)])
+
+
+def _point_numbers(point: Point) -> List[int]:
+    """The point as its numbers, those of its streams 0."""
+    rate, average, maximum = point.frame_rate, point.average_bit_rate, point.maximum_bit_rate
+    kind, indicator = (0, 0) if rate is None else (FrameRateKind(rate.kind), rate.indicator)
+    return [point.target_ols, len(point.references), len(point.layers), average is not None, maximum is not None, kind, point.temporal_id, indicator,
+            0 if average is None else average, 0 if maximum is None else maximum, 0, 0]
 
 
 def closure(reading: Reading, loop: bytes, target: int) -> Tuple[int, ...]:

@@ -1,7 +1,7 @@
 """Finds and loads libthoquenry, and declares its functions."""
 
 import os
-from ctypes import CDLL, POINTER, c_bool, c_char_p, c_int64, c_size_t, c_uint8, c_uint16, c_uint64
+from ctypes import CDLL, POINTER, c_bool, c_char_p, c_int64, c_size_t, c_uint8, c_uint16, c_uint32, c_uint64
 from pathlib import Path
 
 # The functions of include/thoquenry.h: for each its result and its parameters. Bytes that are only read are c_char_p, which takes a bytes object
@@ -82,6 +82,24 @@ DECLARATIONS = {
     "thq_write_stereo": (c_uint64, [
         ("entries", POINTER(c_uint16)), ("entries_length", c_size_t),
         ("extensions", POINTER(c_uint16)), ("extensions_length", c_size_t),
+        ("out", POINTER(c_uint8)), ("out_length", c_size_t),
+    ]),
+    "thq_read_points": (c_uint64, [
+        ("program", c_char_p), ("program_length", c_size_t),
+        ("bytes", c_char_p), ("bytes_length", c_size_t),
+        ("descriptors", POINTER(c_uint32)), ("descriptors_length", c_size_t),
+        ("profiles", POINTER(c_uint8)), ("profiles_length", c_size_t),
+        ("points", POINTER(c_uint32)), ("points_length", c_size_t),
+        ("references", POINTER(c_uint8)), ("references_length", c_size_t),
+        ("layers", POINTER(c_uint8)), ("layers_length", c_size_t),
+        ("streams", POINTER(c_uint8)), ("streams_length", c_size_t),
+        ("summary", POINTER(c_uint32)), ("summary_length", c_size_t),
+    ]),
+    "thq_write_points": (c_uint64, [
+        ("profiles", c_char_p), ("profiles_length", c_size_t),
+        ("points", POINTER(c_uint32)), ("points_length", c_size_t),
+        ("references", c_char_p), ("references_length", c_size_t),
+        ("layers", c_char_p), ("layers_length", c_size_t),
         ("out", POINTER(c_uint8)), ("out_length", c_size_t),
     ]),
     "thq_set_read": (c_uint64, [

@@ -63,6 +63,9 @@ pub const THQ_ENTRY_NUMBERS: usize = 80;
 /// The numbers that one MVC extension descriptor takes.
 pub const THQ_MVC_EXTENSION_NUMBERS: usize = 8;
 
+/// The numbers that one operation point takes.
+pub const THQ_POINT_NUMBERS: usize = 12;
+
 /// The numbers of the two buffers of a layer set.
 pub const THQ_SET_LAYERS: usize = 5120;
 pub const THQ_SET_STORED: usize = 192;
@@ -202,6 +205,40 @@ extern "C" {
         entries_length: usize,
         extensions: *const u16,
         extensions_length: usize,
+        out: *mut u8,
+        out_length: usize,
+    ) -> u64;
+
+    pub fn thq_read_points(
+        program: *const u8,
+        program_length: usize,
+        bytes: *const u8,
+        bytes_length: usize,
+        descriptors: *mut u32,
+        descriptors_length: usize,
+        profiles: *mut u8,
+        profiles_length: usize,
+        points: *mut u32,
+        points_length: usize,
+        references: *mut u8,
+        references_length: usize,
+        layers: *mut u8,
+        layers_length: usize,
+        streams: *mut u8,
+        streams_length: usize,
+        summary: *mut u32,
+        summary_length: usize,
+    ) -> u64;
+
+    pub fn thq_write_points(
+        profiles: *const u8,
+        profiles_length: usize,
+        points: *const u32,
+        points_length: usize,
+        references: *const u8,
+        references_length: usize,
+        layers: *const u8,
+        layers_length: usize,
         out: *mut u8,
         out_length: usize,
     ) -> u64;

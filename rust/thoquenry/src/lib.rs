@@ -17,12 +17,17 @@
 mod entry;
 mod layer_set;
 mod layers;
+mod points;
 mod refusal;
 mod stereo;
 
 pub use entry::{Channel, Entry, NuhLayerId, Record, TemporalId};
 pub use layer_set::{Layer, LayerSet};
 pub use layers::{LayerIndex, LayerIndices, Layers};
+pub use points::{
+    read_points, write_points, FrameRate, Point, PointDescriptor, PointLayer, PointStreams,
+    Profile, ProgramPoints, Reference,
+};
 pub use refusal::Refusal;
 pub use stereo::{read_stereo, write_stereo, MvcExtension, StereoSet};
 
