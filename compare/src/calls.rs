@@ -2,6 +2,7 @@
 //! leave their buffers in the call itself, so that two calls are equal when every buffer is, inputs included.
 
 use crate::memory::{Memory, Placing};
+use crate::points;
 use crate::random::Random;
 use crate::stereo;
 use plain::{
@@ -75,10 +76,12 @@ pub enum Call {
     },
     ReadStereo(stereo::Read),
     WriteStereo(stereo::Write),
+    ReadPoints(points::Read),
+    WritePoints(points::Write),
 }
 
 /// The names of the calls and the numbers that each can answer, 0 for an accepted call.
-pub const CALLS: [(&str, &[u64]); 10] = [
+pub const CALLS: [(&str, &[u64]); 12] = [
     ("read_loop", &[0, 1, 2, 3, 4, 5, 6, 7, 8, 9, 17, NOT_A_CALL]),
     ("write_loop", &[0, 1, 3, 6, 7, 8, 9, 17, 25]),
     (
@@ -100,6 +103,11 @@ pub const CALLS: [(&str, &[u64]); 10] = [
         &[0, 1, 2, 3, 4, 5, 6, 7, 8, 9, 17, 44, 45, 46],
     ),
     ("write_stereo", &[0, 1, 3, 6, 7, 8, 9, 17, 25, 44, 46]),
+    (
+        "read_points",
+        &[0, 1, 2, 3, 4, 5, 6, 7, 8, 9, 17, 40, 41, 42],
+    ),
+    ("write_points", &[0, 17, 25, 41]),
 ];
 
 pub const NOT_A_CALL: u64 = raw::THQ_NOT_A_CALL;
@@ -138,6 +146,8 @@ impl Call {
             Call::Import { .. } => 7,
             Call::ReadStereo(_) => 8,
             Call::WriteStereo(_) => 9,
+            Call::ReadPoints(_) => 10,
+            Call::WritePoints(_) => 11,
         }
     }
 
@@ -157,6 +167,7 @@ impl Call {
                 .clone()
                 .plain()
                 .and_then(|_| entries_of(&write.entries)),
+            Call::ReadPoints(read) => plain::read_loop(Reading::Of2015, &read.bytes),
             _ => return false,
         };
         let implied = |entry: &Entry| entry.record == Some(Record::Implied);
@@ -451,6 +462,16 @@ impl Call {
                 untouched &= kept;
                 answer
             }
+            Call::ReadPoints(read) => {
+                let (answer, kept) = read.library(memory);
+                untouched &= kept;
+                answer
+            }
+            Call::WritePoints(write) => {
+                let (answer, kept) = write.library(memory);
+                untouched &= kept;
+                answer
+            }
         };
         if untouched {
             Ok(answer)
@@ -518,6 +539,8 @@ impl Call {
                 .and_then(|layers| join(MOST_ROWS, &layers, *target, rows, lists)),
             Call::ReadStereo(read) => read.plain(),
             Call::WriteStereo(write) => write.plain(),
+            Call::ReadPoints(read) => read.plain(),
+            Call::WritePoints(write) => write.plain(),
         })
     }
 }

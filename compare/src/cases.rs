@@ -3,7 +3,7 @@
 use crate::calls::{self, Call, Lists, CALLS, ENTRY};
 use crate::loops::Quality;
 use crate::random::Random;
-use crate::{headers, loops, stereo, tables};
+use crate::{headers, loops, points, stereo, tables};
 use plain::{Columns, Layers, MOST_ROWS};
 
 /// The case of this number.
@@ -19,7 +19,9 @@ pub fn case(seed: u64, number: u64) -> (Call, Quality) {
         6 => join_long(&mut random),
         7 => import(&mut random),
         8 => stereo::reading(&mut random),
-        _ => stereo::writing(&mut random),
+        9 => stereo::writing(&mut random),
+        10 => points::reading(&mut random),
+        _ => points::writing(&mut random),
     }
 }
 

@@ -15,6 +15,7 @@ mod headers;
 mod long;
 mod loops;
 mod memory;
+mod points;
 mod random;
 mod sets;
 mod show;
@@ -32,25 +33,27 @@ const SEED: u64 = 1;
 const COUNT: u64 = 20_000 * CALLS.len() as u64;
 
 /// The calls that read or write a loop.
-const CALLS_OF_LOOPS: [&str; 6] = [
+const CALLS_OF_LOOPS: [&str; 7] = [
     "read_loop",
     "write_loop",
     "closure",
     "import",
     "read_stereo",
     "write_stereo",
+    "read_points",
 ];
 
 /// The calls that join rows.
 const CALLS_OF_ROWS: [&str; 3] = ["join", "join_long", "import"];
 
 /// What has been seen: for each call how often each number was answered, how its inputs were made, and in how many accepted loops there were
-/// two views without a hierarchy descriptor; and how often a table was joined again with other rows of other layers.
+/// two views without a hierarchy descriptor; how often a table was joined again with other rows of other layers; and what operation points there were.
 struct Seen {
     numbers: [[u64; 256]; CALLS.len()],
     qualities: [[u64; Quality::NAMES.len()]; CALLS.len()],
     implied: [u64; CALLS.len()],
     pairs: [u64; CALLS.len()],
+    points: points::Met,
     sets: sets::Seen,
 }
 
@@ -120,6 +123,7 @@ fn run(seed: u64, count: u64, guarded: bool) -> Result<Seen, String> {
         qualities: [[0; Quality::NAMES.len()]; CALLS.len()],
         implied: [0; CALLS.len()],
         pairs: [0; CALLS.len()],
+        points: points::Met::default(),
         sets: sets::run(seed, count / 3, guarded, &mut memory)?,
     };
     for number in 0..count {
@@ -169,6 +173,12 @@ fn run(seed: u64, count: u64, guarded: bool) -> Result<Seen, String> {
         seen.numbers[call.kind()][calls::number(expected) as usize] += 1;
         seen.qualities[call.kind()][quality as usize] += 1;
         seen.implied[call.kind()] += u64::from(call.has_implied_layers());
+        if let Err(wrong) = seen.points.note(&call) {
+            return Err(format!(
+                "compare: {wrong}, at seed {seed}, case {number}: {}",
+                show::call(&call)
+            ));
+        }
     }
     Ok(seen)
 }
@@ -239,6 +249,9 @@ fn summary(seed: u64, count: u64, seen: &Seen) -> ExitCode {
     for call in (0..CALLS.len()).filter(|&call| of_loops(call) && seen.implied[call] == 0) {
         never.push(format!("{} never met two views", CALLS[call].0));
     }
+    let (words, missing) = seen.points.told();
+    println!("points: {words}");
+    never.extend(missing);
     println!();
     never.extend(answered(&sets::CALLS, &seen.sets.numbers));
     never.extend(seen.sets.never());

@@ -128,6 +128,24 @@ pub fn parts(call: &Call) -> Vec<(&'static str, String)> {
             ("extensions", numbers(&write.extensions)),
             ("out", hex(&write.out)),
         ],
+        Call::ReadPoints(read) => vec![
+            ("program", hex(&read.program)),
+            ("bytes", hex(&read.bytes)),
+            ("descriptors", numbers(&read.descriptors)),
+            ("profiles", hex(&read.profiles)),
+            ("points", numbers(&read.points)),
+            ("references", hex(&read.references)),
+            ("layers", hex(&read.layers)),
+            ("streams", numbers(&read.streams)),
+            ("summary", numbers(&read.summary)),
+        ],
+        Call::WritePoints(write) => vec![
+            ("profiles", hex(&write.profiles)),
+            ("points", numbers(&write.points)),
+            ("references", hex(&write.references)),
+            ("layers", hex(&write.layers)),
+            ("out", hex(&write.out)),
+        ],
     }
 }
 
