@@ -1,0 +1,81 @@
+-- `lay_flags` meets its contract.
+-- Assumes nothing.
+use Rattle.point_rows.proofs.Laying.{Laying, laying-start, laying-on, laying-end, laying-length}
+use Rattle.program_points.specs.Places.{valueAt}
+use Rattle.operation_points.specs.Values.{layerBytes}
+use lib.ListN.{length}
+use mathlib.Core.Path.{refl}
+use Prim.Native.Nat.{_-_}
+use borrow.Author.Needs.{needs}
+use native.Mathlib.Omega.{arith}
+use Rattle.point_rows.proofs.lay_flags.Statement.{statement}
+use Rattle.point_rows.proofs.lay_flags.Tie as tie
+
+abbrev Inv-loop : tie.InvT-loop
+Inv-loop out₀ program places next₀ i₀ out next i = Laying (λ at. layerBytes (valueAt program at)) places out₀ out next i
+
+abbrev μ-loop : tie.MeasureT-loop
+μ-loop out₀ program places next₀ i₀ out next i = length places - i
+
+loop-holds : tie.Need-loop-holds Inv-loop μ-loop
+loop-holds c =
+    let a = c .before .before .before .args in
+    laying-start (λ at. layerBytes (valueAt (a .program .now) at)) (a .places .now) (a .out .now)
+
+mul-put-flags : tie.Need-mul-put-flags Inv-loop μ-loop
+mul-put-flags c = search needs
+
+shared-slice-read-put-flags : tie.Need-shared-slice-read-put-flags Inv-loop μ-loop
+shared-slice-read-put-flags c =
+    let a = c .before .before .before .before .before .before .before .args in
+    let at = c .before .before .before .loop in
+    omega (arith, c .before .before .loop-test .taken)
+
+put-flags-requires : tie.Need-put-flags-requires Inv-loop μ-loop
+put-flags-requires c κs =
+    let a = c .before .before .before .before .before .before .before .args in
+    let at = c .before .before .before .loop in
+    c .before .before .before .before .before .before .before .pre (at .i) (c .before .before .loop-test .taken)
+
+add-i : tie.Need-add-i Inv-loop μ-loop
+add-i c = search needs
+
+loop-less : tie.Need-loop-less Inv-loop μ-loop
+loop-less c =
+    let a = c .before .before .before .before .before .before .before .before .before .before .args in
+    let at = c .before .before .before .before .before .before .loop in
+    omega (arith, c .before .before .before .before .before .loop-test .taken)
+
+loop-again : tie.Need-loop-again Inv-loop μ-loop
+loop-again c =
+    let a = c .before .before .before .before .before .before .before .before .before .before .args in
+    let at = c .before .before .before .before .before .before .loop in
+    laying-on (λ at. layerBytes (valueAt (a .program .now) at)) (a .places .now) (a .out .now) (at .out) (at .next) (at .i) (at .inv) (c .before .before .before .before .before .loop-test .taken) refl (c .before .before .put-flags .ensures)
+
+same-length : tie.Need-same-length Inv-loop μ-loop
+same-length c =
+    let a = c .before .before .before .before .before .args in
+    let at = c .before .loop in
+    laying-length (λ at. layerBytes (valueAt (a .program .now) at)) (a .places .now) (a .out .now) (at .out) (at .next) (at .i) (at .inv)
+
+returns : tie.Need-returns Inv-loop μ-loop
+returns c =
+    let a = c .before .before .before .before .before .args in
+    let at = c .before .loop in
+    laying-end (λ at. layerBytes (valueAt (a .program .now) at)) (a .places .now) (a .out .now) (at .out) (at .next) (at .i) (at .inv) (omega (arith, c .loop-test .left))
+
+pub lay-flags-spec : {M : Type 1} → statement M
+lay-flags-spec =
+    tie.close
+    (tie.spec
+    Inv-loop
+    μ-loop
+    loop-holds
+    mul-put-flags
+    shared-slice-read-put-flags
+    put-flags-requires
+    add-i
+    loop-less
+    loop-again
+    same-length
+    returns)
