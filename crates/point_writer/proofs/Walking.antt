@@ -19,7 +19,7 @@ use Rattle.point_writer.specs.Layout.{pointsBytes}
 -- ---- of a list in which nothing passes a test, no part has one that does
 
 module _ {A : Type 0} (test : A → Bool) (l : List A) (none : any test l ≡ false) where
-  any-behind : (k : ℕ) → any test (drop k l) ≡ false
+  pub any-behind : (k : ℕ) → any test (drop k l) ≡ false
   any-behind k =
       neither-right (any test (take k l)) (any test (drop k l))
       (sym (any-append test (take k l) (drop k l)) ∙ ap (any test) (take-append-drop k l) ∙ none)
