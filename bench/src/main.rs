@@ -15,6 +15,7 @@
 mod clock;
 mod inputs;
 mod measures;
+mod points;
 mod sets;
 mod stack;
 mod stereo;
