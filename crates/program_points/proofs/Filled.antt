@@ -8,7 +8,7 @@ use mathlib.Core.Path.{_≡_, refl, sym, ap, ap₂, _∙_, subst}
 use native.Mathlib.Omega.{arith}
 use borrow.Author.Tests.{ltb-false}
 use lib.Dec.{ltb}
-use lib.ListN.{length, take, drop, replicate, length-append}
+use lib.ListN.{length, take, drop, replicate, length-append, length-map}
 use lib.Seq.{take-at, drop-at, getD-drop}
 use Rattle.combinators.specs.Lists.{gather, gather-map}
 use Rattle.framing.specs.Pieces.{Item, whole, broken, Cuts, nothing-left, does-not-fit, piece, cut-cuts}
@@ -25,14 +25,14 @@ use Rattle.loop_layers.specs.declared.layer_sets.LayersRead.{LayersRead}
 use Rattle.loop_layers.specs.Closures.{loopLayers}
 use Rattle.operation_points.specs.declared.Filling.{Filling}
 use Rattle.operation_points.specs.declared.Filling.the-variants.{Exact, Inexact, Reserved}
-use Rattle.operation_points.specs.Values.{valueOf}
+use Rattle.operation_points.specs.Values.{valueOf, countsOf}
 use Rattle.point_descriptors.specs.declared.Found.{Found}
-use Rattle.point_descriptors.specs.Descriptors.{descriptorsOf, each, fillingIn, worst, tooLong, payloadPlace, pointPlacesIf, payloadsIn, payloadsAt, pointsAt, programFilling, foundWith, foundIn}
+use Rattle.point_descriptors.specs.Descriptors.{descriptorsOf, each, isPoints, payloadIf, fillingIn, worst, tooLong, payloadPlace, pointPlacesIf, payloadsIn, payloadsAt, pointsAt, programFilling, foundWith, foundIn}
 use Rattle.point_descriptors.proofs.Walking.{points-take, payload-takes}
 use Rattle.program_points.specs.declared.Tally.{Tally}
-use Rattle.program_points.specs.Places.{valueAt, profilesAt, AllPoints, AllPayloads, IsPoint, IsPayload}
+use Rattle.program_points.specs.Places.{valueAt, profilesAt, countsAt, AllPoints, AllPayloads, IsPoint, IsPayload}
 use Rattle.program_points.specs.declared.PointsRead.{PointsRead}
-use Rattle.program_points.specs.Told.{pointsIn, profilesIn, tallyOf, Filled, refusedPoints, byTally, byFilling, byOutcome, readWith, pointsRead}
+use Rattle.program_points.specs.Told.{valuesIn, pointsIn, profilesIn, tallyOf, Filled, refusedPoints, byTally, byFilling, byOutcome, readWith, pointsRead}
 use Rattle.program_points.proofs.Standing.{AllStand, all-stand, every-at}
 
 -- ---- as many places as there is room for
@@ -118,6 +118,34 @@ module _ (program : List ℕ) (b : AreBytes program) (found : Found) (filled : F
   pub profiles-taken : gather (profilesAt program) (take (found .descriptors) (found .payloads)) ≡ profilesIn program
   profiles-taken = ap (gather (profilesAt program)) payloads-taken ∙ stand .profiles-same
 
+  pub counts-taken : gather (countsAt program) (take (found .descriptors) (found .payloads)) ≡ gather countsOf (valuesIn program)
+  counts-taken = ap (gather (countsAt program)) payloads-taken ∙ stand .counts-same
+
+  pub counted : found .descriptors ≡ length (valuesIn program)
+  counted =
+      ap (λ (f : Found). f .descriptors) found-is
+      ∙ as-many (descriptorsOf program) 0
+      ∙ sym (length-map (payloadsIn program) valueOf)
+    where
+      as-many : (items : List Item) (at : ℕ) → length (each payloadPlace at items) ≡ length (each payloadIf at items)
+      as-many [] at = refl
+      as-many (broken ∷ items) at = refl
+      as-many (whole head body ∷ items) at =
+          length-append (payloadPlace at (descriptorTag head) body) (each payloadPlace (at + (2 + length body)) items)
+          ∙ ap₂ (λ (m n : ℕ). m + n) (one (isPoints (descriptorTag head) body)) (as-many items (at + (2 + length body)))
+          ∙ sym (length-append (payloadIf at (descriptorTag head) body) (each payloadIf (at + (2 + length body)) items))
+        where
+          one : (b : Bool) → length (cond b ((at + 3) ∷ []) []) ≡ length (cond b (drop 1 body ∷ []) [])
+          one true = refl
+          one false = refl
+
+  pub points-counted : found .count ≡ length (pointsIn program)
+  points-counted =
+      ap (λ (f : Found). f .count) found-is ∙ sym (length-map (pointsAt program) (valueAt program)) ∙ ap length (stand .values-same)
+
+  pub not-long : length program ≤ 1008
+  not-long = within
+
   pub points-short : length (take (found .count) (found .points)) ≤ 336
   points-short =
       subst (λ (l : List ℕ). length l ≤ 336) (sym points-taken)
@@ -196,3 +224,36 @@ module _ (program bytes : List ℕ) (read : LayersRead) (e : read ≡ loopLayers
   loop-refused refusal found o f answer =
       answer ∙ ap (refusedPoints refusal (read .layers)) f ∙ ap (λ (x : Outcome). byOutcome x (read .layers) program) (sym o)
       ∙ ap (λ (x : LayersRead). readWith x program) e
+
+-- ---- what was read where it is accepted
+
+pub record Read (program : List ℕ) (read : PointsRead) : Type 0 where
+  pub filled : Filled program (read .found)
+  pub bytes : read .«profile_bytes» ≡ length (profilesIn program)
+  pub tally-is : read .tally ≡ tallyOf (read .layers) (pointsIn program)
+  pub known : tallyOf (read .layers) (pointsIn program) .absent ≡ false
+
+pub accepted-read : (program bytes : List ℕ) (read : PointsRead) → read ≡ pointsRead program bytes → read .outcome ≡ Accepted → Read program read
+accepted-read program bytes read e o =
+    subst (Read program) (sym e) (go (loopLayers Edition2015 bytes .outcome) (programFilling program) refl (tallyOf layers (pointsIn program) .absent) refl (sym (ap (λ (r : PointsRead). r .outcome) e) ∙ o))
+  where
+    layers : Layers
+    layers = loopLayers Edition2015 bytes .layers
+
+    told : (c : Bool) → tallyOf layers (pointsIn program) .absent ≡ c → programFilling program ≡ Exact
+        → cond c (refusedPoints UnknownReference layers (foundIn program))
+        (record { outcome = Accepted; layers = layers; found = foundIn program; «profile_bytes» = length (profilesIn program); tally = tallyOf layers (pointsIn program) }) .outcome ≡ Accepted
+        → Read program (cond c (refusedPoints UnknownReference layers (foundIn program))
+        (record { outcome = Accepted; layers = layers; found = foundIn program; «profile_bytes» = length (profilesIn program); tally = tallyOf layers (pointsIn program) }))
+    told true p f o = let z : _≡_ {A = ℕ} 0 1 = cc in absurd (omega arith)
+    told false p f o =
+        record { filled = record { is-found = refl; exact = filling-is program (foundIn program) refl ∙ f }; bytes = refl; tally-is = refl; known = p }
+
+    go : (x : Outcome) (v : Filling) → programFilling program ≡ v → (c : Bool) → tallyOf layers (pointsIn program) .absent ≡ c
+        → byOutcome x layers program .outcome ≡ Accepted → Read program (byOutcome x layers program)
+    go (Refused r) v f c p o = let z : _≡_ {A = ℕ} 0 1 = cc in absurd (omega arith)
+    go Accepted Inexact f c p o = let q = ap (λ (w : Filling). byFilling w layers program .outcome) f in let z : _≡_ {A = ℕ} 0 1 = cc in absurd (omega arith)
+    go Accepted Reserved f c p o = let q = ap (λ (w : Filling). byFilling w layers program .outcome) f in let z : _≡_ {A = ℕ} 0 1 = cc in absurd (omega arith)
+    go Accepted Exact f c p o =
+        subst (λ (w : Filling). Read program (byFilling w layers program)) (sym f)
+        (told (tallyOf layers (pointsIn program) .absent) refl f (sym (ap (λ (w : Filling). byFilling w layers program .outcome) f) ∙ o))
