@@ -1,2 +1,3 @@
 pub mod Adding
 pub mod Walking
+pub mod Meant
