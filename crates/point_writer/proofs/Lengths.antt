@@ -29,7 +29,7 @@ abbrev listSizes : Lists → List Part → ℕ
 listSizes lists [] = 0
 listSizes lists (part ∷ parts) = listSize lists part + listSizes lists parts
 
-length-items : (t : Table) (items : List Given) → length (gather (writeBy t) items) ≡ length items * bytes t
+pub length-items : (t : Table) (items : List Given) → length (gather (writeBy t) items) ≡ length items * bytes t
 length-items t [] = (let none : 0 ≡ 0 * bytes t = omega arith in none)
 length-items t (item ∷ items) =
     length-append (writeBy t item) (gather (writeBy t) items)

@@ -36,7 +36,7 @@ use Rattle.point_writer.proofs.Judged.{Sound, sound, counted, descripto
 
 -- ---- the tables can be written
 
-point-sounds : Sounds pointSyntax
+pub point-sounds : Sounds pointSyntax
 point-sounds = (
   record { whole = refl; fixed-fit = refl },
   (
@@ -51,7 +51,7 @@ point-sounds = (
   ),
 )
 
-head-sounds : Sounds headSyntax
+pub head-sounds : Sounds headSyntax
 head-sounds = (record { whole = refl; fixed-fit = refl }, (record { whole = refl; fixed-fit = refl }, (record { whole = refl; fixed-fit = refl }, tt)))
 
 points-written : {vs : List PointValue} → Meaning.EachFits vs → WritesPoints vs (valuesBytes vs)
@@ -59,16 +59,16 @@ points-written Meaning.EachFits.none = WritesPoints.nothing
 points-written (Meaning.EachFits.point-then {v} fits others) =
     WritesPoints.point-then (parts-written (valueGiven v) (valueLists v) point-sounds (fits .fits)) (points-written others)
 
-points-only : {vs : List PointValue} {l : List ℕ} → WritesPoints vs l → l ≡ valuesBytes vs
+pub points-only : {vs : List PointValue} {l : List ℕ} → WritesPoints vs l → l ≡ valuesBytes vs
 points-only WritesPoints.nothing = refl
 points-only (WritesPoints.point-then {v} w ws) = ap₂ (λ (a b : List ℕ). a ++ b) (parts-only (valueGiven v) (valueLists v) point-sounds w) (points-only ws)
 
 -- ---- 41
 
-reserved-some : (vs : List PointValue) → any isReservedValue vs ≡ true → SomeReserved vs
+pub reserved-some : (vs : List PointValue) → any isReservedValue vs ≡ true → SomeReserved vs
 reserved-some vs e = let w = any-which isReservedValue vs e in reserved-at (w .2) (eqb-true (length (w .1 .references)) 255 (w .3))
 
-some-reserved : {vs : List PointValue} → SomeReserved vs → any isReservedValue vs ≡ true
+pub some-reserved : {vs : List PointValue} → SomeReserved vs → any isReservedValue vs ≡ true
 some-reserved (reserved-at {v = v} n e) = any-true isReservedValue n (eq-eqb (length (v .references)) 255 e)
 
 module _ (profiles points references layers : List ℕ) where
@@ -145,7 +145,7 @@ module _ (profiles points references layers : List ℕ) where
   tag-written : Written extensionTag [] (writeTable extensionTag [])
   tag-written = written (record { whole = refl; fixed-fit = refl }) (at-fixed none)
 
-  descriptor-written : {v : DescriptorValue} → Gives profiles points references layers v → 1 + length (payloadBytes profiles points references layers) ≤ 255
+  pub descriptor-written : {v : DescriptorValue} → Gives profiles points references layers v → 1 + length (payloadBytes profiles points references layers) ≤ 255
       → WritesDescriptor v (descriptorBytes profiles points references layers)
   unfolding descriptorBytes
   descriptor-written {v} g short =

@@ -1,0 +1,3 @@
+pub mod Parsed
+pub mod ReadPoint
+pub mod ReadBack
