@@ -18,6 +18,8 @@ use Rattle.demands.specs.ForCShown.{thq-loop-read, thq-loop-written, thq
 use Rattle.demands.specs.JoinsForCShown.{thq-rows-joined, thq-long-joined, thq-loop-imported}
 use Rattle.demands.specs.Stereo.{thqReadStereo, thqWriteStereo}
 use Rattle.demands.specs.StereoShown.{thq-stereo-read, thq-stereo-written}
+use Rattle.demands.specs.PointsWritten.{thqWritePoints}
+use Rattle.demands.specs.PointsWrittenShown.{thq-points-written}
 use Rattle.demands.specs.Sets.{readLayerSet, addLayer, removeLayer, thqSetRead, thqSetAdd, thqSetRemove, thqSetClosure}
 use Rattle.demands.specs.SetsShown.{set-read, layer-added, layer-removed}
 use Rattle.demands.specs.SetsShown as shown
@@ -61,6 +63,8 @@ pub record Demand-1 : Type 0 where
   pub thq-read-stereo : Promised (forC thqReadStereo)
   -- 1, 3, 6 to 9, 17, 25, 44, 46
   pub thq-write-stereo : Promised (forC thqWriteStereo)
+  -- 17, 25, 41
+  pub thq-write-points : Promised (forC thqWritePoints)
   -- 1 to 9
   pub reading-a-layer-set : Promised readLayerSet
   -- 3, 6 to 9, 25, of a layer set
@@ -101,6 +105,7 @@ demand-1 =
       thq-import = thq-loop-imported;
       thq-read-stereo = thq-stereo-read;
       thq-write-stereo = thq-stereo-written;
+      thq-write-points = thq-points-written;
       reading-a-layer-set = set-read;
       adding-a-layer = layer-added;
       removing-a-layer = layer-removed;
