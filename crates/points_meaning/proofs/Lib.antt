@@ -1,0 +1,5 @@
+pub mod Fields
+pub mod Loop
+pub mod Points
+pub mod Meant
+pub mod Closed

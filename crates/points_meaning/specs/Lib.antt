@@ -1,0 +1,4 @@
+pub mod Fields
+pub mod Telling
+pub mod Meaning
+pub mod Closed
