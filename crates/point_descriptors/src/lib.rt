@@ -1,6 +1,6 @@
 // The HEVC operation point descriptors in the program's own descriptor loop (tag 63, extension tag 0x05): the loop framed by its descriptors' heads, those
 // among them found in order and judged, 40 and 41, the lowest over all of them; and where their payloads and their points begin.
-// specs/Descriptors.antt has what is answered, specs/Meaning.antt what is right in the words of W-205, and proofs/Meant.antt the proof that the two are one.
+// specs/Descriptors.antt has what is answered; what is right in the words of W-205 is said of the whole program, in points_meaning.
 ghost use mathlib.Core.Path.{_≡_};
 ghost use Prim.Native.Nat.{_+_, _*_, _≤_};
 ghost use lib.ListN.{length, drop};
