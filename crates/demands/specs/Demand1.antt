@@ -18,6 +18,8 @@ use Rattle.demands.specs.ForCShown.{thq-loop-read, thq-loop-written, thq
 use Rattle.demands.specs.JoinsForCShown.{thq-rows-joined, thq-long-joined, thq-loop-imported}
 use Rattle.demands.specs.Stereo.{thqReadStereo, thqWriteStereo}
 use Rattle.demands.specs.StereoShown.{thq-stereo-read, thq-stereo-written}
+use Rattle.demands.specs.PointsRead.{thqReadPoints}
+use Rattle.demands.specs.PointsReadShown.{thq-points-read}
 use Rattle.demands.specs.PointsWritten.{thqWritePoints}
 use Rattle.demands.specs.PointsWrittenShown.{thq-points-written}
 use Rattle.demands.specs.Sets.{readLayerSet, addLayer, removeLayer, thqSetRead, thqSetAdd, thqSetRemove, thqSetClosure}
@@ -63,6 +65,8 @@ pub record Demand-1 : Type 0 where
   pub thq-read-stereo : Promised (forC thqReadStereo)
   -- 1, 3, 6 to 9, 17, 25, 44, 46
   pub thq-write-stereo : Promised (forC thqWriteStereo)
+  -- 1 to 9, 17, 40 to 42
+  pub thq-read-points : Promised (forC thqReadPoints)
   -- 17, 25, 41
   pub thq-write-points : Promised (forC thqWritePoints)
   -- 1 to 9
@@ -105,6 +109,7 @@ demand-1 =
       thq-import = thq-loop-imported;
       thq-read-stereo = thq-stereo-read;
       thq-write-stereo = thq-stereo-written;
+      thq-read-points = thq-points-read;
       thq-write-points = thq-points-written;
       reading-a-layer-set = set-read;
       adding-a-layer = layer-added;

@@ -58,6 +58,8 @@ use Rattle.demands.specs.SetsShown.{set-read, layer-added, layer-removed
 use Rattle.demands.specs.SetsShown as shown
 use Rattle.demands.specs.Stereo.{thqReadStereo, thqWriteStereo}
 use Rattle.demands.specs.StereoShown.{thq-stereo-read, thq-stereo-written}
+use Rattle.demands.specs.PointsRead.{thqReadPoints}
+use Rattle.demands.specs.PointsReadShown.{thq-points-read}
 use Rattle.demands.specs.PointsWritten.{thqWritePoints}
 use Rattle.demands.specs.PointsWrittenShown.{thq-points-written}
 use Rattle.demands.specs.Demand2.{entriesOf, asGiven, LoopRewritten, read-back, rewritten}
@@ -100,6 +102,7 @@ pub record TenNever : Type 0 where
   pub thq-set-closure : Never10 (forC thqSetClosure)
   pub thq-read-stereo : Never10 (forC thqReadStereo)
   pub thq-write-stereo : Never10 (forC thqWriteStereo)
+  pub thq-read-points : Never10 (forC thqReadPoints)
   pub thq-write-points : Never10 (forC thqWritePoints)
   -- the listing, and with it the program `layers`, which prints it
   pub listing : (reading : Reading) (bytes rest : List ℕ) → loopText reading bytes ≡ ascii "refused 10 " ++ rest → ⊥
@@ -187,6 +190,7 @@ ten-never =
       thq-set-closure = never shown.thq-set-closure refl;
       thq-read-stereo = never thq-stereo-read refl;
       thq-write-stereo = never thq-stereo-written refl;
+      thq-read-points = never thq-points-read refl;
       thq-write-points = never thq-points-written refl;
       listing = never-in-text;
     }

@@ -6,6 +6,8 @@ pub mod JoinsForC
 pub mod JoinsForCShown
 pub mod Stereo
 pub mod StereoShown
+pub mod PointsRead
+pub mod PointsReadShown
 pub mod PointsWritten
 pub mod PointsWrittenShown
 pub mod Sets
