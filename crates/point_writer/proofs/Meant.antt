@@ -142,7 +142,7 @@ module _ (profiles points references layers : List ℕ) where
   behind : length (writeTable extensionTag [] ++ payloadBytes profiles points references layers) ≡ 1 + length (payloadBytes profiles points references layers)
   behind = omega arith
 
-  tag-written : Written extensionTag [] (writeTable extensionTag [])
+  pub tag-written : Written extensionTag [] (writeTable extensionTag [])
   tag-written = written (record { whole = refl; fixed-fit = refl }) (at-fixed none)
 
   pub descriptor-written : {v : DescriptorValue} → Gives profiles points references layers v → 1 + length (payloadBytes profiles points references layers) ≤ 255

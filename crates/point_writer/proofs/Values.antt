@@ -119,7 +119,7 @@ references-items [] f = refl
 references-items (r ∷ rs) (EachFits.one-then fit fits) =
     ap₂ (λ (x : Given) (xs : List Given). x ∷ xs) (sym (reference-item r (small-reference r fit))) (references-items rs fits)
 
-layers-items : (layers : List ℕ) → map flagsGiven (map flagsIn layers) ≡ map (itemIn flags) layers
+pub layers-items : (layers : List ℕ) → map flagsGiven (map flagsIn layers) ≡ map (itemIn flags) layers
 layers-items [] = refl
 layers-items (x ∷ xs) = ap₂ (λ (y : Given) (ys : List Given). y ∷ ys) (flags-given x) (layers-items xs)
 
@@ -268,13 +268,13 @@ references-back (x ∷ xs) e =
     ap₂ (λ (y : ℕ) (ys : List ℕ). y ∷ ys) (sym (reference-back x (neither-left (referenceTooWide x) (any referenceTooWide xs) e)))
     (references-back xs (neither-right (referenceTooWide x) (any referenceTooWide xs) e))
 
-references-given : (l : List ℕ) → map (itemIn reference) l ≡ map referenceGiven (map referenceIn l)
+pub references-given : (l : List ℕ) → map (itemIn reference) l ≡ map referenceGiven (map referenceIn l)
 references-given [] = refl
 references-given (x ∷ xs) = ap₂ (λ (y : Given) (ys : List Given). y ∷ ys) (sym (reference-given x)) (references-given xs)
 
 module _ (row references layers : List ℕ) (long : length row ≡ 12) (fine : rowTooWide row ≡ false) (some : length references ≡ referencesCounted row)
     (few : length layers ≡ layersCounted row) where
-  numbers-back : numbersOf (valueIn row references layers) ++ (getD row 10 0 ∷ getD row 11 0 ∷ []) ≡ row
+  pub numbers-back : numbersOf (valueIn row references layers) ++ (getD row 10 0 ∷ getD row 11 0 ∷ []) ≡ row
   numbers-back =
       let f = row-fits row fine in
       let r : length (map referenceIn references) ≡ getD row 1 0 = length-map references referenceIn ∙ some in
@@ -294,7 +294,7 @@ module _ (row references layers : List ℕ) (long : length row ≡ 12) (fine : r
       ∷ [])
       ∙ twelve row long
 
-  point-fits : PointFits (valueIn row references layers)
+  pub point-fits : PointFits (valueIn row references layers)
   unfolding rowTooWide
   point-fits =
       record {

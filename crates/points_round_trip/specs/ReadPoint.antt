@@ -67,7 +67,7 @@ rate-again (rate n) = refl
 
 -- ---- the lines by their names, those that may be there among them
 
-abbrev seven : ℕ → ℕ → ℕ → ℕ → ℕ → ℕ → ℕ → Given
+abbrev pub seven : ℕ → ℕ → ℕ → ℕ → ℕ → ℕ → ℕ → Given
 seven t e n a m c i =
     ("target_ols", t)
     ∷ ("ES_count", e)
