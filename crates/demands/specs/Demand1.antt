@@ -22,6 +22,7 @@ use Rattle.demands.specs.PointsRead.{thqReadPoints}
 use Rattle.demands.specs.PointsReadShown.{thq-points-read}
 use Rattle.demands.specs.PointsWritten.{thqWritePoints}
 use Rattle.demands.specs.PointsWrittenShown.{thq-points-written}
+use Rattle.demands.specs.Points.{readProgramPoints, program-points-read}
 use Rattle.demands.specs.Sets.{readLayerSet, addLayer, removeLayer, thqSetRead, thqSetAdd, thqSetRemove, thqSetClosure}
 use Rattle.demands.specs.SetsShown.{set-read, layer-added, layer-removed}
 use Rattle.demands.specs.SetsShown as shown
@@ -69,6 +70,8 @@ pub record Demand-1 : Type 0 where
   pub thq-read-points : Promised (forC thqReadPoints)
   -- 17, 25, 41
   pub thq-write-points : Promised (forC thqWritePoints)
+  -- 1 to 9, 40 to 42
+  pub reading-operation-points : Promised readProgramPoints
   -- 1 to 9
   pub reading-a-layer-set : Promised readLayerSet
   -- 3, 6 to 9, 25, of a layer set
@@ -111,6 +114,7 @@ demand-1 =
       thq-write-stereo = thq-stereo-written;
       thq-read-points = thq-points-read;
       thq-write-points = thq-points-written;
+      reading-operation-points = program-points-read;
       reading-a-layer-set = set-read;
       adding-a-layer = layer-added;
       removing-a-layer = layer-removed;

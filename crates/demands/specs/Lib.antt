@@ -12,6 +12,7 @@ pub mod PointsWritten
 pub mod PointsWrittenShown
 pub mod Sets
 pub mod SetsShown
+pub mod Points
 pub mod Others
 pub mod Demand1
 pub mod Demand2
@@ -21,5 +22,6 @@ pub mod EveryRow
 pub mod OtherLayers
 pub mod LayerSets
 pub mod StereoSets
+pub mod OperationPoints
 pub mod Starred
 pub mod Pins

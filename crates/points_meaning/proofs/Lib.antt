@@ -3,3 +3,4 @@ pub mod Loop
 pub mod Points
 pub mod Meant
 pub mod Closed
+pub mod Placed

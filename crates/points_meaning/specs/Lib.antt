@@ -2,3 +2,4 @@ pub mod Fields
 pub mod Telling
 pub mod Meaning
 pub mod Closed
+pub mod Placed
