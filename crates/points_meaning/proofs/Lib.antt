@@ -4,3 +4,5 @@ pub mod Points
 pub mod Meant
 pub mod Closed
 pub mod Placed
+pub mod Rows
+pub mod Examples

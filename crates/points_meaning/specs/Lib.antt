@@ -3,3 +3,4 @@ pub mod Telling
 pub mod Meaning
 pub mod Closed
 pub mod Placed
+pub mod Rows
