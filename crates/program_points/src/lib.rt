@@ -1,8 +1,8 @@
 // The operation points of a program (document 02, W-205): its own descriptor loop and the elementary-stream loop, by the 2015 reading, answer the points with
 // their stream lists, or the refusal: the elementary-stream loop's own, 1 to 9, then 40, 41, 42.
 //
-// specs/Places.antt has what stands at a place of the program's loop, specs/Told.antt the answer, specs/Meaning.antt what is right in the words of W-205, and
-// proofs/Meant.antt the proof that the two are one.
+// specs/Places.antt has what stands at a place of the program's loop, specs/Told.antt the answer; points_meaning has what is right in the words of W-205, and
+// the proof that the two are one.
 ghost use mathlib.Core.Path.{_≡_};
 ghost use mathlib.Core.List.{map};
 ghost use Prim.Native.Nat.{_≤_};
