@@ -23,5 +23,6 @@ pub mod OtherLayers
 pub mod LayerSets
 pub mod StereoSets
 pub mod OperationPoints
+pub mod PointRoundTrips
 pub mod Starred
 pub mod Pins
