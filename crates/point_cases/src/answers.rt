@@ -25,8 +25,7 @@ fn print_refusal(answer: u64) {
     say_number(b" place ", answer / 256);
 }
 
-// The answer of reading.
-pub fn print_read(answer: u64) {
+fn print_outcome(answer: u64) {
     if answer % 256 == 0 {
         say_number(b"accepted ", answer / 256);
     } else {
@@ -46,7 +45,7 @@ pub fn print_written(answer: u64, out: &[u8]) {
 }
 
 // So many numbers of a list behind a label, in decimal.
-pub fn print_numbers(label: &[u8], list: &[u32], count: u64) {
+fn print_numbers(label: &[u8], list: &[u32], count: u64) {
     say(label);
     let mut i = 0;
     while i < list.len() {
@@ -66,7 +65,7 @@ fn print_byte(byte: u8) {
 }
 
 // So many bytes of a list behind a label, in hexadecimal.
-pub fn print_bytes(label: &[u8], list: &[u8], count: u64) {
+fn print_bytes(label: &[u8], list: &[u8], count: u64) {
     say(label);
     let mut i = 0;
     while i < list.len() {
@@ -85,7 +84,7 @@ fn print_stream(stream: u8) {
 }
 
 // So many streams of a list behind a label, in decimal.
-pub fn print_streams(label: &[u8], list: &[u8], count: u64) {
+fn print_streams(label: &[u8], list: &[u8], count: u64) {
     say(label);
     let mut i = 0;
     while i < list.len() {
@@ -131,7 +130,7 @@ fn print_points(points: &[u32], count: u64) {
 }
 
 // What reading wrote of each list, by the summary: so many descriptors of 2 numbers, profiles of 12 bytes, points, references, layers and streams.
-pub fn print_lists(
+fn print_lists(
     descriptors: &[u32],
     profiles: &[u8],
     points: &[u32],
@@ -149,7 +148,7 @@ pub fn print_lists(
 }
 
 // All seven lists to their ends.
-pub fn print_left(
+fn print_left(
     descriptors: &[u32],
     profiles: &[u8],
     points: &[u32],
@@ -169,4 +168,42 @@ pub fn print_left(
     print_bytes(b"  leaves layers", layers, layers.len() as u64);
     print_streams(b"  leaves streams", streams, streams.len() as u64);
     print_numbers(b"  leaves summary", summary, summary.len() as u64);
+}
+
+// The answer of reading: a refusal writes nothing.
+pub fn print_read(
+    answer: u64,
+    to_the_end: bool,
+    descriptors: &[u32],
+    profiles: &[u8],
+    points: &[u32],
+    references: &[u8],
+    layers: &[u8],
+    streams: &[u8],
+    summary: &[u32],
+) {
+    print_outcome(answer);
+    if to_the_end {
+        print_left(
+            descriptors,
+            profiles,
+            points,
+            references,
+            layers,
+            streams,
+            summary,
+        );
+        return;
+    }
+    if answer % 256 == 0 {
+        print_lists(
+            descriptors,
+            profiles,
+            points,
+            references,
+            layers,
+            streams,
+            summary,
+        );
+    }
 }

@@ -7,8 +7,9 @@ use cases::number_or;
 use cases::read_bytes;
 use cases::unreadable;
 
-// Lends the lists, and prints what is answered and what was written of them.
+// Lends the lists, and prints what is answered and what they hold then: what was written of them, or to their ends.
 fn read_into(
+    to_the_end: bool,
     program: &[u8],
     bytes: &[u8],
     descriptors: &mut [u32],
@@ -30,18 +31,17 @@ fn read_into(
         streams,
         summary,
     );
-    answers::print_read(answer);
-    if answer % 256 == 0 {
-        answers::print_lists(
-            descriptors,
-            profiles,
-            points,
-            references,
-            layers,
-            streams,
-            summary,
-        );
-    }
+    answers::print_read(
+        answer,
+        to_the_end,
+        descriptors,
+        profiles,
+        points,
+        references,
+        layers,
+        streams,
+        summary,
+    );
 }
 
 // A loop of 1,008 bytes has at most 336 descriptors and 336 points, each with at most 64 streams.
@@ -54,6 +54,7 @@ fn read_points(program: &[u8], bytes: &[u8]) {
     let mut streams = [0u8; 21504];
     let mut summary = [0u32; 6];
     read_into(
+        false,
         program,
         bytes,
         &mut descriptors,
@@ -63,40 +64,6 @@ fn read_points(program: &[u8], bytes: &[u8]) {
         &mut layers,
         &mut streams,
         &mut summary,
-    );
-}
-
-// Lends the lists, and prints what is answered and what they hold then.
-fn leave_in(
-    program: &[u8],
-    bytes: &[u8],
-    descriptors: &mut [u32],
-    profiles: &mut [u8],
-    points: &mut [u32],
-    references: &mut [u8],
-    layers: &mut [u8],
-    streams: &mut [u8],
-    summary: &mut [u32],
-) {
-    answers::print_read(thoquenry_points::thq_read_points(
-        program,
-        bytes,
-        descriptors,
-        profiles,
-        points,
-        references,
-        layers,
-        streams,
-        summary,
-    ));
-    answers::print_left(
-        descriptors,
-        profiles,
-        points,
-        references,
-        layers,
-        streams,
-        summary,
     );
 }
 
@@ -127,7 +94,8 @@ fn room_points(program: &[u8], bytes: &[u8], rooms: Numbers) {
     let mut layers = [170u8; 64];
     let mut streams = [170u8; 64];
     let mut summary = [170u32; 64];
-    leave_in(
+    read_into(
+        true,
         program,
         bytes,
         &mut descriptors[..descriptor_places],

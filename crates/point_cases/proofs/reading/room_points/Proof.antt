@@ -30,47 +30,47 @@ places-requires-7 c κs = search needs
 array-borrow-prefix-descriptors : tie.Need-array-borrow-prefix-descriptors
 array-borrow-prefix-descriptors c = search needs
 
-slice-aggregate-leave-in : tie.Need-slice-aggregate-leave-in
-slice-aggregate-leave-in c = sym (length-take-le _ _ (search needs))
+slice-aggregate-read-into : tie.Need-slice-aggregate-read-into
+slice-aggregate-read-into c = sym (length-take-le _ _ (search needs))
 
 array-borrow-prefix-profiles : tie.Need-array-borrow-prefix-profiles
 array-borrow-prefix-profiles c = search needs
 
-slice-aggregate-leave-in-2 : tie.Need-slice-aggregate-leave-in-2
-slice-aggregate-leave-in-2 c = sym (length-take-le _ _ (search needs))
+slice-aggregate-read-into-2 : tie.Need-slice-aggregate-read-into-2
+slice-aggregate-read-into-2 c = sym (length-take-le _ _ (search needs))
 
 array-borrow-prefix-points : tie.Need-array-borrow-prefix-points
 array-borrow-prefix-points c = search needs
 
-slice-aggregate-leave-in-3 : tie.Need-slice-aggregate-leave-in-3
-slice-aggregate-leave-in-3 c = sym (length-take-le _ _ (search needs))
+slice-aggregate-read-into-3 : tie.Need-slice-aggregate-read-into-3
+slice-aggregate-read-into-3 c = sym (length-take-le _ _ (search needs))
 
 array-borrow-prefix-references : tie.Need-array-borrow-prefix-references
 array-borrow-prefix-references c = search needs
 
-slice-aggregate-leave-in-4 : tie.Need-slice-aggregate-leave-in-4
-slice-aggregate-leave-in-4 c = sym (length-take-le _ _ (search needs))
+slice-aggregate-read-into-4 : tie.Need-slice-aggregate-read-into-4
+slice-aggregate-read-into-4 c = sym (length-take-le _ _ (search needs))
 
 array-borrow-prefix-layers : tie.Need-array-borrow-prefix-layers
 array-borrow-prefix-layers c = search needs
 
-slice-aggregate-leave-in-5 : tie.Need-slice-aggregate-leave-in-5
-slice-aggregate-leave-in-5 c = sym (length-take-le _ _ (search needs))
+slice-aggregate-read-into-5 : tie.Need-slice-aggregate-read-into-5
+slice-aggregate-read-into-5 c = sym (length-take-le _ _ (search needs))
 
 array-borrow-prefix-streams : tie.Need-array-borrow-prefix-streams
 array-borrow-prefix-streams c = search needs
 
-slice-aggregate-leave-in-6 : tie.Need-slice-aggregate-leave-in-6
-slice-aggregate-leave-in-6 c = sym (length-take-le _ _ (search needs))
+slice-aggregate-read-into-6 : tie.Need-slice-aggregate-read-into-6
+slice-aggregate-read-into-6 c = sym (length-take-le _ _ (search needs))
 
 array-borrow-prefix-summary : tie.Need-array-borrow-prefix-summary
 array-borrow-prefix-summary c = search needs
 
-slice-aggregate-leave-in-7 : tie.Need-slice-aggregate-leave-in-7
-slice-aggregate-leave-in-7 c = sym (length-take-le _ _ (search needs))
+slice-aggregate-read-into-7 : tie.Need-slice-aggregate-read-into-7
+slice-aggregate-read-into-7 c = sym (length-take-le _ _ (search needs))
 
-leave-in-requires : tie.Need-leave-in-requires
-leave-in-requires c κs = search needs
+read-into-requires : tie.Need-read-into-requires
+read-into-requires c κs = search needs
 
 returns : tie.Need-returns
 returns c = search needs
@@ -87,18 +87,18 @@ room-points-spec =
     places-requires-6
     places-requires-7
     array-borrow-prefix-descriptors
-    slice-aggregate-leave-in
+    slice-aggregate-read-into
     array-borrow-prefix-profiles
-    slice-aggregate-leave-in-2
+    slice-aggregate-read-into-2
     array-borrow-prefix-points
-    slice-aggregate-leave-in-3
+    slice-aggregate-read-into-3
     array-borrow-prefix-references
-    slice-aggregate-leave-in-4
+    slice-aggregate-read-into-4
     array-borrow-prefix-layers
-    slice-aggregate-leave-in-5
+    slice-aggregate-read-into-5
     array-borrow-prefix-streams
-    slice-aggregate-leave-in-6
+    slice-aggregate-read-into-6
     array-borrow-prefix-summary
-    slice-aggregate-leave-in-7
-    leave-in-requires
+    slice-aggregate-read-into-7
+    read-into-requires
     returns)
