@@ -11,11 +11,11 @@ use Rattle.vocabulary.specs.declared.stream_types.Reading.{Reading}
 use Rattle.vocabulary.specs.declared.stream_types.Reading.the-variants.{Edition2009, Edition2015}
 use Rattle.vocabulary.specs.declared.refusal.Refusal.{Refusal}
 use Rattle.vocabulary.specs.Refusals.{numberOf}
-use Rattle.es_loop.specs.declared.entries.Entry.{Entry}
-use Rattle.es_loop.specs.declared.entries.Stream.{Stream}
+use Rattle.loop_entries.specs.declared.Entry.{Entry}
+use Rattle.loop_entries.specs.declared.Stream.{Stream}
 use Rattle.es_loop.specs.declared.reader.Outcome.the-variants.{Accepted}
 use Rattle.es_loop.specs.declared.reader.LoopRead.{LoopRead}
-use Rattle.es_loop.specs.Entries.{streamOf, markedStreams}
+use Rattle.loop_entries.specs.Entries.{streamOf, markedStreams}
 use Rattle.es_loop.specs.Reading.{accepted, loopRead}
 use Rattle.es_loop.specs.Meaning.{too-long, refuses}
 use Rattle.es_loop.specs.Meaning as Loop

@@ -21,23 +21,23 @@ use Rattle.vocabulary.specs.declared.stream_types.Reading.{Reading}
 use Rattle.vocabulary.specs.declared.stream_types.Reading.the-variants.{Edition2009, Edition2015}
 use Rattle.vocabulary.specs.StreamTypes.{known}
 use Rattle.hierarchy.specs.declared.HierarchyRecord.{HierarchyRecord}
-use Rattle.descriptors.specs.declared.«record».Record.{Record}
-use Rattle.descriptors.specs.declared.«record».Record.the-variants.{NoRecord, Hierarchy, Extension, Implied}
+use Rattle.records.specs.declared.Record.{Record}
+use Rattle.records.specs.declared.Record.the-variants.{NoRecord, Hierarchy, Extension, Implied}
 use Rattle.descriptors.specs.declared.looking.Seen.{Seen}
 use Rattle.extension.specs.declared.ExtensionRecord.{ExtensionRecord}
 use Rattle.descriptors.proofs.Meant.{descriptors-meant, descriptors-only}
 use Rattle.extension.specs.Extension.{noLayer}
 use Rattle.descriptors.specs.Looking.{Kind, does-not-fit, skipped, wrong-length, hierarchy, extension, kindsOf, Held, heldIn, isWrongLength, firstRecord, firstLayers, seenOf, nothingSeen, is-wrong-length}
 use Rattle.judging.specs.Meaning.{TypeNotAllowed, hierarchy-type, extension-on-avc, extension-on-svc, extension-on-mvc, unknown-type, mark-missing, WrongFlags, type-9, more-than-one, Flag, view, temporal, spatial, quality, flag, WrongEmbedded, not-below, listed-twice}
-use Rattle.descriptors.specs.Records.{indexOf}
+use Rattle.records.specs.Records.{indexOf}
 use Rattle.implied.specs.Rule.{isView, given, ofType, isDescribedView}
 use Rattle.implied.specs.Marking.{isDescribed, withMark, markedRecord}
 use Rattle.implied.proofs.Marks.{view-known}
-use Rattle.es_loop.specs.declared.entries.Entry.{Entry}
+use Rattle.loop_entries.specs.declared.Entry.{Entry}
 use Rattle.es_loop.specs.declared.reader.Outcome.the-variants.{Accepted}
 use Rattle.es_loop.specs.declared.reader.LoopRead.{LoopRead}
-use Rattle.es_loop.specs.declared.entries.Stream.{Stream}
-use Rattle.es_loop.specs.Entries.{streamType, elementaryPid, streamOf, shownOf, pairOf, markedStream, markedStreams, entryOf}
+use Rattle.loop_entries.specs.declared.Stream.{Stream}
+use Rattle.loop_entries.specs.Entries.{streamType, elementaryPid, streamOf, shownOf, pairOf, markedStream, markedStreams, entryOf}
 use Rattle.es_loop.specs.Reading.{accepted, loopRead}
 use Rattle.es_loop.specs.Meaning.{KnownAt, RecordAt, OnlyView, LayerAt, written, implied, Condition, entry-unfit, descriptor-unfit, pid-seen, length-wrong, two-records, type-wrong, flags-wrong, index-held, embedded-wrong, Answers, too-long, refuses, accepts}
 use Rattle.es_loop.proofs.Meant.{answer-meant, answer-only}

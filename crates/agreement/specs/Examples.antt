@@ -10,8 +10,8 @@ use lib.ListN.{getD}
 use Rattle.combinators.specs.Lists.{getD-nth}
 use Rattle.vocabulary.specs.declared.stream_types.Reading.the-variants.{Edition2009, Edition2015}
 use Rattle.vocabulary.specs.declared.refusal.Refusal.the-variants.{NoSuchLayer, EmbeddedLayerAbsent}
-use Rattle.es_loop.specs.declared.entries.Entry.{Entry}
-use Rattle.es_loop.specs.Entries.{blankEntry}
+use Rattle.loop_entries.specs.declared.Entry.{Entry}
+use Rattle.loop_entries.specs.Entries.{blankEntry}
 use Rattle.es_loop.specs.Examples.{loopA}
 use Rattle.closure.specs.declared.Layers.{Layers}
 use Rattle.closure.specs.declared.Closure.the-variants.{Complete, Refused}

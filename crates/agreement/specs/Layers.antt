@@ -18,12 +18,12 @@ use Rattle.sets.specs.Sets.{has}
 use Rattle.vocabulary.specs.declared.LayerIndex.{LayerIndex}
 use Rattle.vocabulary.specs.declared.stream_types.Reading.the-variants.{Edition2009, Edition2015}
 use Rattle.vocabulary.specs.StreamTypes.{known}
-use Rattle.descriptors.specs.declared.«record».Record.{Record}
-use Rattle.descriptors.specs.declared.«record».Record.the-variants.{NoRecord, Hierarchy, Extension, Implied}
+use Rattle.records.specs.declared.Record.{Record}
+use Rattle.records.specs.declared.Record.the-variants.{NoRecord, Hierarchy, Extension, Implied}
 use Rattle.extension.specs.Extension.{noLayer}
-use Rattle.descriptors.specs.Records.{indexOf}
-use Rattle.descriptors.specs.Records as Records
-use Rattle.es_loop.specs.declared.entries.Entry.{Entry}
+use Rattle.records.specs.Records.{indexOf}
+use Rattle.records.specs.Records as Records
+use Rattle.loop_entries.specs.declared.Entry.{Entry}
 use Rattle.closure.specs.Closures.{isLayer}
 use Rattle.loop_layers.specs.Layers.{embeddedIn, layersOf}
 use Rattle.loop_layers.specs.Meaning.{LayerAt, LayerOf, HasLayer}

@@ -12,8 +12,8 @@ use Rattle.combinators.specs.Bools.{neither-left, neither-right}
 use Rattle.combinators.specs.Lists.{any, gather}
 use Rattle.framing.specs.Pieces.{Item, whole, broken, cut}
 use Rattle.vocabulary.specs.declared.stream_types.Reading.the-variants.{Edition2009, Edition2015}
-use Rattle.descriptors.specs.declared.«record».Record.{Record}
-use Rattle.descriptors.specs.declared.«record».Record.the-variants.{NoRecord, Hierarchy, Extension, Implied}
+use Rattle.records.specs.declared.Record.{Record}
+use Rattle.records.specs.declared.Record.the-variants.{NoRecord, Hierarchy, Extension, Implied}
 use Rattle.hierarchy.specs.Hierarchy.{hierarchyOf}
 use Rattle.extension.specs.Extension.{extensionOf, embeddedOf}
 use Rattle.descriptors.specs.Looking.{Kind, does-not-fit, skipped, wrong-length, hierarchy, extension, tag4Kind, extensionKind, kindOf, kindsOf, Held, heldIn, isWrongLength, firstRecord}

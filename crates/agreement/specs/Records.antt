@@ -15,11 +15,11 @@ use Rattle.vocabulary.specs.declared.LayerIndex.{LayerIndex}
 use Rattle.vocabulary.specs.declared.stream_types.Reading.the-variants.{Edition2009, Edition2015}
 use Rattle.vocabulary.specs.StreamTypes.{knownTypes, known}
 use Rattle.hierarchy.specs.declared.HierarchyRecord.{HierarchyRecord}
-use Rattle.descriptors.specs.declared.«record».Record.{Record}
-use Rattle.descriptors.specs.declared.«record».Record.the-variants.{NoRecord, Hierarchy, Extension, Implied}
+use Rattle.records.specs.declared.Record.{Record}
+use Rattle.records.specs.declared.Record.the-variants.{NoRecord, Hierarchy, Extension, Implied}
 use Rattle.extension.specs.Extension.{noLayer}
 use Rattle.hierarchy.specs.Hierarchy.{hierarchyOf}
-use Rattle.es_loop.specs.declared.entries.Entry.{Entry}
+use Rattle.loop_entries.specs.declared.Entry.{Entry}
 
 -- 'the 2009 reading answers no_view as 1'
 abbrev pub viewUnread : HierarchyRecord → HierarchyRecord

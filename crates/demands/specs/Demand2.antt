@@ -18,10 +18,10 @@ use Rattle.syntax.specs.Table.{AreBytes}
 use Rattle.vocabulary.specs.declared.refusal.Refusal.the-variants.{Unpaired, UsedTwice}
 use Rattle.vocabulary.specs.declared.stream_types.Reading.{Reading}
 use Rattle.vocabulary.specs.declared.stream_types.Reading.the-variants.{Edition2015}
-use Rattle.es_loop.specs.declared.entries.Entry.{Entry}
-use Rattle.es_loop.specs.declared.entries.Stream.{Stream}
+use Rattle.loop_entries.specs.declared.Entry.{Entry}
+use Rattle.loop_entries.specs.declared.Stream.{Stream}
 use Rattle.es_loop.specs.declared.reader.Outcome.the-variants.{Accepted as LoopAccepted}
-use Rattle.es_loop.specs.Entries.{blankEntry, entryOf}
+use Rattle.loop_entries.specs.Entries.{blankEntry, entryOf}
 use Rattle.es_loop.specs.Reading.{loopRead, accepted}
 use Rattle.es_loop.specs.Meaning as LoopMeaning
 use Rattle.es_loop.specs.declared.reader.LoopRead.{LoopRead}

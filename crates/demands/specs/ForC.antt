@@ -9,7 +9,7 @@ use denote.Ref.{now}
 use Rattle.buffers.specs.Buffers.{over}
 use Rattle.sets.specs.Sets.{size}
 use Rattle.vocabulary.specs.declared.refusal.Refusal.the-variants.{NoRoom, TooWide}
-use Rattle.es_loop.specs.declared.entries.Entry.{Entry}
+use Rattle.loop_entries.specs.declared.Entry.{Entry}
 use Rattle.es_loop.specs.declared.reader.Outcome.{Outcome}
 use Rattle.es_loop.specs.declared.reader.Outcome.the-variants as Outcome
 use Rattle.es_loop.specs.declared.reader.LoopRead.{LoopRead}

@@ -6,8 +6,8 @@ use mathlib.Core.List.{List, []}
 use mathlib.Core.Logic.{_↔_}
 use mathlib.Core.Path.{_≡_}
 use Rattle.vocabulary.specs.declared.stream_types.Reading.{Reading}
-use Rattle.descriptors.specs.Records.{indexOf}
-use Rattle.es_loop.specs.declared.entries.Entry.{Entry}
+use Rattle.records.specs.Records.{indexOf}
+use Rattle.loop_entries.specs.declared.Entry.{Entry}
 use Rattle.es_loop.specs.declared.reader.Outcome.the-variants.{Accepted}
 use Rattle.es_loop.specs.Reading.{loopRead}
 use Rattle.closure.specs.Closures.{closureOf}

@@ -9,7 +9,7 @@ use denote.Ref.{now}
 use Rattle.sets.specs.Sets.{size}
 use Rattle.vocabulary.specs.declared.stream_types.Reading.{Reading}
 use Rattle.vocabulary.specs.declared.refusal.Refusal.the-variants.{TooWide}
-use Rattle.es_loop.specs.declared.entries.Entry.{Entry}
+use Rattle.loop_entries.specs.declared.Entry.{Entry}
 use Rattle.es_loop.specs.declared.reader.Outcome.{Outcome}
 use Rattle.es_loop.specs.declared.reader.Outcome.the-variants as Outcome
 use Rattle.closure.specs.declared.Closure.{Closure}

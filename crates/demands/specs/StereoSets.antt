@@ -12,10 +12,10 @@ use Rattle.framing.specs.Pieces.{Item, Cuts, cut, cuts-unique}
 use Rattle.syntax.specs.Table.{AreBytes, fits}
 use Rattle.vocabulary.specs.declared.stream_types.Reading.{Reading}
 use Rattle.vocabulary.specs.declared.stream_types.Reading.the-variants.{Edition2015}
-use Rattle.es_loop.specs.declared.entries.Entry.{Entry}
+use Rattle.loop_entries.specs.declared.Entry.{Entry}
 use Rattle.es_loop.specs.declared.reader.Outcome.the-variants.{Accepted}
 use Rattle.es_loop.specs.declared.reader.LoopRead.{LoopRead}
-use Rattle.es_loop.specs.Entries.{esInfoLength, blankEntry}
+use Rattle.loop_entries.specs.Entries.{esInfoLength, blankEntry}
 use Rattle.es_loop.specs.Reading.{loopRead}
 use Rattle.es_loop.specs.Meaning as Loop
 use Rattle.es_loop.proofs.Meant.{by-head, answer-meant, answer-only}

@@ -14,19 +14,19 @@ use Rattle.combinators.specs.Padding.{padTo}
 use Rattle.vocabulary.specs.declared.LayerIndex.{LayerIndex}
 use Rattle.vocabulary.specs.declared.stream_types.Reading.{Reading}
 use Rattle.vocabulary.specs.declared.stream_types.Reading.the-variants.{Edition2009, Edition2015}
-use Rattle.descriptors.specs.declared.«record».Record.{Record}
-use Rattle.descriptors.specs.declared.«record».Record.the-variants.{NoRecord, Hierarchy, Extension, Implied}
+use Rattle.records.specs.declared.Record.{Record}
+use Rattle.records.specs.declared.Record.the-variants.{NoRecord, Hierarchy, Extension, Implied}
 use Rattle.descriptors.specs.declared.looking.Look.{Look}
 use Rattle.descriptors.specs.declared.looking.Look.the-variants.{Skipped, WrongLength, Hierarchy as LookHierarchy, Extension as LookExtension}
 use Rattle.descriptors.specs.declared.looking.Found.{Found}
 use Rattle.descriptors.specs.declared.looking.Named.{Named}
 use Rattle.descriptors.specs.declared.looking.Seen.{Seen}
 use Rattle.extension.specs.Extension.{noLayer, extensionOf, layerIndexOf, layersOf, embeddedOf}
-use Rattle.descriptors.specs.Records.{isLayer, plain, hierarchyList, withIndices}
+use Rattle.records.specs.Records.{isLayer, plain, hierarchyList, withIndices}
 use Rattle.descriptors.specs.Looking.{Kind, does-not-fit, skipped, wrong-length, hierarchy, extension, Held, heldIn, payloadKind, tag63Kind}
 use Rattle.descriptors.specs.Finding.{lookOf, layersIn, lookFound, listBefore, Within, seenBy, namedIn}
 use Rattle.descriptors.proofs.Cases.{count-small}
-use Rattle.descriptors.proofs.Naming.{padded-list}
+use Rattle.records.proofs.Naming.{padded-list}
 use Rattle.descriptors.proofs.Steps.{withLook}
 
 module _ (info : List ℕ) (end : ℕ) where

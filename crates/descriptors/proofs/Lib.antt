@@ -1,5 +1,3 @@
-pub mod Sizes
-pub mod Naming
 pub mod Steps
 pub mod Walk
 pub mod Cases

@@ -11,8 +11,8 @@ use lib.ListN.{length}
 use Rattle.combinators.specs.Lists.{any, gather}
 use Rattle.combinators.specs.Padding.{padTo}
 use Rattle.vocabulary.specs.declared.LayerIndex.{LayerIndex}
-use Rattle.descriptors.specs.declared.«record».Record.{Record}
-use Rattle.descriptors.specs.declared.«record».Record.the-variants.{NoRecord, Hierarchy, Extension, Implied}
+use Rattle.records.specs.declared.Record.{Record}
+use Rattle.records.specs.declared.Record.the-variants.{NoRecord, Hierarchy, Extension, Implied}
 use Rattle.descriptors.specs.declared.looking.Look.{Look}
 use Rattle.descriptors.specs.declared.looking.Look.the-variants.{Skipped, WrongLength, Hierarchy as LookHierarchy, Extension as LookExtension}
 use Rattle.descriptors.specs.declared.looking.Seen.{Seen}

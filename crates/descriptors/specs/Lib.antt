@@ -1,4 +1,3 @@
-pub mod Records
 pub mod Looking
 pub mod Finding
 pub mod Meaning

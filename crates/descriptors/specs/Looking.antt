@@ -17,8 +17,8 @@ use Rattle.vocabulary.specs.declared.stream_types.Reading.{Reading}
 use Rattle.vocabulary.specs.declared.stream_types.Reading.the-variants.{Edition2009, Edition2015}
 use Rattle.hierarchy.specs.declared.HierarchyRecord.{HierarchyRecord}
 use Rattle.extension.specs.declared.ExtensionRecord.{ExtensionRecord}
-use Rattle.descriptors.specs.declared.«record».Record.{Record}
-use Rattle.descriptors.specs.declared.«record».Record.the-variants.{NoRecord, Hierarchy, Extension}
+use Rattle.records.specs.declared.Record.{Record}
+use Rattle.records.specs.declared.Record.the-variants.{NoRecord, Hierarchy, Extension}
 use Rattle.descriptors.specs.declared.looking.Seen.{Seen}
 use Rattle.descriptor_heads.specs.Head.{descriptorHead}
 use Rattle.extension.specs.Extension.{noLayer, extensionOf, embeddedOf}

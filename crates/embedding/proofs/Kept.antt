@@ -3,8 +3,8 @@
 use Prim.Native.Nat.{ℕ}
 use mathlib.Core.List.{List}
 use Rattle.vocabulary.specs.declared.stream_types.Reading.{Reading}
-use Rattle.es_loop.specs.declared.entries.Entry.{Entry}
-use Rattle.es_loop.specs.declared.entries.Stream.{Stream}
+use Rattle.loop_entries.specs.declared.Entry.{Entry}
+use Rattle.loop_entries.specs.declared.Stream.{Stream}
 use Rattle.es_loop.specs.Reading.{accepted as acceptedNow}
 use Rattle.es_loop.specs.Meaning as Loop
 use Rattle.loop_writer.specs.declared.writer.Written.the-variants.{Bytes}

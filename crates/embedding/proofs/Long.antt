@@ -18,17 +18,17 @@ use Rattle.vocabulary.specs.declared.LayerIndex.{LayerIndex}
 use Rattle.vocabulary.specs.declared.stream_types.Reading.{Reading}
 use Rattle.vocabulary.specs.declared.stream_types.Reading.the-variants.{Edition2009, Edition2015}
 use Rattle.extension.specs.declared.ExtensionRecord.{ExtensionRecord}
-use Rattle.descriptors.specs.declared.«record».Record.{Record}
-use Rattle.descriptors.specs.declared.«record».Record.the-variants.{NoRecord, Hierarchy, Extension, Implied}
+use Rattle.records.specs.declared.Record.{Record}
+use Rattle.records.specs.declared.Record.the-variants.{NoRecord, Hierarchy, Extension, Implied}
 use Rattle.descriptors.specs.Looking.{Kind, Held, heldIn}
 use Rattle.descriptors.specs.Meaning.{ShowEach, none, one-then, unfit, a-hierarchy, not-4-long, an-extension, without-its-count, not-as-counted, other-extension, no-extension-tag, extension-in-2009, other-tag}
-use Rattle.descriptors.specs.Records.{isLayer}
-use Rattle.es_loop.specs.declared.entries.Entry.{Entry}
-use Rattle.es_loop.specs.declared.entries.Stream.{Stream}
+use Rattle.records.specs.Records.{isLayer}
+use Rattle.loop_entries.specs.declared.Entry.{Entry}
+use Rattle.loop_entries.specs.declared.Stream.{Stream}
 use Rattle.es_loop.specs.declared.reader.Outcome.the-variants.{Accepted}
 use Rattle.es_loop.specs.declared.reader.LoopRead.{LoopRead}
-use Rattle.es_loop.specs.Entries.{esInfoLength, streamOf, noStream, pairOf, markedStream, markedStreams, entryOf, blankEntry}
-use Rattle.es_loop.specs.Conditions.{recordAt}
+use Rattle.loop_entries.specs.Entries.{esInfoLength, streamOf, noStream, pairOf, markedStream, markedStreams, entryOf, blankEntry}
+use Rattle.loop_faults.specs.Conditions.{recordAt}
 use Rattle.es_loop.specs.Reading.{accepted as acceptedNow, loopRead}
 use Rattle.es_loop.specs.Meaning.{RecordAt, LayerAt, written, implied}
 use Rattle.es_loop.specs.Meaning as Loop

@@ -8,8 +8,8 @@ use native.Mathlib.Decide.{decLt}
 use lib.ListN.{length}
 use Rattle.framing.specs.Pieces.{Item, cut, cuts-unique}
 use Rattle.vocabulary.specs.declared.stream_types.Reading.{Reading}
-use Rattle.es_loop.specs.declared.entries.Stream.{Stream}
-use Rattle.es_loop.specs.Entries.{esInfoLength, streamOf, markedStreams}
+use Rattle.loop_entries.specs.declared.Stream.{Stream}
+use Rattle.loop_entries.specs.Entries.{esInfoLength, streamOf, markedStreams}
 use Rattle.es_loop.proofs.Meant.{by-head}
 use Rattle.embedding.specs.Before.{Told, refused, accepted}
 use Rattle.embedding.specs.ReadingBefore.{Condition, Answers, too-long, refuses, accepts}

@@ -2,8 +2,8 @@
 -- Assumes nothing.
 use Prim.Native.Nat.{ℕ, _<_}
 use Rattle.extension.specs.declared.ExtensionRecord.{ExtensionRecord}
-use Rattle.descriptors.specs.declared.«record».Record.{Record}
-use Rattle.descriptors.specs.declared.«record».Record.the-variants.{Extension}
+use Rattle.records.specs.declared.Record.{Record}
+use Rattle.records.specs.declared.Record.the-variants.{Extension}
 
 -- 10: 'more than 8 embedded layers'
 pub data MoreThan8 : Record → Type 0 where

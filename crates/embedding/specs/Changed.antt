@@ -8,9 +8,9 @@ use mathlib.Core.Path.{_≡_}
 use Rattle.combinators.specs.Lists.{Nth}
 use Rattle.vocabulary.specs.declared.stream_types.Reading.{Reading}
 use Rattle.vocabulary.specs.declared.stream_types.Reading.the-variants.{Edition2009, Edition2015}
-use Rattle.es_loop.specs.declared.entries.Entry.{Entry}
-use Rattle.es_loop.specs.declared.entries.Stream.{Stream}
-use Rattle.es_loop.specs.Entries.{entryOf}
+use Rattle.loop_entries.specs.declared.Entry.{Entry}
+use Rattle.loop_entries.specs.declared.Stream.{Stream}
+use Rattle.loop_entries.specs.Entries.{entryOf}
 use Rattle.es_loop.specs.Reading.{accepted as acceptedNow}
 use Rattle.es_loop.specs.Meaning as Loop
 use Rattle.loop_writer.specs.declared.writer.Written.the-variants.{Bytes}

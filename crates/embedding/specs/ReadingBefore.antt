@@ -7,9 +7,9 @@ use lib.ListN.{length}
 use Rattle.framing.specs.Pieces.{Item, Cuts}
 use Rattle.vocabulary.specs.declared.LayerIndex.{LayerIndex}
 use Rattle.vocabulary.specs.declared.stream_types.Reading.{Reading}
-use Rattle.descriptors.specs.declared.«record».Record.{Record}
-use Rattle.es_loop.specs.declared.entries.Stream.{Stream}
-use Rattle.es_loop.specs.Entries.{esInfoLength, streamOf, markedStreams}
+use Rattle.records.specs.declared.Record.{Record}
+use Rattle.loop_entries.specs.declared.Stream.{Stream}
+use Rattle.loop_entries.specs.Entries.{esInfoLength, streamOf, markedStreams}
 use Rattle.es_loop.specs.Meaning.{RecordAt}
 use Rattle.es_loop.specs.Meaning as Loop
 use Rattle.embedding.specs.Before.{MoreThan8, Told, refused, accepted}

@@ -5,7 +5,7 @@ use Prim.Native.Nat.{ℕ, _≤_, _<_}
 use mathlib.Core.List.{List, _++_}
 use lib.ListN.{length, take, drop}
 use Rattle.combinators.specs.Lists.{Nth}
-use Rattle.es_loop.specs.declared.entries.Entry.{Entry}
+use Rattle.loop_entries.specs.declared.Entry.{Entry}
 use Rattle.loop_writer.specs.Meaning.{SomeTooWide, EachFits, WritesEntries}
 use Rattle.loop_writer.specs.Meaning as Writer
 use Rattle.embedding.specs.Before.{MoreThan8, Told, refused, accepted}

@@ -18,16 +18,16 @@ use Rattle.syntax.proofs.Laws.{fits-fit}
 use Rattle.syntax.proofs.Equations.{bounds}
 use Rattle.vocabulary.specs.declared.LayerIndex.{LayerIndex}
 use Rattle.vocabulary.specs.declared.stream_types.Reading.the-variants.{Edition2015}
-use Rattle.descriptors.specs.declared.«record».Record.{Record}
-use Rattle.descriptors.specs.declared.«record».Record.the-variants.{NoRecord, Hierarchy, Extension, Implied}
+use Rattle.records.specs.declared.Record.{Record}
+use Rattle.records.specs.declared.Record.the-variants.{NoRecord, Hierarchy, Extension, Implied}
 use Rattle.hierarchy.specs.Hierarchy.{hierarchyDescriptor, hierarchyFrom}
 use Rattle.extension.specs.Extension.{extensionHead, noLayer, extensionFrom, layerTable}
-use Rattle.es_loop.specs.declared.entries.Entry.{Entry}
-use Rattle.es_loop.specs.Entries.{blankEntry}
+use Rattle.loop_entries.specs.declared.Entry.{Entry}
+use Rattle.loop_entries.specs.Entries.{blankEntry}
 use Rattle.syntax.specs.Filled.{tooWideIn}
-use Rattle.descriptors.specs.Records.{recordTables}
+use Rattle.records.specs.Records.{recordTables}
 use Rattle.loop_writer.specs.Layout.{infoBytes, tooWide}
-use Rattle.descriptors.proofs.Sizes.{info-short}
+use Rattle.records.proofs.Sizes.{info-short}
 use Rattle.entry_rows.specs.Rows.{kindIn, countIn, fieldsIn, listIn, layerTooWide, rowTooWide, layerOf, entryIn, rowCount, rowAt, someTooWide, entriesBelow, entriesIn}
 use Rattle.entry_rows.proofs.Laws.{hierarchy-entry, extension-entry, no-record-entry, implied-entry}
 use Rattle.entry_rows.proofs.Judged.{kind-fine, type-bound, pid-bound, hierarchy-fine, extension-fine, list-fine}

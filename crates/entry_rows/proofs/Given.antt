@@ -9,8 +9,8 @@ use native.Mathlib.Decide.{decLt}
 use lib.ListN.{length, getD, take, replicate, List·getD-append}
 use lib.Seq.{take-at, getD-at}
 use Rattle.combinators.specs.Below.{none-at}
-use Rattle.es_loop.specs.declared.entries.Entry.{Entry}
-use Rattle.es_loop.specs.Entries.{blankEntry}
+use Rattle.loop_entries.specs.declared.Entry.{Entry}
+use Rattle.loop_entries.specs.Entries.{blankEntry}
 use Rattle.loop_writer.specs.Layout.{tooWide}
 use Rattle.entry_rows.specs.Rows.{rowTooWide, entryIn, rowCount, rowAt, someTooWide, entriesBelow, entriesIn}
 use Rattle.entry_rows.proofs.Judged.{length-entries}

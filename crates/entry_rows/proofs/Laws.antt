@@ -8,12 +8,12 @@ use lib.ListN.{length, getD, take, length-append, length-map, length-take}
 use Rattle.syntax.specs.Named.{byNames}
 use Rattle.combinators.specs.Padding.{padTo, length-padTo}
 use Rattle.vocabulary.specs.declared.LayerIndex.{LayerIndex}
-use Rattle.descriptors.specs.declared.«record».Record.{Record}
-use Rattle.descriptors.specs.declared.«record».Record.the-variants.{NoRecord, Hierarchy, Extension, Implied}
+use Rattle.records.specs.declared.Record.{Record}
+use Rattle.records.specs.declared.Record.the-variants.{NoRecord, Hierarchy, Extension, Implied}
 use Rattle.vocabulary.specs.declared.stream_types.Reading.the-variants.{Edition2015}
 use Rattle.hierarchy.specs.Hierarchy.{hierarchyDescriptor, hierarchyFrom}
 use Rattle.extension.specs.Extension.{extensionHead, noLayer, extensionFrom}
-use Rattle.es_loop.specs.declared.entries.Entry.{Entry}
+use Rattle.loop_entries.specs.declared.Entry.{Entry}
 use Rattle.entry_rows.specs.Rows.{layerNumber, headOf, listOf, tailOf, rowOf, fieldsIn, listIn, layerOf, entryIn, rowsOf}
 
 pub head-length : (streamType pid : ℕ) («record» : Record) → length (headOf streamType pid «record») ≡ 16

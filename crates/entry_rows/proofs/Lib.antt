@@ -3,6 +3,4 @@ pub mod Fits
 pub mod Given
 pub mod Judged
 pub mod Laws
-pub mod Walked
 pub mod RoundTrips
-pub mod Views

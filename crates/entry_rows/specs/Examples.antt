@@ -7,10 +7,10 @@ use mathlib.Core.Path.{_≡_, refl}
 use lib.ListN.{replicate}
 use Rattle.combinators.specs.Padding.{padTo}
 use Rattle.vocabulary.specs.declared.refusal.Refusal.the-variants.{TypeNotAllowed}
-use Rattle.descriptors.specs.declared.«record».Record.{Record}
-use Rattle.descriptors.specs.declared.«record».Record.the-variants.{NoRecord, Implied}
+use Rattle.records.specs.declared.Record.{Record}
+use Rattle.records.specs.declared.Record.the-variants.{NoRecord, Implied}
 use Rattle.extension.specs.Extension.{noLayer}
-use Rattle.es_loop.specs.declared.entries.Entry.{Entry}
+use Rattle.loop_entries.specs.declared.Entry.{Entry}
 use Rattle.loop_writer.specs.Layout.{loopBytes}
 use Rattle.loop_writer.specs.Writing.{answer}
 use Rattle.loop_writer.specs.declared.writer.Written.the-variants.{Bytes, Refused}

@@ -12,12 +12,12 @@ use Rattle.combinators.specs.Lowest.{Lowest, lowestNumber, earliestPlace, lowes
 use Rattle.vocabulary.specs.declared.stream_types.Reading.{Reading}
 use Rattle.vocabulary.specs.declared.refusal.Refusal.{Refusal}
 use Rattle.vocabulary.specs.declared.refusal.Refusal.the-variants.{LoopTooLong}
-use Rattle.es_loop.specs.declared.entries.Stream.{Stream}
+use Rattle.loop_entries.specs.declared.Stream.{Stream}
 use Rattle.es_loop.specs.declared.verdict.Verdict.{Verdict}
 use Rattle.es_loop.specs.declared.verdict.Verdict.the-variants.{Entries, Refused as Refuses}
-use Rattle.es_loop.specs.Entries.{pairOf, streamsAlone, streamsOf}
+use Rattle.loop_entries.specs.Entries.{pairOf, streamsAlone, streamsOf}
 use Rattle.es_loop.proofs.Pairs.{pair-marked}
-use Rattle.es_loop.specs.Conditions.{applies, refusalOf}
+use Rattle.loop_faults.specs.Conditions.{applies, refusalOf}
 use Rattle.es_loop.specs.declared.reader.Outcome.the-variants.{Accepted, Refused as OutcomeRefused}
 use Rattle.es_loop.specs.Reading.{verdictAt, judged, verdictOf, answerBy, loopRead, accepted as accepted-read}
 

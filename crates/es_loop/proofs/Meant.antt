@@ -23,8 +23,8 @@ use Rattle.vocabulary.specs.declared.refusal.Refusal.{Refusal}
 use Rattle.vocabulary.specs.declared.refusal.Refusal.the-variants.{LoopTooLong, DoesNotFit, RepeatedPid, WrongLength, SecondRecord, TypeNotAllowed as TypeRefused, WrongFlags as FlagsRefused, RepeatedLayerIndex, WrongEmbeddedIndex, NoSuchLayer, EmbeddedLayerAbsent, OutOfRange, TimeOrderBroken, Unpaired, UsedTwice, NoRoom, SpanTooWide, NotVideoHeader, NoPts, FieldsDoNotFit, WrongMarker, PtsBeforeDts, TooWide, PointsDoNotFit, ReservedEsCount, UnknownReference, NotStereoSet, WrongMvcExtension, RangesMeet}
 use Rattle.vocabulary.specs.Refusals.{numberOf, placeOf}
 use Rattle.vocabulary.specs.StreamTypes.{known}
-use Rattle.descriptors.specs.declared.«record».Record.{Record}
-use Rattle.descriptors.specs.declared.«record».Record.the-variants.{NoRecord, Hierarchy, Extension, Implied}
+use Rattle.records.specs.declared.Record.{Record}
+use Rattle.records.specs.declared.Record.the-variants.{NoRecord, Hierarchy, Extension, Implied}
 use Rattle.hierarchy.specs.declared.HierarchyRecord.{HierarchyRecord}
 use Rattle.extension.specs.declared.ExtensionRecord.{ExtensionRecord}
 use Rattle.descriptors.specs.declared.looking.Seen.{Seen}
@@ -32,7 +32,7 @@ use Rattle.extension.specs.Extension.{noLayer}
 use Rattle.descriptors.specs.Looking.{Kind, does-not-fit, skipped, wrong-length, hierarchy, extension, kindsOf, Held, heldIn, isUnfit, isWrongLength, firstRecord, firstLayers, seenOf, nothingSeen, is-wrong-length}
 use Rattle.descriptors.specs.Meaning.{Descriptors}
 use Rattle.descriptors.proofs.Meant.{descriptors-meant, descriptors-only}
-use Rattle.descriptors.specs.Records.{isLayer, indexOf}
+use Rattle.records.specs.Records.{isLayer, indexOf}
 use Rattle.implied.specs.Rule.{Shown, isView, given}
 use Rattle.implied.specs.Marking.{isDescribed, withMark, markedRecord}
 use Rattle.implied.specs.Meaning.{OnlyOne}
@@ -40,9 +40,9 @@ use Rattle.implied.proofs.Marks.{view-known, layer-kept}
 use Rattle.implied.proofs.Meant.{pair-meant, pair-only}
 use Rattle.judging.specs.Judging.{sameIndex, typeNotAllowed, wrongFlags, wrongEmbedded}
 use Rattle.judging.proofs.Meant.{refusal-6, refusal-7, refusal-9, implied-sound}
-use Rattle.es_loop.specs.declared.entries.Stream.{Stream}
-use Rattle.es_loop.specs.Entries.{entryHead, streamType, elementaryPid, esInfoLength, noStream, streamOf, shownOf, pairOf, markedStream, markedStreams, streamsOf}
-use Rattle.es_loop.specs.Conditions.{streamAt, pidAt, typeAt, recordAt, repeatedPid, repeatedIndex, givenAt, conditions, applies, refusalOf}
+use Rattle.loop_entries.specs.declared.Stream.{Stream}
+use Rattle.loop_entries.specs.Entries.{entryHead, streamType, elementaryPid, esInfoLength, noStream, streamOf, shownOf, pairOf, markedStream, markedStreams, streamsOf}
+use Rattle.loop_faults.specs.Conditions.{streamAt, pidAt, typeAt, recordAt, repeatedPid, repeatedIndex, givenAt, conditions, applies, refusalOf}
 use Rattle.es_loop.specs.declared.verdict.Verdict.the-variants.{Refused as Refuses}
 use Rattle.es_loop.specs.declared.reader.LoopRead.{LoopRead}
 use Rattle.es_loop.specs.Reading.{refusedWith, verdictAt, judged, answerBy, loopRead}

@@ -7,9 +7,9 @@ use mathlib.Core.List.{List, [], _∷_, map}
 use lib.ListN.{length, length-map}
 use Rattle.implied.specs.Rule.{Shown, impliedPair}
 use Rattle.implied.proofs.Marks.{described-kept}
-use Rattle.es_loop.specs.declared.entries.Stream.{Stream}
-use Rattle.es_loop.specs.Entries.{shownOf, pairOf, markedStream, markedStreams}
-use Rattle.es_loop.specs.Conditions.{streamAt}
+use Rattle.loop_entries.specs.declared.Stream.{Stream}
+use Rattle.loop_entries.specs.Entries.{shownOf, pairOf, markedStream, markedStreams}
+use Rattle.loop_faults.specs.Conditions.{streamAt}
 
 -- neither a type, nor whether a stream has a hierarchy descriptor
 shown-marked : (pair : Bool) (s : Stream) → shownOf (markedStream pair s) ≡ shownOf s

@@ -1,5 +1,4 @@
--- The walk through the bytes of a loop: where it stands after some of the entries, what stands at the front of the bytes that are left, and the
--- ways out of the pass that judges.
+-- The walk through the bytes of a loop: where it stands after some of the entries, and the ways out of the pass that judges.
 -- Assumes nothing.
 use Prim.Native.Nat.{ℕ, zero, suc, _+_, _-_, _*_, _≤_, _<_}
 use mathlib.Core.Path.{_≡_, refl, sym, _∙_, ap, subst}
@@ -7,36 +6,23 @@ use mathlib.Core.Bool.{Bool, true, false, not}
 use mathlib.Core.List.{List, [], _∷_, map}
 use native.Mathlib.Omega.{arith}
 use native.Mathlib.Decide.{decLe}
-use borrow.Author.Tests.{ltb-true}
-use lib.Dec.{ltb}
 use lib.ListN.{length, getD, take, drop, length-drop, drop-of-length-le}
-use lib.Seq.{drop-drop, take-take, take-add, drop-at, length-take-le}
 use Rattle.combinators.specs.Bools.{apart}
 use Rattle.combinators.specs.Lists.{Next, next, part-to-end}
 use Rattle.combinators.specs.Lowest.{Lowest}
-use Rattle.framing.specs.Pieces.{Item, whole, broken, cut-broken, cut-piece}
+use Rattle.framing.specs.Pieces.{whole}
 use Rattle.implied.specs.Rule.{given}
 use Rattle.vocabulary.specs.declared.stream_types.Reading.{Reading}
 use Rattle.vocabulary.specs.declared.refusal.Refusal.the-variants.{DoesNotFit}
-use Rattle.es_loop.specs.declared.entries.Stream.{Stream}
-use Rattle.es_loop.specs.declared.faults.Fault.{Fault}
+use Rattle.loop_entries.specs.declared.Stream.{Stream}
+use Rattle.loop_faults.specs.declared.Fault.{Fault}
 use Rattle.es_loop.specs.declared.verdict.Verdict.the-variants.{Entries, Refused as Refuses}
-use Rattle.es_loop.specs.Entries.{noStream, esInfoLength, sizeOf, streamOf, pairOf, markedStream, streamsAlone, streamsOf}
-use Rattle.es_loop.specs.Conditions.{streamAt, givenAt, applies, refusalOf}
+use Rattle.loop_entries.specs.Entries.{noStream, sizeOf, streamOf, pairOf, markedStream, streamsAlone, streamsOf}
+use Rattle.loop_faults.specs.Conditions.{streamAt, givenAt, applies, refusalOf}
+use Rattle.loop_entries.proofs.Front.{size-large, pid-below, front-broken, front-of, leftAt, left-long}
 use Rattle.es_loop.specs.Reading.{judged}
 use Rattle.es_loop.proofs.Pairs.{pair-marked}
 use Rattle.es_loop.proofs.Judged.{judged-refused, judged-accepted, Sound}
-
--- the sizes and keys that the walk meets
-pub size-large : (left : List ℕ) → 5 ≤ sizeOf left
-size-large left = go (ltb (length left) 5) refl
-  where
-    go : (b : Bool) → ltb (length left) 5 ≡ b → 5 ≤ sizeOf left
-    go true p = rw p (omega arith)
-    go false p = rw p (omega arith)
-
-pub pid-below : (reading : Reading) (head info : List ℕ) → (streamOf reading (whole head info)) .pid < 8192
-pid-below reading head info = omega arith
 
 -- The first entry that does not fit, where all before it have only higher numbers.
 pub does-not-fit : (streams : List Stream) (number place count : ℕ) → count < length streams → (streamAt streams count) .fits ≡ false
@@ -122,76 +108,34 @@ module _ (reading : Reading) (bytes : List ℕ) where
         ∙ ap (λ (n : ℕ). Entries n (pairOf all)) (counted-all count at cursor done)
         ∙ judged-accepted all (fault .place) (subst (λ (m : ℕ). Lowest (applies all) 10 (length all) m (fault .place)) ten over-all)
 
-  -- What stands at the front of the bytes that are left.
+  -- What stands at the front of the bytes that are left, with its mark, where the entries before it were met.
   module _ (left : List ℕ) (at : ℕ) (is-left : left ≡ drop at bytes) (some-left : 0 < length left) where
-    pub left-length : length left ≡ length bytes - at
-    left-length = ap length is-left ∙ length-drop at bytes
-
-    size-cases : (b : Bool) → ltb (length left) 5 ≡ b → (sizeOf left ≤ length left → sizeOf left ≡ 5 + esInfoLength left)
-        × (length left < sizeOf left → length left < 5 + esInfoLength left)
-    size-cases true p =
-        let h : length left < 5 = ltb-true (length left) 5 p in
-        rw p (λ l. absurd (omega arith), λ l. omega arith)
-    size-cases false p = rw p (λ l. refl, λ l. l)
-
-    pub front-broken : length left < sizeOf left → streamsAlone reading left ≡ noStream ∷ []
-    front-broken h =
-        ap (map (streamOf reading)) (cut-broken 5 esInfoLength (omega arith) left some-left ((size-cases (ltb (length left) 5) refl) .1 h))
-
-    pub front-whole : sizeOf left ≤ length left
-        → streamsAlone reading left
-        ≡ streamOf reading (whole (take 5 (take (sizeOf left) left)) (drop 5 (take (sizeOf left) left)))
-        ∷ streamsAlone reading (drop (at + sizeOf left) bytes)
-    front-whole h =
-        let size : sizeOf left ≡ 5 + esInfoLength left = (size-cases (ltb (length left) 5) refl) .0 h in
-        let n : ℕ = esInfoLength left in
-        let fits : 5 + n ≤ length left = omega arith in
-        let head : take 5 (take (5 + n) left) ≡ take 5 left = take-take 5 (5 + n) left (omega arith) in
-        let info : drop 5 (take (5 + n) left) ≡ take n (drop 5 left) =
-        ap (drop 5) (take-add 5 n left) ∙ drop-at (take 5 left) (take n (drop 5 left)) 5 (length-take-le 5 left (omega arith)) in
-        let later : drop (at + (5 + n)) bytes ≡ drop (5 + n) left = sym (drop-drop (5 + n) at bytes) ∙ ap (drop (5 + n)) (sym is-left) in
-        ap (map (streamOf reading)) (cut-piece 5 esInfoLength (omega arith) left fits)
-        ∙ rw (size, head, info, later)
-
-    -- the same with the values that the code holds
-    pub front-of : (size : ℕ) → size ≡ sizeOf left → size ≤ length left
-        → streamsAlone reading left
-        ≡ streamOf reading (whole (take 5 (take size left)) (drop 5 (take size left))) ∷ streamsAlone reading (drop (at + size) bytes)
-    front-of size is-size h = front-whole (rw (← is-size) h) ∙ rw is-size
-
-    -- and with the marks, where the entries before it were met
     pub marked-front : (count : ℕ) → drop count all ≡ restOf (drop at bytes) → (size : ℕ) → size ≡ sizeOf left → size ≤ length left
         → (held : Bool) → held ≡ pair → (s : Stream) → s ≡ markedStream held (streamOf reading (whole (take 5 (take size left)) (drop 5 (take size left))))
         → drop count all ≡ s ∷ restOf (drop (at + size) bytes)
     marked-front count rest size is-size h held is-pair s is-s =
-        rest ∙ ap restOf (sym is-left) ∙ ap (map (markedStream pair)) (front-of size is-size h) ∙ rw (is-s, is-pair)
+        rest ∙ ap restOf (sym is-left) ∙ ap (map (markedStream pair)) (front-of reading bytes left at is-left some-left size is-size h) ∙ rw (is-s, is-pair)
 
   -- ONE TURN, with the values that the code holds: the bytes that are left, and the size of the entry at their front.
-  abbrev pub leftAt : ℕ → List ℕ
-  leftAt at = take (length bytes - at) (drop at bytes)
-
-  pub left-long : (at : ℕ) → length (leftAt at) ≡ length bytes - at
-  left-long at = ap length (part-to-end bytes at) ∙ length-drop at bytes
-
-  module _ (count at : ℕ) (cursor : Cursor count at) (more : at < length bytes) (size : ℕ) (is-size : size ≡ sizeOf (leftAt at)) where
+  module _ (count at : ℕ) (cursor : Cursor count at) (more : at < length bytes) (size : ℕ) (is-size : size ≡ sizeOf (leftAt reading bytes at)) where
     pub size-5 : 5 ≤ size
-    size-5 = rw is-size (size-large (leftAt at))
+    size-5 = rw is-size (size-large (leftAt reading bytes at))
 
     -- an entry that does not fit is the last
-    pub no-entry : length (leftAt at) < size → (count < length all) × ((streamAt all count) .fits ≡ false)
+    pub no-entry : length (leftAt reading bytes at) < size → (count < length all) × ((streamAt all count) .fits ≡ false)
     no-entry short =
-        let broken-left = front-broken (leftAt at) at (part-to-end bytes at) (omega (arith, left-long at)) (rw (← is-size) short) in
+        let broken-left = front-broken reading bytes (leftAt reading bytes at) at (part-to-end bytes at) (omega (arith, left-long reading bytes at)) (rw (← is-size) short) in
         let front : drop count all ≡ noStream ∷ [] =
         cursor .rest ∙ ap restOf (sym (part-to-end bytes at)) ∙ ap (map (markedStream pair)) broken-left in
         let entry = next all count noStream [] front in
         (entry .inside, ap (λ (s : Stream). s .fits) (entry .here noStream))
 
     -- one that does
-    module _ (room : size ≤ length (leftAt at)) (held : Bool) (is-pair : held ≡ pair) (s : Stream)
-        (is-s : s ≡ markedStream held (streamOf reading (whole (take 5 (take size (leftAt at))) (drop 5 (take size (leftAt at)))))) where
+    module _ (room : size ≤ length (leftAt reading bytes at)) (held : Bool) (is-pair : held ≡ pair) (s : Stream)
+        (is-s : s ≡ markedStream held (streamOf reading (whole (take 5 (take size (leftAt reading bytes at))) (drop 5 (take size (leftAt reading bytes at)))))) where
       front-here : drop count all ≡ s ∷ restOf (drop (at + size) bytes)
       front-here =
-          marked-front (leftAt at) at (part-to-end bytes at) (omega (arith, left-long at)) count (cursor .rest) size is-size room held is-pair s is-s
+          marked-front (leftAt reading bytes at) at (part-to-end bytes at) (omega (arith, left-long reading bytes at)) count (cursor .rest) size is-size room held is-pair s is-s
 
       pub stands-here : streamAt all count ≡ s
       stands-here = is-here count at cursor s size front-here
@@ -206,18 +150,18 @@ module _ (reading : Reading) (bytes : List ℕ) where
       inside-here = is-inside count at cursor s size front-here
 
       pub pid-here : s .pid < 8192
-      pid-here = rw is-s (pid-below reading (take 5 (take size (leftAt at))) (drop 5 (take size (leftAt at))))
+      pid-here = rw is-s (pid-below reading (take 5 (take size (leftAt reading bytes at))) (drop 5 (take size (leftAt reading bytes at))))
 
       pub next-here : Cursor (count + 1) (at + size)
-      next-here = cursor-next count at cursor s size front-here size-5 (omega (arith, left-long at))
+      next-here = cursor-next count at cursor s size front-here size-5 (omega (arith, left-long reading bytes at))
 
   -- In a loop that was accepted every entry fits: a second walk meets no other.
   module _ (total : ℕ) (held : Bool) (accepted : Sound reading bytes total held) (count at : ℕ) (cursor : Cursor count at) (more : at < length bytes)
-      (size : ℕ) (is-size : size ≡ sizeOf (leftAt at)) where
-    pub size-fits : size ≤ length (leftAt at)
-    size-fits = go (decLe size (length (leftAt at)))
+      (size : ℕ) (is-size : size ≡ sizeOf (leftAt reading bytes at)) where
+    pub size-fits : size ≤ length (leftAt reading bytes at)
+    size-fits = go (decLe size (length (leftAt reading bytes at)))
       where
-        go : Dec (size ≤ length (leftAt at)) → size ≤ length (leftAt at)
+        go : Dec (size ≤ length (leftAt reading bytes at)) → size ≤ length (leftAt reading bytes at)
         go (yes h) = h
         go (no h) =
             let unfit = no-entry count at cursor more size is-size (omega arith) in

@@ -1,5 +1,3 @@
-pub mod Entries
-pub mod Conditions
 pub mod Reading
 pub mod Meaning
 pub mod Examples

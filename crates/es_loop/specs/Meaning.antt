@@ -17,16 +17,16 @@ use Rattle.vocabulary.specs.declared.refusal.Refusal.the-variants.{LoopTooLong}
 use Rattle.vocabulary.specs.Refusals.{numberOf, placeOf}
 use Rattle.vocabulary.specs.StreamTypes.{known}
 use Rattle.hierarchy.specs.declared.HierarchyRecord.{HierarchyRecord}
-use Rattle.descriptors.specs.declared.«record».Record.{Record}
-use Rattle.descriptors.specs.declared.«record».Record.the-variants.{Hierarchy, Implied}
+use Rattle.records.specs.declared.Record.{Record}
+use Rattle.records.specs.declared.Record.the-variants.{Hierarchy, Implied}
 use Rattle.extension.specs.Extension.{noLayer}
 use Rattle.descriptors.specs.Looking.{Kind, does-not-fit, wrong-length, Held, heldIn}
 use Rattle.descriptors.specs.Meaning.{Descriptors}
-use Rattle.descriptors.specs.Records.{indexOf}
+use Rattle.records.specs.Records.{indexOf}
 use Rattle.implied.specs.Rule.{isView}
 use Rattle.judging.specs.Meaning.{TypeNotAllowed, WrongFlags, WrongEmbedded}
 use Rattle.es_loop.specs.declared.reader.LoopRead.{LoopRead}
-use Rattle.es_loop.specs.Entries.{streamType, elementaryPid, esInfoLength, streamOf, markedStreams}
+use Rattle.loop_entries.specs.Entries.{streamType, elementaryPid, esInfoLength, streamOf, markedStreams}
 use Rattle.es_loop.specs.Reading.{refusedWith, accepted}
 
 module _ (reading : Reading) (entries : List Item) where

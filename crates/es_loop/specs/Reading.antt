@@ -9,14 +9,14 @@ use Rattle.combinators.specs.Lowest.{lowestNumber, earliestPlace}
 use Rattle.vocabulary.specs.declared.stream_types.Reading.{Reading}
 use Rattle.vocabulary.specs.declared.refusal.Refusal.{Refusal}
 use Rattle.vocabulary.specs.declared.refusal.Refusal.the-variants.{LoopTooLong}
-use Rattle.es_loop.specs.declared.entries.Stream.{Stream}
+use Rattle.loop_entries.specs.declared.Stream.{Stream}
 use Rattle.es_loop.specs.declared.verdict.Verdict.{Verdict}
 use Rattle.es_loop.specs.declared.verdict.Verdict.the-variants.{Entries, Refused as Refuses}
 use Rattle.es_loop.specs.declared.reader.Outcome.{Outcome}
 use Rattle.es_loop.specs.declared.reader.Outcome.the-variants.{Accepted, Refused}
 use Rattle.es_loop.specs.declared.reader.LoopRead.{LoopRead}
-use Rattle.es_loop.specs.Entries.{pairOf, streamsOf, entriesOf}
-use Rattle.es_loop.specs.Conditions.{applies, refusalOf}
+use Rattle.loop_entries.specs.Entries.{pairOf, streamsOf, entriesOf}
+use Rattle.loop_faults.specs.Conditions.{applies, refusalOf}
 
 -- THE VERDICT for the lowest number and its place, or past all numbers: then so many entries are accepted, and among them the two views without a hierarchy
 -- descriptor or not

@@ -1,16 +1,16 @@
 // The loop with every entry by value: judged first, and laid out where it is accepted.
 ghost use mathlib.Core.Path.{_≡_};
 ghost use lib.ListN.{length};
-ghost use Rattle.es_loop.specs.Entries.{streamsOf, entriesOf};
+ghost use Rattle.loop_entries.specs.Entries.{streamsOf, entriesOf};
 ghost use Rattle.es_loop.specs.Reading.{refusedWith, verdictOf, loopRead};
-use super::entries::Entry;
-use super::entries::MOST_ENTRIES;
-use super::entries::blank_entries;
-use super::entries::entry_of;
-use super::entries::entry_size;
-use super::entries::read_stream;
 use super::verdict::Verdict;
 use super::verdict::judge;
+use loop_entries::Entry;
+use loop_entries::MOST_ENTRIES;
+use loop_entries::blank_entries;
+use loop_entries::entry_of;
+use loop_entries::entry_size;
+use loop_entries::read_stream;
 use vocabulary::Reading;
 use vocabulary::Refusal;
 

@@ -15,14 +15,14 @@ use Rattle.combinators.specs.Below.{some, every, every-at, at-every, some-at, n
 use Rattle.combinators.specs.Bools.{both-left, both-right, both-ways, neither-left, neither-right, false-unless}
 use Rattle.combinators.specs.Lists.{Nth, nth-getD, getD-nth, nth-inside, gather, gather-append}
 use Rattle.sets.specs.Sets.{has}
-use Rattle.descriptors.specs.declared.«record».Record.{Record}
-use Rattle.descriptors.specs.declared.«record».Record.the-variants.{NoRecord, Hierarchy, Extension, Implied}
-use Rattle.descriptors.specs.Records.{isLayer, indexOf}
+use Rattle.records.specs.declared.Record.{Record}
+use Rattle.records.specs.declared.Record.the-variants.{NoRecord, Hierarchy, Extension, Implied}
+use Rattle.records.specs.Records.{isLayer, indexOf}
 use Rattle.implied.specs.Rule.{isView, given}
 use Rattle.judging.specs.Judging.{typeNotAllowed, wrongFlags, wrongEmbedded}
-use Rattle.es_loop.specs.declared.entries.Entry.{Entry}
-use Rattle.es_loop.specs.Entries.{blankEntry}
-use Rattle.es_loop.specs.Conditions.{slotOf}
+use Rattle.loop_entries.specs.declared.Entry.{Entry}
+use Rattle.loop_entries.specs.Entries.{blankEntry}
+use Rattle.loop_faults.specs.Conditions.{slotOf}
 use Rattle.entry_rows.specs.Rows.{rowCount, rowAt, rowTooWide, someTooWide, rowOf, rowsOf, entryIn, entriesBelow}
 use Rattle.entry_rows.proofs.Laws.{row-length, rows-length, no-record-entry, hierarchy-entry, extension-entry, implied-entry}
 use Rattle.entry_rows.proofs.Given.{entry-at, row-fine}

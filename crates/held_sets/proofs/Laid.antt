@@ -24,16 +24,16 @@ use Rattle.hierarchy.specs.Hierarchy.{hierarchyDescriptor, hierarchyOf, hierarc
 use Rattle.extension.specs.declared.ExtensionRecord.{ExtensionRecord}
 use Rattle.extension.specs.Extension.{extensionHead, extensionOf, extensionFields, embeddedOf, layerIndexOf, noLayer}
 use Rattle.descriptor_heads.specs.Head.{descriptorTag, descriptorLength}
-use Rattle.descriptors.specs.declared.«record».Record.{Record}
-use Rattle.descriptors.specs.declared.«record».Record.the-variants.{NoRecord, Hierarchy, Extension, Implied}
+use Rattle.records.specs.declared.Record.{Record}
+use Rattle.records.specs.declared.Record.the-variants.{NoRecord, Hierarchy, Extension, Implied}
 use Rattle.descriptors.specs.declared.looking.Seen.{Seen}
 use Rattle.descriptors.specs.Looking.{Kind, does-not-fit, skipped, wrong-length, hierarchy, extension, tag4Kind, tag63Kind, kindOf, Held, heldIn, firstRecord, firstLayers, seenOf, nothingSeen}
 use Rattle.implied.specs.Rule.{given}
 use Rattle.implied.specs.Marking.{withMark}
-use Rattle.es_loop.specs.declared.entries.Entry.{Entry}
-use Rattle.es_loop.specs.declared.entries.Stream.{Stream}
-use Rattle.es_loop.specs.Entries.{streamType, elementaryPid, esInfoLength, blankEntry, streamOf, markedStream, entryOf}
-use Rattle.es_loop.proofs.Walk.{pid-below}
+use Rattle.loop_entries.specs.declared.Entry.{Entry}
+use Rattle.loop_entries.specs.declared.Stream.{Stream}
+use Rattle.loop_entries.specs.Entries.{streamType, elementaryPid, esInfoLength, blankEntry, streamOf, markedStream, entryOf}
+use Rattle.loop_entries.proofs.Front.{pid-below}
 use Rattle.entry_rows.specs.Rows.{layerNumber, layerOf, headOf, tailOf, rowOf, fieldsIn, countIn, listIn, layerTooWide, rowTooWide, entryIn}
 use Rattle.entry_rows.proofs.Judged.{hierarchy-decides, extension-decides, fieldless-fine, kind-fine, type-bound, pid-bound, hierarchy-fine, extension-fine, list-fine}
 use Rattle.entry_rows.proofs.Laws.{hierarchy-entry, extension-entry, no-record-entry, implied-entry}

@@ -15,12 +15,12 @@ use Rattle.framing.specs.Pieces.{Item, whole, broken, cut}
 use Rattle.sets.specs.Sets.{has}
 use Rattle.vocabulary.specs.declared.stream_types.Reading.{Reading}
 use Rattle.vocabulary.specs.declared.refusal.Refusal.the-variants.{TooWide}
-use Rattle.es_loop.specs.declared.entries.Entry.{Entry}
-use Rattle.es_loop.specs.declared.entries.Stream.{Stream}
+use Rattle.loop_entries.specs.declared.Entry.{Entry}
+use Rattle.loop_entries.specs.declared.Stream.{Stream}
 use Rattle.es_loop.specs.declared.reader.Outcome.{Outcome}
 use Rattle.es_loop.specs.declared.reader.Outcome.the-variants.{Accepted, Refused}
-use Rattle.es_loop.specs.Entries.{blankEntry, esInfoLength, noStream, streamOf, markedStream, pairOf, streamsAlone, streamsOf, entryOf}
-use Rattle.es_loop.specs.Conditions.{streamAt}
+use Rattle.loop_entries.specs.Entries.{blankEntry, esInfoLength, noStream, streamOf, markedStream, pairOf, streamsAlone, streamsOf, entryOf}
+use Rattle.loop_faults.specs.Conditions.{streamAt}
 use Rattle.es_loop.specs.Reading.{loopRead}
 use Rattle.es_loop.proofs.Judged.{Taken, taken}
 use Rattle.entry_rows.specs.Rows.{rowsOf, rowTooWide, someTooWide, entryIn}

@@ -8,11 +8,11 @@ use mathlib.Core.Logic.{_↔_}
 use mathlib.Core.Path.{_≡_}
 use Rattle.vocabulary.specs.declared.stream_types.Reading.{Reading}
 use Rattle.vocabulary.specs.declared.refusal.Refusal.{Refusal}
-use Rattle.es_loop.specs.declared.entries.Entry.{Entry}
-use Rattle.es_loop.specs.declared.entries.Stream.{Stream}
+use Rattle.loop_entries.specs.declared.Entry.{Entry}
+use Rattle.loop_entries.specs.declared.Stream.{Stream}
 use Rattle.es_loop.specs.declared.reader.Outcome.{Outcome}
 use Rattle.es_loop.specs.declared.reader.Outcome.the-variants.{Accepted, Refused}
-use Rattle.es_loop.specs.Entries.{entryOf}
+use Rattle.loop_entries.specs.Entries.{entryOf}
 use Rattle.es_loop.specs.Reading.{refusedWith, accepted}
 use Rattle.es_loop.specs.Meaning as Loop
 use Rattle.loop_layers.specs.Meaning.{LayerOf}

@@ -10,10 +10,10 @@ use Rattle.combinators.specs.Bools.{apart, either-which}
 use Rattle.vocabulary.specs.declared.stream_types.Reading.{Reading}
 use Rattle.vocabulary.specs.declared.stream_types.Reading.the-variants.{Edition2009, Edition2015}
 use Rattle.vocabulary.specs.StreamTypes.{known}
-use Rattle.descriptors.specs.declared.«record».Record.{Record}
-use Rattle.descriptors.specs.declared.«record».Record.the-variants.{NoRecord, Hierarchy, Extension, Implied}
+use Rattle.records.specs.declared.Record.{Record}
+use Rattle.records.specs.declared.Record.the-variants.{NoRecord, Hierarchy, Extension, Implied}
 use Rattle.descriptors.specs.declared.looking.Seen.{Seen}
-use Rattle.descriptors.specs.Records.{isLayer, namesOf}
+use Rattle.records.specs.Records.{isLayer, namesOf}
 use Rattle.descriptors.specs.Finding.{namedBy}
 use Rattle.implied.specs.Rule.{isView, given}
 use Rattle.implied.specs.Marking.{isDescribed, withMark, markedRecord, markedSeen, withNames, markedNamed}

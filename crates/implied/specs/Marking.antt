@@ -3,11 +3,11 @@
 use Prim.Native.Nat.{ℕ}
 use mathlib.Core.Bool.{Bool, true, false, cond}
 use mathlib.Core.List.{[]}
-use Rattle.descriptors.specs.declared.«record».Record.{Record}
-use Rattle.descriptors.specs.declared.«record».Record.the-variants.{NoRecord, Hierarchy, Extension, Implied}
+use Rattle.records.specs.declared.Record.{Record}
+use Rattle.records.specs.declared.Record.the-variants.{NoRecord, Hierarchy, Extension, Implied}
 use Rattle.descriptors.specs.declared.looking.Named.{Named}
 use Rattle.descriptors.specs.declared.looking.Seen.{Seen}
-use Rattle.descriptors.specs.Records.{namesOf}
+use Rattle.records.specs.Records.{namesOf}
 use Rattle.implied.specs.Rule.{given}
 
 -- whether a record is a hierarchy descriptor (tag 4)

@@ -16,9 +16,9 @@ use Rattle.combinators.specs.Below.{some, some-at}
 use Rattle.combinators.specs.Members.{member, member-last}
 use Rattle.vocabulary.specs.declared.LayerIndex.{LayerIndex}
 use Rattle.extension.specs.Extension.{noLayer}
-use Rattle.descriptors.specs.Records.{plain, withIndices}
+use Rattle.records.specs.Records.{plain, withIndices}
 use Rattle.judging.specs.Judging.{wrongAt, wrongList}
-use Rattle.descriptors.proofs.Naming.{indices-last}
+use Rattle.records.proofs.Naming.{indices-last}
 use Rattle.sets.specs.Sets.{added}
 
 -- THE LIST. The first `count` layers of the array as numbers: how many, and what stands at each place.

@@ -18,9 +18,9 @@ use Rattle.vocabulary.specs.declared.stream_types.Reading.the-variants.{Edition
 use Rattle.vocabulary.specs.declared.LayerIndex.{LayerIndex}
 use Rattle.hierarchy.specs.declared.HierarchyRecord.{HierarchyRecord}
 use Rattle.extension.specs.declared.ExtensionRecord.{ExtensionRecord}
-use Rattle.descriptors.specs.declared.«record».Record.{Record}
-use Rattle.descriptors.specs.declared.«record».Record.the-variants.{NoRecord, Hierarchy, Extension, Implied}
-use Rattle.descriptors.specs.Records.{isSecondView, indexOf, plain, named}
+use Rattle.records.specs.declared.Record.{Record}
+use Rattle.records.specs.declared.Record.the-variants.{NoRecord, Hierarchy, Extension, Implied}
+use Rattle.records.specs.Records.{isSecondView, indexOf, plain, named}
 use Rattle.judging.specs.Judging.{extensionOn, typeNotAllowed, flagsAt0, wrongFlags, wrongAt, wrongList, wrongEmbedded}
 use Rattle.judging.specs.Meaning.{hasDescriptor, TypeNotAllowed, hierarchy-type, extension-on-avc, extension-on-svc, extension-on-mvc, unknown-type, mark-not-given, mark-missing, Flag, view, temporal, spatial, quality, flag, WrongFlags, type-9, more-than-one, WrongEmbedded, not-below, listed-twice}
 

@@ -15,8 +15,8 @@ use Rattle.combinators.specs.Members.{member}
 use Rattle.sets.specs.Sets.{has, added}
 use Rattle.sets.proofs.Laws.{has-none, has-added, added-within, same-members-within}
 use Rattle.vocabulary.specs.declared.LayerIndex.{LayerIndex}
-use Rattle.descriptors.specs.declared.«record».Record.{Record}
-use Rattle.descriptors.specs.Records.{indexOf, named, withIndices, namesOf}
+use Rattle.records.specs.declared.Record.{Record}
+use Rattle.records.specs.Records.{indexOf, named, withIndices, namesOf}
 use Rattle.judging.specs.Judging.{wrongAt, wrongEmbedded}
 
 -- THE MEANING. An index is in a set with more of them when it was there before or is one of them.

@@ -10,10 +10,10 @@ use Rattle.combinators.specs.Below.{some}
 use Rattle.combinators.specs.Members.{member}
 use Rattle.vocabulary.specs.StreamTypes.{mayStandOn}
 use Rattle.vocabulary.specs.declared.LayerIndex.{LayerIndex}
-use Rattle.descriptors.specs.Records.{isLayer, indexOf, named}
+use Rattle.records.specs.Records.{isLayer, indexOf, named}
 use Rattle.hierarchy.specs.declared.HierarchyRecord.{HierarchyRecord}
-use Rattle.descriptors.specs.declared.«record».Record.{Record}
-use Rattle.descriptors.specs.declared.«record».Record.the-variants.{NoRecord, Hierarchy, Extension, Implied}
+use Rattle.records.specs.declared.Record.{Record}
+use Rattle.records.specs.declared.Record.the-variants.{NoRecord, Hierarchy, Extension, Implied}
 
 -- for refusal 8: two layers of the same index, each on its stream type
 abbrev pub sameIndex : ℕ → Record → ℕ → Record → Bool

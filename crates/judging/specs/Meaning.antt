@@ -12,9 +12,9 @@ use Rattle.vocabulary.specs.declared.stream_types.Reading.the-variants.{Edition
 use Rattle.vocabulary.specs.declared.LayerIndex.{LayerIndex}
 use Rattle.hierarchy.specs.declared.HierarchyRecord.{HierarchyRecord}
 use Rattle.extension.specs.declared.ExtensionRecord.{ExtensionRecord}
-use Rattle.descriptors.specs.declared.«record».Record.{Record}
-use Rattle.descriptors.specs.declared.«record».Record.the-variants.{NoRecord, Hierarchy, Extension, Implied}
-use Rattle.descriptors.specs.Records.{indexOf, named}
+use Rattle.records.specs.declared.Record.{Record}
+use Rattle.records.specs.declared.Record.the-variants.{NoRecord, Hierarchy, Extension, Implied}
+use Rattle.records.specs.Records.{indexOf, named}
 
 -- a record that is written as a descriptor
 abbrev pub hasDescriptor : Record → Bool

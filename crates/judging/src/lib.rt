@@ -10,7 +10,7 @@ ghost use mathlib.Core.List.{map};
 ghost use Prim.Native.Nat.{_≤_, _<_};
 ghost use lib.ListN.{take, replicate};
 ghost use Rattle.combinators.specs.Members.{member};
-ghost use Rattle.descriptors.specs.Records.{plain, hierarchyList};
+ghost use Rattle.records.specs.Records.{plain, hierarchyList};
 ghost use Rattle.judging.specs.Judging.{extensionOn, typeNotAllowed, at0, flagsAt0, flagsWrongFor, wrongFlags, wrongList, TellsEmbedded};
 use descriptors::HierarchyRecord;
 use descriptors::Record;

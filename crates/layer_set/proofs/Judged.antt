@@ -15,15 +15,15 @@ use Rattle.syntax.proofs.Equations.{bounds}
 use Rattle.vocabulary.specs.declared.LayerIndex.{LayerIndex}
 use Rattle.hierarchy.proofs.Widths.{hierarchy-fit}
 use Rattle.extension.proofs.Widths.{extension-fit}
-use Rattle.descriptors.specs.declared.«record».Record.{Record}
-use Rattle.descriptors.specs.declared.«record».Record.the-variants.{NoRecord, Hierarchy, Extension, Implied}
-use Rattle.descriptors.specs.Records.{isLayer, indexOf, recordTables}
+use Rattle.records.specs.declared.Record.{Record}
+use Rattle.records.specs.declared.Record.the-variants.{NoRecord, Hierarchy, Extension, Implied}
+use Rattle.records.specs.Records.{isLayer, indexOf, recordTables}
 use Rattle.judging.specs.Judging.{typeNotAllowed, wrongFlags, wrongEmbedded}
 use Rattle.judging.specs.Meaning.{hasDescriptor}
 use Rattle.sets.specs.Sets.{has}
-use Rattle.es_loop.specs.declared.entries.Entry.{Entry}
-use Rattle.es_loop.specs.declared.entries.Stream.{Stream}
-use Rattle.es_loop.specs.Conditions.{conditions, slotOf}
+use Rattle.loop_entries.specs.declared.Entry.{Entry}
+use Rattle.loop_entries.specs.declared.Stream.{Stream}
+use Rattle.loop_faults.specs.Conditions.{conditions, slotOf}
 use Rattle.loop_writer.specs.Layout.{tooWide}
 use Rattle.loop_writer.specs.Verdict.{streamFor}
 use Rattle.loop_writer.proofs.Entries.{record-fit}

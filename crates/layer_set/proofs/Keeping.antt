@@ -16,14 +16,14 @@ use Rattle.combinators.specs.Bools.{both-left, both-right, both-ways, either-ri
 use Rattle.sets.specs.Sets.{has, added, without, only}
 use Rattle.sets.proofs.Laws.{has-added, has-without, has-only, added-within, without-within}
 use Rattle.vocabulary.specs.declared.refusal.Refusal.the-variants.{TooWide, NoSuchLayer}
-use Rattle.descriptors.specs.declared.«record».Record.{Record}
-use Rattle.descriptors.specs.declared.«record».Record.the-variants.{NoRecord, Hierarchy, Extension, Implied}
-use Rattle.descriptors.specs.Records.{isLayer, indexOf}
+use Rattle.records.specs.declared.Record.{Record}
+use Rattle.records.specs.declared.Record.the-variants.{NoRecord, Hierarchy, Extension, Implied}
+use Rattle.records.specs.Records.{isLayer, indexOf}
 use Rattle.judging.specs.Judging.{typeNotAllowed}
 use Rattle.judging.specs.Meaning.{hasDescriptor}
-use Rattle.es_loop.specs.declared.entries.Entry.{Entry}
-use Rattle.es_loop.specs.Entries.{blankEntry}
-use Rattle.es_loop.specs.Conditions.{slotOf, refusalOf}
+use Rattle.loop_entries.specs.declared.Entry.{Entry}
+use Rattle.loop_entries.specs.Entries.{blankEntry}
+use Rattle.loop_faults.specs.Conditions.{slotOf, refusalOf}
 use Rattle.loop_writer.specs.Layout.{tooWide}
 use Rattle.closure.specs.Closures.{isLayer as inLayers}
 use Rattle.kept_closures.proofs.Steps.{added-kept}

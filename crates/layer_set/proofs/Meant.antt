@@ -19,15 +19,15 @@ use Rattle.sets.proofs.Laws.{has-within, same-members}
 use Rattle.vocabulary.specs.declared.refusal.Refusal.{Refusal}
 use Rattle.vocabulary.specs.declared.refusal.Refusal.the-variants.{TooWide, NoSuchLayer}
 use Rattle.vocabulary.specs.Refusals.{numberOf, placeOf as refusalPlace}
-use Rattle.descriptors.specs.declared.«record».Record.{Record}
-use Rattle.descriptors.specs.declared.«record».Record.the-variants.{NoRecord, Hierarchy, Extension, Implied}
-use Rattle.descriptors.specs.Records.{isLayer, indexOf}
+use Rattle.records.specs.declared.Record.{Record}
+use Rattle.records.specs.declared.Record.the-variants.{NoRecord, Hierarchy, Extension, Implied}
+use Rattle.records.specs.Records.{isLayer, indexOf}
 use Rattle.judging.specs.Judging.{typeNotAllowed, wrongFlags, wrongEmbedded}
 use Rattle.judging.specs.Meaning.{hasDescriptor, TypeNotAllowed}
 use Rattle.judging.proofs.Meant.{refusal-6, refusal-7, refusal-9}
-use Rattle.es_loop.specs.declared.entries.Entry.{Entry}
-use Rattle.es_loop.specs.Entries.{blankEntry}
-use Rattle.es_loop.specs.Conditions.{conditions, slotOf, refusalOf}
+use Rattle.loop_entries.specs.declared.Entry.{Entry}
+use Rattle.loop_entries.specs.Entries.{blankEntry}
+use Rattle.loop_faults.specs.Conditions.{conditions, slotOf, refusalOf}
 use Rattle.es_loop.proofs.Meant.{named-refusal}
 use Rattle.loop_writer.specs.Layout.{tooWide}
 use Rattle.loop_writer.specs.Verdict.{streamFor}

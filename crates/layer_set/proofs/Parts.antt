@@ -10,9 +10,9 @@ use lib.ListN.{set}
 use Rattle.sets.specs.Sets.{has, added, without, only}
 use Rattle.vocabulary.specs.declared.refusal.Refusal.{Refusal}
 use Rattle.vocabulary.specs.declared.refusal.Refusal.the-variants.{TooWide, NoSuchLayer}
-use Rattle.es_loop.specs.declared.entries.Entry.{Entry}
-use Rattle.es_loop.specs.Entries.{blankEntry}
-use Rattle.es_loop.specs.Conditions.{refusalOf}
+use Rattle.loop_entries.specs.declared.Entry.{Entry}
+use Rattle.loop_entries.specs.Entries.{blankEntry}
+use Rattle.loop_faults.specs.Conditions.{refusalOf}
 use Rattle.loop_writer.specs.Layout.{tooWide}
 use Rattle.kept_closures.specs.Kept.{Columns, layersBy, columnsAdded, columnsRemoved}
 use Rattle.loop_layers.specs.Layers.{placeOf, embeddedIn}

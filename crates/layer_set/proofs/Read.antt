@@ -17,17 +17,17 @@ use Rattle.combinators.specs.Bools.{both-left, both-right, both-ways, false-unl
 use Rattle.combinators.specs.Lists.{Nth, nth-inside, nth-getD, getD-nth, nth-one, nth-of-map}
 use Rattle.sets.specs.Sets.{has}
 use Rattle.vocabulary.specs.declared.stream_types.Reading.{Reading}
-use Rattle.descriptors.specs.declared.«record».Record.{Record}
-use Rattle.descriptors.specs.declared.«record».Record.the-variants.{NoRecord, Hierarchy, Extension, Implied}
-use Rattle.descriptors.specs.Records.{isLayer, indexOf}
+use Rattle.records.specs.declared.Record.{Record}
+use Rattle.records.specs.declared.Record.the-variants.{NoRecord, Hierarchy, Extension, Implied}
+use Rattle.records.specs.Records.{isLayer, indexOf}
 use Rattle.implied.specs.Rule.{isView, given}
 use Rattle.judging.specs.Judging.{typeNotAllowed, wrongFlags, wrongEmbedded}
 use Rattle.judging.proofs.Sets.{indices-within}
-use Rattle.es_loop.specs.declared.entries.Entry.{Entry}
-use Rattle.es_loop.specs.declared.entries.Stream.{Stream}
+use Rattle.loop_entries.specs.declared.Entry.{Entry}
+use Rattle.loop_entries.specs.declared.Stream.{Stream}
 use Rattle.es_loop.specs.declared.reader.Outcome.the-variants.{Accepted}
-use Rattle.es_loop.specs.Entries.{blankEntry, noStream, streamsOf, entryOf, pairOf}
-use Rattle.es_loop.specs.Conditions.{streamAt, pidAt}
+use Rattle.loop_entries.specs.Entries.{blankEntry, noStream, streamsOf, entryOf, pairOf}
+use Rattle.loop_faults.specs.Conditions.{streamAt, pidAt}
 use Rattle.es_loop.specs.Reading.{loopRead}
 use Rattle.es_loop.proofs.Judged.{Taken, taken}
 use Rattle.closure.specs.Closures.{isLayer as inLayers}

@@ -3,8 +3,8 @@
 use Prim.Native.Nat.{ℕ}
 use mathlib.Core.Path.{_≡_, ap}
 use mathlib.Core.List.{List, _∷_}
-use Rattle.es_loop.specs.declared.entries.Entry.{Entry}
-use Rattle.es_loop.specs.Entries.{blankEntry}
+use Rattle.loop_entries.specs.declared.Entry.{Entry}
+use Rattle.loop_entries.specs.Entries.{blankEntry}
 use Rattle.loop_layers.specs.Layers.{columnWith, embeddedIn}
 use Rattle.loop_layers.proofs.Walked.{layersWith, column-put}
 use Rattle.layer_set.specs.declared.«set».Placed.{Placed}

@@ -11,13 +11,13 @@ use Rattle.sets.specs.Sets.{has, size}
 use Rattle.vocabulary.specs.declared.refusal.Refusal.{Refusal}
 use Rattle.vocabulary.specs.declared.refusal.Refusal.the-variants.{TooWide, NoSuchLayer}
 use Rattle.vocabulary.specs.Refusals.{numberOf, placeOf}
-use Rattle.descriptors.specs.declared.«record».Record.the-variants.{NoRecord, Implied}
-use Rattle.descriptors.specs.Records.{isLayer, indexOf}
+use Rattle.records.specs.declared.Record.the-variants.{NoRecord, Implied}
+use Rattle.records.specs.Records.{isLayer, indexOf}
 use Rattle.implied.specs.Rule.{isView}
 use Rattle.judging.specs.Judging.{typeNotAllowed, wrongFlags, wrongEmbedded}
 use Rattle.judging.specs.Meaning.{hasDescriptor, TypeNotAllowed, WrongFlags, WrongEmbedded}
-use Rattle.es_loop.specs.declared.entries.Entry.{Entry}
-use Rattle.es_loop.specs.Entries.{blankEntry}
+use Rattle.loop_entries.specs.declared.Entry.{Entry}
+use Rattle.loop_entries.specs.Entries.{blankEntry}
 use Rattle.loop_writer.specs.Layout.{tooWide}
 use Rattle.closure.specs.Closures.{isLayer as inLayers}
 use Rattle.closure.specs.Meaning.{RestsOn, Missing}

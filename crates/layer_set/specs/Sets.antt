@@ -11,13 +11,13 @@ use Rattle.sets.specs.Sets.{has, added}
 use Rattle.vocabulary.specs.declared.stream_types.Reading.{Reading}
 use Rattle.vocabulary.specs.declared.refusal.Refusal.{Refusal}
 use Rattle.vocabulary.specs.declared.refusal.Refusal.the-variants.{TooWide, NoSuchLayer}
-use Rattle.descriptors.specs.declared.«record».Record.the-variants.{NoRecord}
-use Rattle.descriptors.specs.Records.{isLayer}
-use Rattle.es_loop.specs.declared.entries.Entry.{Entry}
+use Rattle.records.specs.declared.Record.the-variants.{NoRecord}
+use Rattle.records.specs.Records.{isLayer}
+use Rattle.loop_entries.specs.declared.Entry.{Entry}
 use Rattle.es_loop.specs.declared.reader.Outcome.the-variants.{Accepted, Refused}
 use Rattle.es_loop.specs.declared.reader.LoopRead.{LoopRead}
-use Rattle.es_loop.specs.Entries.{blankEntry}
-use Rattle.es_loop.specs.Conditions.{conditions, refusalOf}
+use Rattle.loop_entries.specs.Entries.{blankEntry}
+use Rattle.loop_faults.specs.Conditions.{conditions, refusalOf}
 use Rattle.es_loop.specs.Reading.{loopRead}
 use Rattle.loop_writer.specs.Layout.{tooWide}
 use Rattle.loop_writer.specs.Verdict.{streamFor}

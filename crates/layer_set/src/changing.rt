@@ -1,7 +1,7 @@
 // A layer more, a layer less, and the answer to a target. A change is judged before anything is changed.
 ghost use mathlib.Core.Path.{_≡_};
 ghost use Prim.Native.Nat.{_<_};
-ghost use Rattle.es_loop.specs.Conditions.{slotOf};
+ghost use Rattle.loop_faults.specs.Conditions.{slotOf};
 ghost use Rattle.layer_set.specs.Sets.{heldAt, pidHeld, faultOf, withLayerOf, addedTo, withoutLayerAt, removedFrom, closureIn};
 use super::set::LayerSet;
 use super::set::blank_entry;

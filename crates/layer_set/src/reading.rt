@@ -2,7 +2,7 @@
 ghost use mathlib.Core.Path.{_≡_};
 ghost use mathlib.Core.List.{map};
 ghost use lib.ListN.{length};
-ghost use Rattle.es_loop.specs.Entries.{streamsOf, entryOf};
+ghost use Rattle.loop_entries.specs.Entries.{streamsOf, entryOf};
 ghost use Rattle.es_loop.specs.Reading.{verdictOf};
 ghost use Rattle.layer_set.specs.Sets.{placedOf, loopSet};
 use super::set::LayerSet;

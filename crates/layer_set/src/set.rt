@@ -2,7 +2,7 @@
 ghost use mathlib.Core.Path.{_≡_};
 ghost use mathlib.Core.List.{[]};
 ghost use lib.ListN.{replicate};
-ghost use Rattle.es_loop.specs.Entries.{blankEntry};
+ghost use Rattle.loop_entries.specs.Entries.{blankEntry};
 ghost use Rattle.layer_set.specs.Sets.{placedOf, placedNext, workedSet, setOf};
 use closure::Layers;
 use descriptors::Record;

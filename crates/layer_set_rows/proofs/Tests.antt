@@ -14,12 +14,12 @@ use Rattle.combinators.specs.Below.{every, every-at}
 use Rattle.combinators.specs.Bools.{both-ways, false-unless}
 use Rattle.combinators.specs.Lists.{gather, gather-append, gather-next}
 use Rattle.sets.specs.Sets.{added}
-use Rattle.descriptors.specs.Records.{withIndices}
-use Rattle.es_loop.specs.declared.entries.Entry.{Entry}
-use Rattle.es_loop.specs.Entries.{blankEntry}
+use Rattle.records.specs.Records.{withIndices}
+use Rattle.loop_entries.specs.declared.Entry.{Entry}
+use Rattle.loop_entries.specs.Entries.{blankEntry}
 use Rattle.implied.specs.Rule.{given}
 use Rattle.judging.specs.Judging.{typeNotAllowed, wrongFlags, wrongEmbedded}
-use Rattle.es_loop.specs.Conditions.{slotOf}
+use Rattle.loop_faults.specs.Conditions.{slotOf}
 use Rattle.entry_rows.specs.Rows.{rowAt, someTooWide, rowOf, rowsOf, entryIn}
 use Rattle.entry_rows.proofs.Laws.{row-length, rows-length}
 use Rattle.loop_layers.specs.Layers.{placeOf, columnWith, columnOf, embeddedIn, layersOf, putAt}

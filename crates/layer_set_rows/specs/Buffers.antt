@@ -8,11 +8,11 @@ use lib.Dec.{eqb, ltb}
 use lib.ListN.{length, getD}
 use Rattle.combinators.specs.Below.{some, every}
 use Rattle.syntax.specs.Filled.{bitOf}
-use Rattle.descriptors.specs.Records.{isLayer}
+use Rattle.records.specs.Records.{isLayer}
 use Rattle.implied.specs.Rule.{given}
 use Rattle.judging.specs.Judging.{typeNotAllowed, wrongFlags, wrongEmbedded}
-use Rattle.es_loop.specs.declared.entries.Entry.{Entry}
-use Rattle.es_loop.specs.Conditions.{slotOf}
+use Rattle.loop_entries.specs.declared.Entry.{Entry}
+use Rattle.loop_faults.specs.Conditions.{slotOf}
 use Rattle.combinators.specs.Each.{eachBelow}
 use Rattle.kept_closures.specs.Kept.{Columns}
 use Rattle.entry_rows.specs.Rows.{rowAt, someTooWide, rowOf, entryIn, entriesBelow}

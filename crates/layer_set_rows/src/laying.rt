@@ -48,7 +48,7 @@ pub fn lay_entries(entries: [Entry; 64], rows: &mut [u16])
     while i < 64 {
         let start = i * 80;
         let end = start + 80;
-        entry_rows::lay_row(&mut rows[start..end], entries[i]);
+        row_laying::lay_row(&mut rows[start..end], entries[i]);
         i += 1;
     }
 }

@@ -16,7 +16,7 @@ fn placed_in(rows: &[u16]) -> Placed
     while i < 64 {
         let start = i * 80;
         let end = start + 80;
-        let entry = entry_rows::entry_in(&rows[start..end]);
+        let entry = row_taking::entry_in(&rows[start..end]);
         placed = layer_set::place(placed, entry);
         i += 1;
     }

@@ -60,7 +60,7 @@ fn row_of(entry: Entry) -> [u16; 80]
     ensures { λ r. ⌜ r ≡ rowOf entry ⌝ }
 {
     let mut row = [0u16; 80];
-    entry_rows::lay_row(&mut row, entry);
+    row_laying::lay_row(&mut row, entry);
     row
 }
 
@@ -69,7 +69,7 @@ fn row_right(index: usize, row: &[u16]) -> bool
     requires { ⌜ (80 ≤ length (now row)) × (rowTooWide (now row) ≡ false) ⌝ }
     ensures { λ r. ⌜ r ≡ rowRight index (now (row .entry)) ⌝ }
 {
-    let entry = entry_rows::entry_in(row);
+    let entry = row_taking::entry_in(row);
     if right_at(index, entry) {
         let own = row_of(entry);
         return same_numbers(row, &own);

@@ -10,8 +10,8 @@ use Rattle.sets.specs.Sets.{has, size}
 use Rattle.vocabulary.specs.declared.HierarchyChannel.{HierarchyChannel}
 use Rattle.vocabulary.specs.declared.refusal.Refusal.{Refusal}
 use Rattle.vocabulary.specs.declared.stream_types.Reading.{Reading}
-use Rattle.descriptors.specs.Records.{channelOf}
-use Rattle.es_loop.specs.declared.entries.Entry.{Entry}
+use Rattle.records.specs.Records.{channelOf}
+use Rattle.loop_entries.specs.declared.Entry.{Entry}
 use Rattle.es_loop.specs.declared.reader.Outcome.{Outcome}
 use Rattle.es_loop.specs.declared.reader.Outcome.the-variants.{Accepted, Refused}
 use Rattle.es_loop.specs.Reading.{loopRead}

@@ -18,7 +18,7 @@ use Rattle.es_loop.specs.declared.reader.Outcome.the-variants.{Accepted, Refuse
 use Rattle.loop_layers.specs.declared.table.LayerTable.{LayerTable}
 use Rattle.loop_layers.specs.declared.table.TableRead.{TableRead}
 use Rattle.loop_layers.specs.Closures.{loopTable}
-use Rattle.descriptors.specs.Records.{channelOf}
+use Rattle.records.specs.Records.{channelOf}
 use Rattle.layer_set.specs.declared.«set».LayerSet.{LayerSet}
 use Rattle.layer_set.specs.Sets.{entryAt, closureIn}
 use Rattle.text.specs.Text.{ascii, decimal, texts}

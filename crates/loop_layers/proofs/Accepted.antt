@@ -25,17 +25,17 @@ use Rattle.hierarchy.specs.Hierarchy.{hierarchyOf}
 use Rattle.extension.specs.Extension.{extensionOf, embeddedOf}
 use Rattle.descriptors.specs.Looking.{Kind, does-not-fit, skipped, wrong-length, hierarchy, extension, tag4Kind, tag63Kind, kindOf, Held, heldIn, firstRecord, seenOf, nothingSeen}
 use Rattle.descriptor_heads.specs.Head.{descriptorTag, descriptorLength}
-use Rattle.descriptors.specs.declared.«record».Record.{Record}
-use Rattle.descriptors.specs.declared.«record».Record.the-variants.{NoRecord, Hierarchy, Extension, Implied}
-use Rattle.descriptors.specs.Records.{isSecondView, indexOf, named}
+use Rattle.records.specs.declared.Record.{Record}
+use Rattle.records.specs.declared.Record.the-variants.{NoRecord, Hierarchy, Extension, Implied}
+use Rattle.records.specs.Records.{isSecondView, indexOf, named}
 use Rattle.implied.specs.Rule.{given}
 use Rattle.implied.specs.Marking.{withMark, markedRecord}
 use Rattle.judging.specs.Judging.{sameIndex, wrongAt, wrongEmbedded}
-use Rattle.es_loop.specs.declared.entries.Entry.{Entry}
-use Rattle.es_loop.specs.declared.entries.Stream.{Stream}
+use Rattle.loop_entries.specs.declared.Entry.{Entry}
+use Rattle.loop_entries.specs.declared.Stream.{Stream}
 use Rattle.es_loop.specs.declared.reader.Outcome.the-variants.{Accepted}
-use Rattle.es_loop.specs.Entries.{streamType, esInfoLength, noStream, streamOf, pairOf, markedStream, streamsAlone, streamsOf, entryOf}
-use Rattle.es_loop.specs.Conditions.{streamAt}
+use Rattle.loop_entries.specs.Entries.{streamType, esInfoLength, noStream, streamOf, pairOf, markedStream, streamsAlone, streamsOf, entryOf}
+use Rattle.loop_faults.specs.Conditions.{streamAt}
 use Rattle.es_loop.specs.Reading.{loopRead}
 use Rattle.es_loop.proofs.Judged.{Taken, taken}
 use Rattle.closure.specs.Meaning.{Names}

@@ -11,10 +11,10 @@ use native.Mathlib.Omega.{arith}
 use lib.ListN.{length, getD, set, replicate, length-set, length-replicate, getD-replicate}
 use lib.Seq.{getD-set-same, getD-set-other, ext-getD}
 use Rattle.combinators.specs.Lists.{Nth, here, there, nth-inside, nth-one}
-use Rattle.descriptors.specs.declared.«record».Record.{Record}
-use Rattle.descriptors.specs.Records.{isLayer, indexOf}
-use Rattle.es_loop.specs.declared.entries.Entry.{Entry}
-use Rattle.es_loop.specs.Conditions.{slotOf}
+use Rattle.records.specs.declared.Record.{Record}
+use Rattle.records.specs.Records.{isLayer, indexOf}
+use Rattle.loop_entries.specs.declared.Entry.{Entry}
+use Rattle.loop_faults.specs.Conditions.{slotOf}
 use Rattle.loop_layers.specs.Layers.{placeOf, columnWith, columnOf}
 use Rattle.loop_layers.specs.Meaning.{LayerAt, LayerOf, HasLayer, ColumnOf}
 

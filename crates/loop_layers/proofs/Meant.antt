@@ -15,12 +15,12 @@ use Rattle.sets.specs.Sets.{has}
 use Rattle.sets.proofs.Laws.{has-none, has-within, same-members}
 use Rattle.vocabulary.specs.declared.stream_types.Reading.{Reading}
 use Rattle.vocabulary.specs.declared.refusal.Refusal.{Refusal}
-use Rattle.descriptors.specs.Records.{named, channelOf}
+use Rattle.records.specs.Records.{named, channelOf}
 use Rattle.judging.proofs.Sets.{indices-in, indices-within, names-in}
-use Rattle.es_loop.specs.declared.entries.Entry.{Entry}
-use Rattle.es_loop.specs.declared.entries.Stream.{Stream}
+use Rattle.loop_entries.specs.declared.Entry.{Entry}
+use Rattle.loop_entries.specs.declared.Stream.{Stream}
 use Rattle.es_loop.specs.declared.reader.LoopRead.{LoopRead}
-use Rattle.es_loop.specs.Entries.{streamOf, markedStreams, entryOf}
+use Rattle.loop_entries.specs.Entries.{streamOf, markedStreams, entryOf}
 use Rattle.es_loop.specs.Reading.{refusedWith, accepted, loopRead}
 use Rattle.es_loop.specs.Meaning.{too-long, refuses, accepts}
 use Rattle.es_loop.specs.Meaning as Loop

@@ -8,7 +8,7 @@ use native.Mathlib.Numerals.{add-one}
 use native.Mathlib.Omega.{arith}
 use lib.ListN.{length, getD, take, drop}
 use lib.Seq.{take-all, drop-cons, getD-take, length-take-le}
-use Rattle.es_loop.specs.declared.entries.Entry.{Entry}
+use Rattle.loop_entries.specs.declared.Entry.{Entry}
 use Rattle.loop_layers.specs.declared.table.LayerTable.{LayerTable}
 use Rattle.loop_layers.specs.Layers.{tableOf, withEntry}
 use Rattle.loop_layers.proofs.Walked.{tableWith, table-next}

@@ -15,15 +15,16 @@ use Rattle.framing.specs.Pieces.{whole}
 use Rattle.syntax.specs.Table.{AreBytes}
 use Rattle.vocabulary.specs.declared.stream_types.Reading.{Reading}
 use Rattle.sets.specs.Sets.{added}
-use Rattle.descriptors.specs.Records.{withIndices, channelOf}
-use Rattle.es_loop.specs.declared.entries.Entry.{Entry}
-use Rattle.es_loop.specs.declared.entries.Stream.{Stream}
+use Rattle.records.specs.Records.{withIndices, channelOf}
+use Rattle.loop_entries.specs.declared.Entry.{Entry}
+use Rattle.loop_entries.specs.declared.Stream.{Stream}
 use Rattle.es_loop.specs.declared.verdict.Verdict.the-variants.{Entries}
-use Rattle.es_loop.specs.Entries.{sizeOf, streamOf, markedStream, streamsOf, entryOf}
+use Rattle.loop_entries.specs.Entries.{sizeOf, streamOf, markedStream, streamsOf, entryOf}
 use Rattle.es_loop.specs.Reading.{verdictOf}
 use Rattle.es_loop.proofs.Judged.{Sound, sound}
-use Rattle.es_loop.proofs.Heads.{stream-bytes}
-use Rattle.es_loop.proofs.Walk.{restOf, Cursor, cursor-start, leftAt, left-long, size-5, size-fits, marked-front, next-here}
+use Rattle.loop_entries.proofs.Heads.{stream-bytes}
+use Rattle.loop_entries.proofs.Front.{leftAt, left-long}
+use Rattle.es_loop.proofs.Walk.{restOf, Cursor, cursor-start, size-5, size-fits, marked-front, next-here}
 use Rattle.closure.specs.declared.Layers.{Layers}
 use Rattle.loop_layers.specs.declared.table.LayerTable.{LayerTable}
 use Rattle.loop_layers.specs.Layers.{placeOf, presentIn, columnWith, columnOf, embeddedIn, layersOf, tableOf, putAt, withEntry}

@@ -7,9 +7,9 @@ use lib.Dec.{ltb}
 use lib.ListN.{set, replicate}
 use Rattle.vocabulary.specs.declared.HierarchyChannel.{HierarchyChannel}
 use Rattle.sets.specs.Sets.{added}
-use Rattle.descriptors.specs.Records.{channelOf, withIndices, namesOf}
-use Rattle.es_loop.specs.declared.entries.Entry.{Entry}
-use Rattle.es_loop.specs.Conditions.{slotOf}
+use Rattle.records.specs.Records.{channelOf, withIndices, namesOf}
+use Rattle.loop_entries.specs.declared.Entry.{Entry}
+use Rattle.loop_faults.specs.Conditions.{slotOf}
 use Rattle.closure.specs.declared.Layers.{Layers}
 use Rattle.loop_layers.specs.declared.table.LayerTable.{LayerTable}
 

@@ -3,7 +3,7 @@ ghost use mathlib.Core.Path.{_≡_};
 ghost use mathlib.Core.List.{[], map};
 ghost use Prim.Native.Nat.{min};
 ghost use lib.ListN.{length, take};
-ghost use Rattle.es_loop.specs.Entries.{streamsOf, entryOf};
+ghost use Rattle.loop_entries.specs.Entries.{streamsOf, entryOf};
 ghost use Rattle.es_loop.specs.Reading.{verdictOf};
 ghost use Rattle.loop_layers.specs.Layers.{layersOf, tableOf, withEntry};
 ghost use Rattle.loop_layers.specs.Closures.{loopTable};

@@ -13,7 +13,7 @@ use Rattle.vocabulary.specs.StreamTypes.{known}
 use Rattle.hierarchy.specs.Hierarchy.{hierarchyDescriptor}
 use Rattle.extension.specs.Extension.{extensionHead, embeddedLayer}
 use Rattle.descriptor_heads.specs.Head.{descriptorTag, descriptorLength}
-use Rattle.es_loop.specs.Entries.{entryHead, streamType, esInfoLength}
+use Rattle.loop_entries.specs.Entries.{entryHead, streamType, esInfoLength}
 
 -- the reserved bits of a table at the front of some bytes are 1
 abbrev pub Ones : Table → List ℕ → Type 0

@@ -20,26 +20,26 @@ use Rattle.vocabulary.specs.declared.stream_types.Reading.the-variants.{Edition
 use Rattle.vocabulary.specs.StreamTypes.{known}
 use Rattle.hierarchy.specs.declared.HierarchyRecord.{HierarchyRecord}
 use Rattle.extension.specs.declared.ExtensionRecord.{ExtensionRecord}
-use Rattle.descriptors.specs.declared.«record».Record.{Record}
-use Rattle.descriptors.specs.declared.«record».Record.the-variants.{NoRecord, Hierarchy, Extension, Implied}
+use Rattle.records.specs.declared.Record.{Record}
+use Rattle.records.specs.declared.Record.the-variants.{NoRecord, Hierarchy, Extension, Implied}
 use Rattle.descriptors.specs.declared.looking.Seen.{Seen}
 use Rattle.descriptor_heads.specs.Head.{descriptorHead, descriptorLength, headTable}
 use Rattle.hierarchy.specs.Hierarchy.{hierarchyDescriptor, hierarchyFrom, hierarchyOf, hierarchyFields, hierarchyGiven}
 use Rattle.extension.specs.Extension.{extensionHead, embeddedLayer, noLayer, extensionFrom, extensionOf, layersOf, extensionFields, layerTable, extensionGiven}
 use Rattle.descriptor_heads.proofs.Heads.{by-tag}
 use Rattle.descriptors.specs.Looking.{Kind, hierarchy, extension, payloadKind, extensionKind, kindOf, kindsOf, seenOfKinds, seenOf}
-use Rattle.es_loop.specs.declared.entries.Entry.{Entry}
-use Rattle.es_loop.specs.declared.entries.Stream.{Stream}
+use Rattle.loop_entries.specs.declared.Entry.{Entry}
+use Rattle.loop_entries.specs.declared.Stream.{Stream}
 use Rattle.implied.specs.Rule.{isView, ofType, isDescribedView}
 use Rattle.implied.specs.Marking.{isDescribed, markedRecord}
 use Rattle.implied.proofs.Marks.{view-known}
 use Rattle.judging.specs.Meaning.{hasDescriptor}
-use Rattle.es_loop.specs.Entries.{entryHead, esInfoLength, seenIn, streamOf, shownOf, pairOf, markedStream, markedStreams, streamsAlone, streamsOf}
+use Rattle.loop_entries.specs.Entries.{entryHead, esInfoLength, seenIn, streamOf, shownOf, pairOf, markedStream, markedStreams, streamsAlone, streamsOf}
 use Rattle.es_loop.proofs.Pairs.{pair-marked}
 use Rattle.es_loop.proofs.Meant.{by-head}
 use Rattle.syntax.specs.Named.{byNames}
 use Rattle.syntax.specs.Filled.{filled, bytesIn, tooWideIn}
-use Rattle.descriptors.specs.Records.{recordTables}
+use Rattle.records.specs.Records.{recordTables}
 use Rattle.loop_writer.specs.Layout.{infoBytes, loopBytes, tooWide}
 use Rattle.hierarchy.proofs.Payloads.{hierarchy-fields}
 use Rattle.extension.proofs.Payloads.{extension-fields, extension-written}

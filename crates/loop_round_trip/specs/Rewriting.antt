@@ -24,13 +24,13 @@ use Rattle.syntax.proofs.Equations.{bounds}
 use Rattle.vocabulary.specs.declared.LayerIndex.{LayerIndex}
 use Rattle.vocabulary.specs.declared.stream_types.Reading.the-variants.{Edition2015}
 use Rattle.vocabulary.specs.StreamTypes.{known}
-use Rattle.descriptors.specs.declared.«record».Record.{Record}
-use Rattle.descriptors.specs.declared.«record».Record.the-variants.{NoRecord, Hierarchy, Extension, Implied}
+use Rattle.records.specs.declared.Record.{Record}
+use Rattle.records.specs.declared.Record.the-variants.{NoRecord, Hierarchy, Extension, Implied}
 use Rattle.descriptor_heads.specs.Head.{descriptorHead, descriptorTag, descriptorLength}
 use Rattle.hierarchy.specs.Hierarchy.{hierarchyDescriptor, hierarchyFrom, hierarchyOf, hierarchyFields}
 use Rattle.extension.specs.Extension.{extensionHead, embeddedLayer, noLayer, extensionFrom, extensionOf, layerIndexOf, layersOf, embeddedOf, extensionFields, layerTable}
 use Rattle.descriptors.specs.Looking.{Kind, skipped, wrong-length, hierarchy, extension, payloadKind, kindOf, Held, heldIn, isWrongLength, firstRecord, firstLayers, seenOf, nothingSeen}
-use Rattle.descriptors.specs.Records.{recordTables}
+use Rattle.records.specs.Records.{recordTables}
 use Rattle.implied.specs.Rule.{Shown, impliedPair, given}
 use Rattle.implied.specs.Marking.{withMark}
 use Rattle.judging.specs.Meaning.{hasDescriptor}
@@ -38,15 +38,15 @@ use Rattle.descriptors.specs.declared.looking.Seen.{Seen}
 use Rattle.vocabulary.specs.declared.refusal.Refusal.{Refusal}
 use Rattle.vocabulary.specs.declared.refusal.Refusal.the-variants.{LoopTooLong}
 use Rattle.vocabulary.specs.Refusals.{placeOf}
-use Rattle.es_loop.specs.declared.entries.Entry.{Entry}
-use Rattle.es_loop.specs.declared.entries.Stream.{Stream}
+use Rattle.loop_entries.specs.declared.Entry.{Entry}
+use Rattle.loop_entries.specs.declared.Stream.{Stream}
 use Rattle.es_loop.specs.declared.reader.Outcome.the-variants.{Accepted}
 use Rattle.es_loop.specs.declared.reader.LoopRead.{LoopRead}
-use Rattle.es_loop.specs.Conditions.{streamAt, applies, refusalOf}
+use Rattle.loop_faults.specs.Conditions.{streamAt, applies, refusalOf}
 use Rattle.es_loop.specs.Reading.{refusedWith, accepted, loopRead}
 use Rattle.es_loop.proofs.Judged.{Taken, taken}
 use Rattle.descriptor_heads.proofs.Heads.{by-tag}
-use Rattle.es_loop.specs.Entries.{entryHead, streamType, elementaryPid, esInfoLength, seenIn, streamOf, shownOf, pairOf, markedStream, streamsAlone, streamsOf, noStream, entryOf, blankEntry}
+use Rattle.loop_entries.specs.Entries.{entryHead, streamType, elementaryPid, esInfoLength, seenIn, streamOf, shownOf, pairOf, markedStream, streamsAlone, streamsOf, noStream, entryOf, blankEntry}
 use Rattle.es_loop.proofs.Pairs.{pair-marked, marked-length}
 use Rattle.es_loop.proofs.Meant.{by-head}
 use Rattle.syntax.specs.Named.{byNames}

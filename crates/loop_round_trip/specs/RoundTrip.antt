@@ -22,11 +22,11 @@ use Rattle.vocabulary.specs.declared.stream_types.Reading.the-variants.{Edition
 use Rattle.vocabulary.specs.declared.refusal.Refusal.{Refusal}
 use Rattle.vocabulary.specs.declared.refusal.Refusal.the-variants.{LoopTooLong, NoRoom, TooWide}
 use Rattle.vocabulary.specs.Refusals.{numberOf, placeOf}
-use Rattle.es_loop.specs.declared.entries.Entry.{Entry}
-use Rattle.es_loop.specs.declared.entries.Stream.{Stream}
+use Rattle.loop_entries.specs.declared.Entry.{Entry}
+use Rattle.loop_entries.specs.declared.Stream.{Stream}
 use Rattle.es_loop.specs.declared.reader.Outcome.the-variants.{Accepted}
-use Rattle.es_loop.specs.Entries.{blankEntry, entryOf, streamsOf}
-use Rattle.es_loop.specs.Conditions.{applies, refusalOf}
+use Rattle.loop_entries.specs.Entries.{blankEntry, entryOf, streamsOf}
+use Rattle.loop_faults.specs.Conditions.{applies, refusalOf}
 use Rattle.es_loop.specs.declared.reader.LoopRead.{LoopRead}
 use Rattle.es_loop.specs.declared.verdict.Verdict.the-variants.{Refused as VerdictRefused}
 use Rattle.es_loop.specs.Reading.{refusedWith, judged, answerBy, loopRead}

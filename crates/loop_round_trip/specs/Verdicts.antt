@@ -20,19 +20,19 @@ use Rattle.combinators.specs.Padding.{padTo}
 use Rattle.vocabulary.specs.declared.LayerIndex.{LayerIndex}
 use Rattle.vocabulary.specs.declared.stream_types.Reading.the-variants.{Edition2015}
 use Rattle.vocabulary.specs.StreamTypes.{known}
-use Rattle.descriptors.specs.declared.«record».Record.{Record}
-use Rattle.descriptors.specs.declared.«record».Record.the-variants.{NoRecord, Hierarchy, Extension, Implied}
+use Rattle.records.specs.declared.Record.{Record}
+use Rattle.records.specs.declared.Record.the-variants.{NoRecord, Hierarchy, Extension, Implied}
 use Rattle.extension.specs.Extension.{noLayer}
-use Rattle.descriptors.specs.Records.{isLayer, indexOf, plain, recordTables}
+use Rattle.records.specs.Records.{isLayer, indexOf, plain, recordTables}
 use Rattle.implied.specs.Rule.{given as given-by}
 use Rattle.implied.specs.Marking.{withMark}
 use Rattle.judging.specs.Judging.{sameIndex, typeNotAllowed, wrongFlags, wrongList, wrongEmbedded}
 use Rattle.judging.specs.Meaning.{hasDescriptor, unknown-type}
 use Rattle.judging.proofs.Meant.{refusal-6, implied-sound}
-use Rattle.es_loop.specs.declared.entries.Entry.{Entry}
-use Rattle.es_loop.specs.declared.entries.Stream.{Stream}
-use Rattle.es_loop.specs.Entries.{noStream, blankEntry}
-use Rattle.es_loop.specs.Conditions.{streamAt, pidAt, typeAt, recordAt, repeatedPid, repeatedIndex, conditions, applies}
+use Rattle.loop_entries.specs.declared.Entry.{Entry}
+use Rattle.loop_entries.specs.declared.Stream.{Stream}
+use Rattle.loop_entries.specs.Entries.{noStream, blankEntry}
+use Rattle.loop_faults.specs.Conditions.{streamAt, pidAt, typeAt, recordAt, repeatedPid, repeatedIndex, conditions, applies}
 use Rattle.syntax.specs.Filled.{tooWideIn}
 use Rattle.loop_writer.specs.Layout.{tooWide}
 use Rattle.loop_writer.proofs.Entries.{record-fit}

@@ -12,11 +12,11 @@ use Rattle.combinators.specs.Lists.{any}
 use Rattle.syntax.specs.Table.{Fit}
 use Rattle.syntax.specs.Filled.{Filled, valuesIn, bytesIn, tooWideIn}
 use Rattle.syntax.proofs.Equations.{each, bounds}
-use Rattle.descriptors.specs.Records.{recordTables}
+use Rattle.records.specs.Records.{recordTables}
 use Rattle.descriptor_heads.proofs.Widths.{fit-first, fit-others}
-use Rattle.descriptors.proofs.Sizes.{info-short}
-use Rattle.es_loop.specs.declared.entries.Entry.{Entry}
-use Rattle.es_loop.specs.Entries.{entryHead}
+use Rattle.records.proofs.Sizes.{info-short}
+use Rattle.loop_entries.specs.declared.Entry.{Entry}
+use Rattle.loop_entries.specs.Entries.{entryHead}
 use Rattle.loop_writer.specs.Layout.{entryHeadTable, infoBytes, tooWide}
 
 pub head-written : (streamType pid length : ℕ) → streamType < 256 → pid < 8192 → length < 4096

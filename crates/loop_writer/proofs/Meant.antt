@@ -14,9 +14,9 @@ use Rattle.combinators.specs.Lists.{Nth, here, nth-inside, getD-nth, nth-map, n
 use Rattle.combinators.specs.Lowest.{Lowest, lowestNumber, earliestPlace, lowest-number, earliest-place, lowest-is}
 use Rattle.syntax.specs.Table.{fits}
 use Rattle.syntax.proofs.Laws.{fits-fit, fit-fits}
-use Rattle.descriptors.specs.declared.«record».Record.{Record}
-use Rattle.descriptors.specs.declared.«record».Record.the-variants.{NoRecord, Hierarchy, Extension, Implied}
-use Rattle.descriptors.specs.Records.{isLayer, indexOf}
+use Rattle.records.specs.declared.Record.{Record}
+use Rattle.records.specs.declared.Record.the-variants.{NoRecord, Hierarchy, Extension, Implied}
+use Rattle.records.specs.Records.{isLayer, indexOf}
 use Rattle.implied.specs.Rule.{Shown, isView, given as given-by}
 use Rattle.implied.specs.Marking.{isDescribed}
 use Rattle.implied.specs.Meaning.{OnlyOne}
@@ -24,10 +24,10 @@ use Rattle.implied.proofs.Meant.{pair-meant, pair-only}
 use Rattle.judging.specs.Judging.{sameIndex, typeNotAllowed, wrongFlags, wrongEmbedded}
 use Rattle.judging.specs.Meaning.{hasDescriptor}
 use Rattle.judging.proofs.Meant.{refusal-6, refusal-7, refusal-9}
-use Rattle.es_loop.specs.declared.entries.Entry.{Entry}
-use Rattle.es_loop.specs.declared.entries.Stream.{Stream}
-use Rattle.es_loop.specs.Entries.{noStream, blankEntry, shownOf}
-use Rattle.es_loop.specs.Conditions.{refusalOf, streamAt, pidAt, repeatedPid, repeatedIndex, conditions, applies}
+use Rattle.loop_entries.specs.declared.Entry.{Entry}
+use Rattle.loop_entries.specs.declared.Stream.{Stream}
+use Rattle.loop_entries.specs.Entries.{noStream, blankEntry, shownOf}
+use Rattle.loop_faults.specs.Conditions.{refusalOf, streamAt, pidAt, repeatedPid, repeatedIndex, conditions, applies}
 use Rattle.syntax.specs.Filled.{Filled, valuesIn, tooWideIn}
 use Rattle.loop_writer.specs.Layout.{entryTables, loopBytes, tooWide}
 use Rattle.loop_writer.specs.Verdict.{streamFor, appliesTo, pairFor, givenTo}

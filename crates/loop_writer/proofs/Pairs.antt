@@ -12,8 +12,8 @@ use lib.Seq.{drop-cons}
 use Rattle.implied.specs.declared.Views.{Views}
 use Rattle.implied.specs.Walking.{noViews, viewNext, viewsAfter, isPair}
 use Rattle.implied.proofs.Walk.{pair-walked}
-use Rattle.es_loop.specs.declared.entries.Entry.{Entry}
-use Rattle.es_loop.specs.Entries.{shownOf}
+use Rattle.loop_entries.specs.declared.Entry.{Entry}
+use Rattle.loop_entries.specs.Entries.{shownOf}
 use Rattle.loop_writer.specs.Verdict.{streamFor, pairFor}
 
 module _ (entries : List Entry) where

@@ -9,13 +9,13 @@ use lib.ListN.{length, take, getD, set, replicate, length-append}
 use lib.Seq.{take-all}
 use Rattle.combinators.specs.Lists.{gather-next, getD-nth, getD-map}
 use Rattle.combinators.specs.Lowest.{Lowest}
-use Rattle.descriptors.specs.Records.{indexOf}
+use Rattle.records.specs.Records.{indexOf}
 use Rattle.implied.specs.Rule.{given as givenBy}
-use Rattle.es_loop.specs.declared.entries.Entry.{Entry}
-use Rattle.es_loop.specs.declared.entries.Stream.{Stream}
-use Rattle.es_loop.specs.Entries.{noStream}
-use Rattle.es_loop.specs.Conditions.{streamAt, slotOf}
-use Rattle.es_loop.proofs.Passing.{Passed, passed-start, passed-next}
+use Rattle.loop_entries.specs.declared.Entry.{Entry}
+use Rattle.loop_entries.specs.declared.Stream.{Stream}
+use Rattle.loop_entries.specs.Entries.{noStream}
+use Rattle.loop_faults.specs.Conditions.{streamAt, slotOf}
+use Rattle.loop_faults.proofs.Passing.{Passed, passed-start, passed-next}
 use Rattle.loop_writer.specs.declared.weighing.Weighed.{Weighed}
 use Rattle.loop_writer.specs.Layout.{entryBytes, loopBytes, tooWide}
 use Rattle.loop_writer.specs.Verdict.{streamFor, appliesTo, pairFor, givenTo}

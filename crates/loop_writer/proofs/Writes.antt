@@ -12,11 +12,11 @@ use Rattle.syntax.specs.Filled.{Filled, bytesIn, tooWideIn, Writes}
 use Rattle.syntax.proofs.NamedLaws.{written-by-meant, written-by-only}
 use Rattle.syntax.proofs.FilledLaws.{Proper, AllProper, none, one-then, NoneTooWide, none as all-fit, one-then as fit-then, bytesOfAll, writes-meant, writes-only}
 use Rattle.vocabulary.specs.declared.LayerIndex.{LayerIndex}
-use Rattle.descriptors.specs.declared.«record».Record.{Record}
-use Rattle.descriptors.specs.declared.«record».Record.the-variants.{NoRecord, Hierarchy, Extension, Implied}
+use Rattle.records.specs.declared.Record.{Record}
+use Rattle.records.specs.declared.Record.the-variants.{NoRecord, Hierarchy, Extension, Implied}
 use Rattle.extension.specs.Extension.{layerTable}
-use Rattle.descriptors.specs.Records.{recordTables}
-use Rattle.es_loop.specs.declared.entries.Entry.{Entry}
+use Rattle.records.specs.Records.{recordTables}
+use Rattle.loop_entries.specs.declared.Entry.{Entry}
 use Rattle.loop_writer.specs.Layout.{entryHeadTable, infoBytes, entryBytes, loopBytes, tooWide}
 use Rattle.loop_writer.specs.Meaning.{WritesEntry, head-then, WritesEntries, nothing, entry-then}
 use Rattle.loop_writer.proofs.Entries.{head-fit, record-fit}

@@ -8,9 +8,9 @@ use mathlib.Core.List.{List, [], _∷_}
 use lib.ListN.{length}
 use Rattle.combinators.specs.Lists.{any, gather}
 use Rattle.syntax.specs.Filled.{Filled, filled, bytesIn, tooWideIn}
-use Rattle.descriptors.specs.Records.{recordTables}
-use Rattle.es_loop.specs.declared.entries.Entry.{Entry}
-use Rattle.es_loop.specs.Entries.{entryHead}
+use Rattle.records.specs.Records.{recordTables}
+use Rattle.loop_entries.specs.declared.Entry.{Entry}
+use Rattle.loop_entries.specs.Entries.{entryHead}
 
 -- the descriptor bytes of an entry, none without a record
 abbrev pub infoBytes : Entry → List ℕ

@@ -14,11 +14,11 @@ use Rattle.vocabulary.specs.declared.refusal.Refusal.{Refusal}
 use Rattle.vocabulary.specs.declared.refusal.Refusal.the-variants.{LoopTooLong, NoRoom, TooWide}
 use Rattle.vocabulary.specs.Refusals.{numberOf, placeOf}
 use Rattle.hierarchy.specs.declared.HierarchyRecord.{HierarchyRecord}
-use Rattle.descriptors.specs.declared.«record».Record.the-variants.{NoRecord, Hierarchy, Implied}
-use Rattle.descriptors.specs.Records.{isLayer, indexOf, recordTables}
+use Rattle.records.specs.declared.Record.the-variants.{NoRecord, Hierarchy, Implied}
+use Rattle.records.specs.Records.{isLayer, indexOf, recordTables}
 use Rattle.implied.specs.Rule.{isView}
 use Rattle.judging.specs.Meaning.{hasDescriptor, TypeNotAllowed, WrongFlags, WrongEmbedded}
-use Rattle.es_loop.specs.declared.entries.Entry.{Entry}
+use Rattle.loop_entries.specs.declared.Entry.{Entry}
 use Rattle.loop_writer.specs.Layout.{entryHeadTable, entryTables}
 use Rattle.loop_writer.specs.declared.writer.Written.{Written}
 use Rattle.loop_writer.specs.declared.writer.Written.the-variants.{Bytes, Refused}

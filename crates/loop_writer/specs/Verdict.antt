@@ -5,11 +5,11 @@
 use Prim.Native.Nat.{ℕ}
 use mathlib.Core.Bool.{Bool, true, false}
 use mathlib.Core.List.{List, map}
-use Rattle.es_loop.specs.declared.entries.Entry.{Entry}
-use Rattle.es_loop.specs.declared.entries.Stream.{Stream}
+use Rattle.loop_entries.specs.declared.Entry.{Entry}
+use Rattle.loop_entries.specs.declared.Stream.{Stream}
 use Rattle.implied.specs.Rule.{given}
-use Rattle.es_loop.specs.Entries.{pairOf}
-use Rattle.es_loop.specs.Conditions.{applies}
+use Rattle.loop_entries.specs.Entries.{pairOf}
+use Rattle.loop_faults.specs.Conditions.{applies}
 
 -- An entry as it is judged: a stream that fits, with its record the first and only one.
 abbrev pub streamFor : Entry → Stream

@@ -8,8 +8,8 @@ use lib.Dec.{ltb}
 use lib.ListN.{length}
 use Rattle.combinators.specs.Lowest.{Lowest}
 use Rattle.vocabulary.specs.declared.refusal.Refusal.the-variants.{LoopTooLong}
-use Rattle.es_loop.specs.declared.entries.Entry.{Entry}
-use Rattle.es_loop.specs.Conditions.{faultAt, lowerOf, refusalOf}
+use Rattle.loop_entries.specs.declared.Entry.{Entry}
+use Rattle.loop_faults.specs.Conditions.{faultAt, lowerOf, refusalOf}
 use Rattle.loop_writer.specs.Layout.{entryBytes, loopBytes}
 use Rattle.loop_writer.specs.Verdict.{streamFor, appliesTo}
 use Rattle.loop_writer.specs.declared.weighing.Weighed.{Weighed}

@@ -8,8 +8,8 @@ use lib.ListN.{length, take, drop}
 use Rattle.combinators.specs.Lists.{any}
 use Rattle.combinators.specs.Lowest.{lowestNumber, earliestPlace}
 use Rattle.vocabulary.specs.declared.refusal.Refusal.the-variants.{LoopTooLong, NoRoom, TooWide}
-use Rattle.es_loop.specs.declared.entries.Entry.{Entry}
-use Rattle.es_loop.specs.Conditions.{refusalOf}
+use Rattle.loop_entries.specs.declared.Entry.{Entry}
+use Rattle.loop_faults.specs.Conditions.{refusalOf}
 use Rattle.loop_writer.specs.Layout.{loopBytes, tooWide}
 use Rattle.loop_writer.specs.Verdict.{appliesTo}
 use Rattle.loop_writer.specs.declared.writer.Written.{Written}

@@ -6,7 +6,7 @@ ghost use lib.ListN.{length};
 ghost use Rattle.buffers.specs.Buffers.{Laid};
 ghost use Rattle.syntax.specs.Filled.{bytesIn};
 ghost use Rattle.implied.specs.Walking.{viewNext};
-ghost use Rattle.es_loop.specs.Entries.{shownOf};
+ghost use Rattle.loop_entries.specs.Entries.{shownOf};
 ghost use Rattle.loop_writer.specs.Layout.{entryHeadTable, entryBytes, tooWide};
 ghost use Rattle.loop_writer.specs.Verdict.{streamFor};
 use es_loop::Entry;

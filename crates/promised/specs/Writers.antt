@@ -8,7 +8,7 @@ use mathlib.Core.Path.{_≡_, refl, _∙_, ap}
 use lib.ListN.{length, take}
 use denote.Ref.{now}
 use Rattle.vocabulary.specs.Refusals.{numberOf}
-use Rattle.es_loop.specs.declared.entries.Entry.{Entry}
+use Rattle.loop_entries.specs.declared.Entry.{Entry}
 use Rattle.loop_writer.specs.declared.writer.Written.{Written}
 use Rattle.loop_writer.specs.declared.writer.Written.the-variants as Written
 use Rattle.loop_writer.specs.Layout.{loopBytes}

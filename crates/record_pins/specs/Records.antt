@@ -11,10 +11,10 @@ use Rattle.vocabulary.specs.declared.LayerIndex.{LayerIndex}
 use Rattle.vocabulary.specs.declared.stream_types.Reading.the-variants.{Edition2015}
 use Rattle.hierarchy.specs.declared.HierarchyRecord.{HierarchyRecord}
 use Rattle.extension.specs.declared.ExtensionRecord.{ExtensionRecord}
-use Rattle.descriptors.specs.declared.«record».Record.the-variants.{Hierarchy, Extension, Implied}
+use Rattle.records.specs.declared.Record.the-variants.{Hierarchy, Extension, Implied}
 use Rattle.hierarchy.specs.Hierarchy.{hierarchyOf}
 use Rattle.extension.specs.Extension.{extensionOf, embeddedOf}
-use Rattle.descriptors.specs.Records.{isLayer, isBase, indexOf, channelOf, named, recordTables}
+use Rattle.records.specs.Records.{isLayer, isBase, indexOf, channelOf, named, recordTables}
 
 -- a hierarchy record with every field different from every other
 abbrev pub ofType : ℕ → HierarchyRecord

@@ -9,11 +9,11 @@ use Rattle.combinators.specs.Lists.{Nth, nth-one}
 use Rattle.framing.specs.Pieces.{Item}
 use Rattle.vocabulary.specs.declared.stream_types.Reading.{Reading}
 use Rattle.vocabulary.specs.declared.stream_types.Reading.the-variants.{Edition2009, Edition2015}
-use Rattle.es_loop.specs.declared.entries.Entry.{Entry}
+use Rattle.loop_entries.specs.declared.Entry.{Entry}
 use Rattle.es_loop.specs.declared.reader.Outcome.{Outcome}
 use Rattle.es_loop.specs.declared.reader.Outcome.the-variants.{Accepted}
 use Rattle.es_loop.specs.declared.reader.LoopRead.{LoopRead}
-use Rattle.es_loop.specs.Entries.{streamOf, markedStreams}
+use Rattle.loop_entries.specs.Entries.{streamOf, markedStreams}
 use Rattle.es_loop.specs.Reading.{accepted, loopRead}
 use Rattle.es_loop.specs.Meaning as Loop
 use Rattle.es_loop.proofs.Meant.{answer-only}
@@ -62,7 +62,7 @@ module _ (bytes : List ℕ) {items : List Item} (a : Set.Accepts bytes items) {b
   every : (target : ℕ) → Every2009 (entriesRead (loopRead Edition2015 bytes)) (layersOf (entriesRead (loopRead Edition2015 bytes))) target
   every target = record { has-type = λ k j e r l. typed k e (subst (λ (es : List Entry). Nth es k e) same-entries (l .entry)) (l .layer) }
     where
-      typed : (k : ℕ) (e : Entry) → Nth (Set.answered items) k e → Rattle.descriptors.specs.Records.isLayer (e .«record») ≡ mathlib.Core.Bool.true → StreamType2009 (e .«stream_type»)
+      typed : (k : ℕ) (e : Entry) → Nth (Set.answered items) k e → Rattle.records.specs.Records.isLayer (e .«record») ≡ mathlib.Core.Bool.true → StreamType2009 (e .«stream_type»)
       typed k e n layer = go (two .no-other k e (record { entry = n; layer = layer }))
         where
           go : (k ≡ two .base-place) ⊎ (k ≡ two .second-place) → StreamType2009 (e .«stream_type»)

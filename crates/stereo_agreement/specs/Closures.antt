@@ -12,8 +12,8 @@ use Rattle.combinators.specs.Lists.{Nth, nth-one}
 use Rattle.combinators.specs.Members.{member}
 use Rattle.sets.specs.Sets.{has}
 use Rattle.sets.proofs.Laws.{has-within}
-use Rattle.descriptors.specs.Records.{named}
-use Rattle.es_loop.specs.declared.entries.Entry.{Entry}
+use Rattle.records.specs.Records.{named}
+use Rattle.loop_entries.specs.declared.Entry.{Entry}
 use Rattle.closure.specs.declared.Layers.{Layers}
 use Rattle.closure.specs.declared.Closure.the-variants.{Complete}
 use Rattle.closure.specs.Closures.{isLayer, closureOf}

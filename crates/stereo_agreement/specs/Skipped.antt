@@ -17,11 +17,11 @@ use Rattle.descriptor_heads.specs.Head.{descriptorTag, descriptorLength}
 use Rattle.descriptors.specs.declared.looking.Seen.{Seen}
 use Rattle.extension.specs.Extension.{noLayer}
 use Rattle.descriptors.specs.Looking.{Kind, skipped, payloadKind, kindOf, Held, heldIn, isUnfit, isWrongLength, firstRecord, firstLayers, seenOfKinds, seenOf}
-use Rattle.es_loop.specs.declared.entries.Stream.{Stream}
+use Rattle.loop_entries.specs.declared.Stream.{Stream}
 use Rattle.es_loop.specs.declared.verdict.Verdict.{Verdict}
 use Rattle.es_loop.specs.declared.verdict.Verdict.the-variants.{Refused as Refuses}
 use Rattle.es_loop.specs.declared.reader.LoopRead.{LoopRead}
-use Rattle.es_loop.specs.Entries.{streamType, elementaryPid, esInfoLength, seenIn, streamOf, markedStreams}
+use Rattle.loop_entries.specs.Entries.{streamType, elementaryPid, esInfoLength, seenIn, streamOf, markedStreams}
 use Rattle.es_loop.specs.Reading.{judged, answerBy, loopRead}
 use Rattle.closure.specs.declared.Closure.{Closure}
 use Rattle.loop_layers.specs.Closures.{tableIn, closureIn, loopClosure}

@@ -22,7 +22,7 @@ use Rattle.vocabulary.specs.declared.stream_types.Reading.the-variants.{Edition
 use Rattle.vocabulary.specs.StreamTypes.{known}
 use Rattle.descriptor_heads.specs.Head.{descriptorHead, descriptorTag, descriptorLength}
 use Rattle.descriptor_heads.proofs.Heads.{by-tag}
-use Rattle.es_loop.specs.Entries.{entryHead, streamType, elementaryPid, esInfoLength}
+use Rattle.loop_entries.specs.Entries.{entryHead, streamType, elementaryPid, esInfoLength}
 use Rattle.es_loop.proofs.Meant.{by-head}
 use Rattle.loop_round_trip.specs.OwnShape.{Ones, OwnDescriptor, hierarchy-own, extension-own, OwnEntry, known-own, bare-own}
 use Rattle.mvc_extension.specs.declared.MvcExtension.{MvcExtension}

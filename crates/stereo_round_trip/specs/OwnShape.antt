@@ -11,8 +11,8 @@ use Rattle.framing.specs.Pieces.{Item, whole, cut}
 use Rattle.vocabulary.specs.declared.stream_types.Reading.the-variants.{Edition2015}
 use Rattle.vocabulary.specs.StreamTypes.{known}
 use Rattle.descriptor_heads.specs.Head.{descriptorTag, descriptorLength}
-use Rattle.descriptors.specs.Records.{isLayer}
-use Rattle.es_loop.specs.Entries.{entryHead, streamType, esInfoLength, blankEntry}
+use Rattle.records.specs.Records.{isLayer}
+use Rattle.loop_entries.specs.Entries.{entryHead, streamType, esInfoLength, blankEntry}
 use Rattle.loop_round_trip.specs.OwnShape.{Ones, OwnDescriptor, OwnEntry}
 use Rattle.mvc_extension.specs.MvcExtension.{mvcExtensionDescriptor}
 use Rattle.stereo_set.specs.Meaning.{answered}

@@ -19,10 +19,10 @@ use Rattle.descriptor_heads.proofs.Heads.{by-tag}
 use Rattle.hierarchy.specs.declared.HierarchyRecord.{HierarchyRecord}
 use Rattle.hierarchy.specs.Hierarchy.{hierarchyDescriptor, hierarchyFields}
 use Rattle.vocabulary.specs.declared.stream_types.Reading.the-variants.{Edition2015}
-use Rattle.descriptors.specs.declared.«record».Record.{Record}
-use Rattle.descriptors.specs.declared.«record».Record.the-variants.{Hierarchy, Implied}
-use Rattle.es_loop.specs.declared.entries.Entry.{Entry}
-use Rattle.es_loop.specs.Entries.{entryHead, streamType, elementaryPid, esInfoLength}
+use Rattle.records.specs.declared.Record.{Record}
+use Rattle.records.specs.declared.Record.the-variants.{Hierarchy, Implied}
+use Rattle.loop_entries.specs.declared.Entry.{Entry}
+use Rattle.loop_entries.specs.Entries.{entryHead, streamType, elementaryPid, esInfoLength}
 use Rattle.es_loop.proofs.Meant.{by-head}
 use Rattle.loop_writer.specs.Layout.{entryHeadTable, infoBytes, entryBytes, loopBytes, tooWide}
 use Rattle.mvc_extension.specs.declared.MvcExtension.{MvcExtension}
@@ -123,7 +123,7 @@ module _ (z : MvcExtension) where
     items-of (by-mark p) = []
 
     abbrev tablesOf : Record → List ℕ
-    tablesOf r = gather bytesIn (Rattle.descriptors.specs.Records.recordTables r (e .embedded))
+    tablesOf r = gather bytesIn (Rattle.records.specs.Records.recordTables r (e .embedded))
 
     cut-with : (l : PlainLayer e) → cut 2 descriptorLength (infoBytes e ++ extensionBytes) ≡ items-of l ++ extensionItem ∷ []
     cut-with (by-hierarchy h p) =

@@ -15,16 +15,16 @@ use Rattle.framing.specs.Pieces.{Item, whole, Cuts, cut, cuts-unique}
 use Rattle.syntax.specs.Table.{fits}
 use Rattle.syntax.specs.Filled.{Filled, bytesIn}
 use Rattle.vocabulary.specs.declared.stream_types.Reading.the-variants.{Edition2015}
-use Rattle.descriptors.specs.declared.«record».Record.{Record}
-use Rattle.descriptors.specs.declared.«record».Record.the-variants.{NoRecord, Hierarchy, Extension, Implied}
+use Rattle.records.specs.declared.Record.{Record}
+use Rattle.records.specs.declared.Record.the-variants.{NoRecord, Hierarchy, Extension, Implied}
 use Rattle.vocabulary.specs.declared.LayerIndex.{LayerIndex}
 use Rattle.extension.specs.Extension.{noLayer}
-use Rattle.descriptors.specs.Records.{isLayer, named, plain}
+use Rattle.records.specs.Records.{isLayer, named, plain}
 use Rattle.judging.specs.Meaning.{extension-on-avc, extension-on-mvc}
-use Rattle.es_loop.specs.declared.entries.Entry.{Entry}
+use Rattle.loop_entries.specs.declared.Entry.{Entry}
 use Rattle.es_loop.specs.declared.reader.Outcome.the-variants.{Accepted}
 use Rattle.es_loop.specs.declared.reader.LoopRead.{LoopRead}
-use Rattle.es_loop.specs.Entries.{esInfoLength, blankEntry, streamOf, markedStreams, entryOf}
+use Rattle.loop_entries.specs.Entries.{esInfoLength, blankEntry, streamOf, markedStreams, entryOf}
 use Rattle.es_loop.specs.Reading.{accepted, loopRead}
 use Rattle.es_loop.specs.Meaning as Read
 use Rattle.es_loop.proofs.Meant.{by-head, answer-meant, answer-only}

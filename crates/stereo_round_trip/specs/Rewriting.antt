@@ -15,11 +15,11 @@ use Rattle.syntax.specs.Filled.{Filled, bytesIn}
 use Rattle.vocabulary.specs.declared.stream_types.Reading.the-variants.{Edition2015}
 use Rattle.vocabulary.specs.declared.refusal.Refusal.the-variants.{RangesMeet}
 use Rattle.descriptor_heads.specs.Head.{descriptorHead, descriptorTag, descriptorLength}
-use Rattle.descriptors.specs.Records.{isLayer}
-use Rattle.es_loop.specs.declared.entries.Entry.{Entry}
+use Rattle.records.specs.Records.{isLayer}
+use Rattle.loop_entries.specs.declared.Entry.{Entry}
 use Rattle.es_loop.specs.declared.reader.Outcome.the-variants.{Accepted}
 use Rattle.es_loop.specs.declared.reader.LoopRead.{LoopRead}
-use Rattle.es_loop.specs.Entries.{entryHead, streamType, elementaryPid, esInfoLength, streamOf, pairOf, markedStream, markedStreams, entryOf, blankEntry}
+use Rattle.loop_entries.specs.Entries.{entryHead, streamType, elementaryPid, esInfoLength, streamOf, pairOf, markedStream, markedStreams, entryOf, blankEntry}
 use Rattle.es_loop.specs.Reading.{loopRead}
 use Rattle.es_loop.specs.Meaning as Read
 use Rattle.es_loop.proofs.Meant.{by-head, answer-only}
@@ -248,7 +248,7 @@ module _ (bytes : List ℕ) (b : AreBytes bytes) (items : List Item) (own : OwnI
   set-again : stereoBytes x y entries ≡ bytes
   set-again = ap (gather (stereoEntry x y)) as-answered ∙ over (map (streamOf Edition2015) items) items ∙ bytes-of-cut (λ (i : Item). stereoEntry x y (entry i)) (accepts .cuts) entry-again
     where
-      over : (ss : List Rattle.es_loop.specs.declared.entries.Stream.Stream) (is : List Item)
+      over : (ss : List Rattle.loop_entries.specs.declared.Stream.Stream) (is : List Item)
           → gather (stereoEntry x y) (map entryOf (map (markedStream (pairOf ss)) (map (streamOf Edition2015) is)))
           ≡ gather (λ (i : Item). stereoEntry x y (entryOf (markedStream (pairOf ss) (streamOf Edition2015 i)))) is
       over ss [] = refl

@@ -11,9 +11,9 @@ use lib.Dec.{eqb}
 use Rattle.combinators.specs.Bools.{both-left, both-right}
 use Rattle.combinators.specs.Lists.{Nth, nth-one, nth-map, nth-of-map}
 use Rattle.vocabulary.specs.declared.refusal.Refusal.the-variants.{NotStereoSet, WrongMvcExtension, RangesMeet}
-use Rattle.descriptors.specs.Records.{isLayer, indexOf, named}
+use Rattle.records.specs.Records.{isLayer, indexOf, named}
 use Rattle.judging.specs.Judging.{typeNotAllowed, wrongEmbedded}
-use Rattle.es_loop.specs.declared.entries.Entry.{Entry}
+use Rattle.loop_entries.specs.declared.Entry.{Entry}
 use Rattle.es_loop.specs.declared.reader.Outcome.{Outcome}
 use Rattle.es_loop.specs.declared.reader.Outcome.the-variants.{Accepted, Refused}
 use Rattle.mvc_extension.specs.declared.MvcExtension.{MvcExtension}

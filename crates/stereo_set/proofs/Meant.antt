@@ -16,17 +16,17 @@ use Rattle.framing.specs.Pieces.{Item, whole, broken, Cuts, cut, cut-cuts, cuts
 use Rattle.vocabulary.specs.declared.refusal.Refusal.{Refusal}
 use Rattle.vocabulary.specs.declared.refusal.Refusal.the-variants.{NotStereoSet, WrongMvcExtension, RangesMeet}
 use Rattle.vocabulary.specs.declared.stream_types.Reading.the-variants.{Edition2015}
-use Rattle.descriptors.specs.Records.{isLayer, indexOf, named}
+use Rattle.records.specs.Records.{isLayer, indexOf, named}
 use Rattle.judging.specs.Judging.{typeNotAllowed, wrongEmbedded}
-use Rattle.es_loop.specs.declared.entries.Entry.{Entry}
-use Rattle.es_loop.specs.declared.entries.Stream.{Stream}
+use Rattle.loop_entries.specs.declared.Entry.{Entry}
+use Rattle.loop_entries.specs.declared.Stream.{Stream}
 use Rattle.es_loop.specs.declared.verdict.Verdict.{Verdict}
 use Rattle.es_loop.specs.declared.verdict.Verdict.the-variants.{Entries, Refused as Refuses}
 use Rattle.es_loop.specs.declared.reader.Outcome.{Outcome}
 use Rattle.es_loop.specs.declared.reader.Outcome.the-variants.{Accepted, Refused}
 use Rattle.es_loop.specs.declared.reader.LoopRead.{LoopRead}
-use Rattle.es_loop.specs.Entries.{esInfoLength, noStream, streamOf, pairOf, markedStream, markedStreams, streamsOf, entryOf}
-use Rattle.es_loop.specs.Conditions.{streamAt, givenAt, applies}
+use Rattle.loop_entries.specs.Entries.{esInfoLength, noStream, streamOf, pairOf, markedStream, markedStreams, streamsOf, entryOf}
+use Rattle.loop_faults.specs.Conditions.{streamAt, givenAt, applies}
 use Rattle.es_loop.specs.Reading.{refusedWith, accepted, answerBy, verdictOf, loopRead}
 use Rattle.es_loop.specs.Meaning as Loop
 use Rattle.es_loop.proofs.Meant.{by-head, answer-meant, answer-only}

@@ -12,9 +12,9 @@ use Rattle.combinators.specs.Bools.{apart, both-ways, neither-left, neither-rig
 use Rattle.vocabulary.specs.StreamTypes.{mayStandOn}
 use Rattle.vocabulary.specs.declared.LayerIndex.{LayerIndex}
 use Rattle.hierarchy.specs.declared.HierarchyRecord.{HierarchyRecord}
-use Rattle.descriptors.specs.declared.«record».Record.{Record}
-use Rattle.descriptors.specs.declared.«record».Record.the-variants.{NoRecord, Hierarchy, Extension, Implied}
-use Rattle.descriptors.specs.Records.{isLayer, isBase, indexOf, named, plain}
+use Rattle.records.specs.declared.Record.{Record}
+use Rattle.records.specs.declared.Record.the-variants.{NoRecord, Hierarchy, Extension, Implied}
+use Rattle.records.specs.Records.{isLayer, isBase, indexOf, named, plain}
 use Rattle.judging.specs.Judging.{typeNotAllowed, wrongAt, wrongList, wrongEmbedded}
 
 -- a list of one index below its layer's own

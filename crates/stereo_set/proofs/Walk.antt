@@ -13,10 +13,11 @@ use Rattle.combinators.specs.Lists.{part-to-end}
 use Rattle.framing.specs.Pieces.{Item, whole, cut, cut-piece}
 use Rattle.vocabulary.specs.declared.stream_types.Reading.the-variants.{Edition2015}
 use Rattle.es_loop.specs.declared.verdict.Verdict.the-variants.{Entries}
-use Rattle.es_loop.specs.Entries.{esInfoLength, sizeOf, streamOf, pairOf, markedStream, streamsAlone, streamsOf}
+use Rattle.loop_entries.specs.Entries.{esInfoLength, sizeOf, streamOf, pairOf, markedStream, streamsAlone, streamsOf}
 use Rattle.es_loop.specs.Reading.{verdictOf}
 use Rattle.es_loop.proofs.Judged.{Sound, sound}
-use Rattle.es_loop.proofs.Walk.{Cursor, cursor-start, leftAt, left-long, size-5, size-fits, next-here}
+use Rattle.loop_entries.proofs.Front.{leftAt, left-long}
+use Rattle.es_loop.proofs.Walk.{Cursor, cursor-start, size-5, size-fits, next-here}
 use Rattle.stereo_set.specs.declared.views.View.{View}
 use Rattle.stereo_set.specs.Reading.{viewOf, viewsIn}
 

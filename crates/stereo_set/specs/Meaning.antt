@@ -10,8 +10,8 @@ use Rattle.framing.specs.Pieces.{Item, whole, Cuts}
 use Rattle.vocabulary.specs.declared.stream_types.Reading.the-variants.{Edition2015}
 use Rattle.vocabulary.specs.declared.refusal.Refusal.{Refusal}
 use Rattle.vocabulary.specs.declared.refusal.Refusal.the-variants.{NotStereoSet, WrongMvcExtension, RangesMeet}
-use Rattle.es_loop.specs.declared.entries.Entry.{Entry}
-use Rattle.es_loop.specs.Entries.{esInfoLength, streamOf, markedStreams, entryOf}
+use Rattle.loop_entries.specs.declared.Entry.{Entry}
+use Rattle.loop_entries.specs.Entries.{esInfoLength, streamOf, markedStreams, entryOf}
 use Rattle.es_loop.specs.Reading.{refusedWith}
 use Rattle.es_loop.specs.Meaning as Loop
 use Rattle.mvc_extension.specs.declared.MvcExtension.{MvcExtension}

@@ -7,7 +7,7 @@ use Rattle.framing.specs.Pieces.{Item, whole, broken, cut}
 use Rattle.vocabulary.specs.declared.stream_types.Reading.the-variants.{Edition2015}
 use Rattle.es_loop.specs.declared.verdict.Verdict.{Verdict}
 use Rattle.es_loop.specs.declared.verdict.Verdict.the-variants.{Entries, Refused}
-use Rattle.es_loop.specs.Entries.{esInfoLength, streamOf, pairOf, markedStream, entryOf}
+use Rattle.loop_entries.specs.Entries.{esInfoLength, streamOf, pairOf, markedStream, entryOf}
 use Rattle.es_loop.specs.Reading.{verdictOf}
 use Rattle.mvc_descriptors.specs.Finding.{extensionIn}
 use Rattle.stereo_set.specs.declared.views.View.{View}

@@ -5,9 +5,9 @@ use mathlib.Core.List.{List, [], _∷_}
 use lib.Dec.{eqb}
 use Rattle.vocabulary.specs.declared.refusal.Refusal.{Refusal}
 use Rattle.vocabulary.specs.declared.refusal.Refusal.the-variants.{NotStereoSet, WrongMvcExtension, RangesMeet}
-use Rattle.es_loop.specs.declared.entries.Entry.{Entry}
+use Rattle.loop_entries.specs.declared.Entry.{Entry}
 use Rattle.es_loop.specs.declared.reader.Outcome.the-variants.{Accepted, Refused}
-use Rattle.es_loop.specs.Entries.{blankEntry}
+use Rattle.loop_entries.specs.Entries.{blankEntry}
 use Rattle.mvc_extension.specs.declared.MvcExtension.{MvcExtension}
 use Rattle.mvc_extension.specs.Ranges.{wrongRanges}
 use Rattle.mvc_descriptors.specs.declared.Found.{Found}

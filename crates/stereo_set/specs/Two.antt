@@ -7,8 +7,8 @@ use mathlib.Core.Logic.{_⊎_}
 use mathlib.Core.Bool.{true}
 use mathlib.Core.List.{List, [], _∷_}
 use Rattle.combinators.specs.Lists.{Nth}
-use Rattle.descriptors.specs.Records.{isLayer, named}
-use Rattle.es_loop.specs.declared.entries.Entry.{Entry}
+use Rattle.records.specs.Records.{isLayer, named}
+use Rattle.loop_entries.specs.declared.Entry.{Entry}
 use Rattle.stereo_set.specs.Views.{indexIn}
 
 module _ (entries : List Entry) where

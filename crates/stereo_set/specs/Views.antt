@@ -6,9 +6,9 @@ use mathlib.Core.Bool.{Bool, cond, _&&_}
 use mathlib.Core.List.{List, [], _∷_}
 use lib.Dec.{eqb}
 use Rattle.combinators.specs.Lists.{gather}
-use Rattle.descriptors.specs.Records.{isLayer, indexOf}
-use Rattle.es_loop.specs.declared.entries.Entry.{Entry}
-use Rattle.es_loop.specs.Entries.{blankEntry}
+use Rattle.records.specs.Records.{isLayer, indexOf}
+use Rattle.loop_entries.specs.declared.Entry.{Entry}
+use Rattle.loop_entries.specs.Entries.{blankEntry}
 use Rattle.mvc_descriptors.specs.declared.Found.the-variants.{Missing}
 use Rattle.stereo_set.specs.declared.views.View.{View}
 use Rattle.stereo_set.specs.declared.views.Layers.{Layers}

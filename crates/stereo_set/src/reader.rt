@@ -4,7 +4,7 @@ ghost use Prim.Native.Nat.{_≤_};
 ghost use lib.ListN.{length, take, drop};
 ghost use Rattle.framing.specs.Pieces.{whole};
 ghost use Rattle.vocabulary.specs.declared.stream_types.Reading.the-variants.{Edition2015};
-ghost use Rattle.es_loop.specs.Entries.{streamsOf};
+ghost use Rattle.loop_entries.specs.Entries.{streamsOf};
 ghost use Rattle.es_loop.specs.Reading.{verdictOf};
 ghost use Rattle.stereo_set.specs.Views.{noViews, layersAfter};
 ghost use Rattle.stereo_set.specs.Reading.{viewOf, viewsIn, stereoRead};

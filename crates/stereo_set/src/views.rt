@@ -1,6 +1,6 @@
 // The layers of a loop as the stereo set looks at them: how many they are, as far as that matters, and the first two.
 ghost use mathlib.Core.Path.{_≡_};
-ghost use Rattle.es_loop.specs.Entries.{blankEntry};
+ghost use Rattle.loop_entries.specs.Entries.{blankEntry};
 ghost use Rattle.stereo_set.specs.Views.{noView, noViews, addLayer, nextView};
 use descriptors::Record;
 use es_loop::Entry;

@@ -18,10 +18,10 @@ use Rattle.syntax.proofs.Laws.{fits-fit}
 use Rattle.syntax.proofs.NamedLaws.{written-by-meant, written-by-only}
 use Rattle.syntax.proofs.FilledLaws.{AllProper, none, one-then, NoneTooWide, none as all-fit, one-then as fit-then, writes-meant, writes-only}
 use Rattle.descriptor_heads.specs.Head.{headTable}
-use Rattle.descriptors.specs.Records.{isLayer, indexOf}
-use Rattle.descriptors.proofs.Sizes.{info-short}
-use Rattle.es_loop.specs.declared.entries.Entry.{Entry}
-use Rattle.es_loop.specs.Entries.{entryHead}
+use Rattle.records.specs.Records.{isLayer, indexOf}
+use Rattle.records.proofs.Sizes.{info-short}
+use Rattle.loop_entries.specs.declared.Entry.{Entry}
+use Rattle.loop_entries.specs.Entries.{entryHead}
 use Rattle.loop_writer.specs.Layout.{entryHeadTable, infoBytes, entryBytes, loopBytes, tooWide}
 use Rattle.loop_writer.specs.Meaning as Loop
 use Rattle.loop_writer.proofs.Entries.{head-fit, record-fit, pid-small}

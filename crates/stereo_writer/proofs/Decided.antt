@@ -13,10 +13,10 @@ use Rattle.buffers.specs.Buffers.{Laid}
 use Rattle.buffers.proofs.Laws.{laid-over}
 use Rattle.vocabulary.specs.declared.refusal.Refusal.{Refusal}
 use Rattle.vocabulary.specs.declared.refusal.Refusal.the-variants.{LoopTooLong, NoRoom}
-use Rattle.es_loop.specs.declared.entries.Entry.{Entry}
+use Rattle.loop_entries.specs.declared.Entry.{Entry}
 use Rattle.es_loop.specs.declared.reader.Outcome.{Outcome}
 use Rattle.es_loop.specs.declared.reader.Outcome.the-variants.{Accepted, Refused}
-use Rattle.es_loop.specs.Conditions.{refusalOf}
+use Rattle.loop_faults.specs.Conditions.{refusalOf}
 use Rattle.loop_writer.specs.declared.weighing.Weighed.{Weighed}
 use Rattle.loop_writer.specs.declared.writer.Written.{Written}
 use Rattle.loop_writer.specs.declared.writer.Written.the-variants.{Bytes, Refused as NotWritten}

@@ -18,15 +18,15 @@ use Rattle.syntax.proofs.Laws.{fits-fit}
 use Rattle.vocabulary.specs.declared.refusal.Refusal.{Refusal}
 use Rattle.vocabulary.specs.declared.refusal.Refusal.the-variants.{LoopTooLong, NoRoom, TooWide, NotStereoSet, RangesMeet}
 use Rattle.vocabulary.specs.Refusals.{numberOf, placeOf}
-use Rattle.descriptors.specs.declared.«record».Record.{Record}
-use Rattle.descriptors.specs.declared.«record».Record.the-variants.{NoRecord, Hierarchy, Extension, Implied}
+use Rattle.records.specs.declared.Record.{Record}
+use Rattle.records.specs.declared.Record.the-variants.{NoRecord, Hierarchy, Extension, Implied}
 use Rattle.judging.specs.Judging.{typeNotAllowed, wrongEmbedded}
 use Rattle.judging.specs.Meaning.{hasDescriptor}
 use Rattle.judging.proofs.Meant.{refusal-6, refusal-9}
-use Rattle.es_loop.specs.declared.entries.Entry.{Entry}
+use Rattle.loop_entries.specs.declared.Entry.{Entry}
 use Rattle.es_loop.specs.declared.reader.Outcome.{Outcome}
 use Rattle.es_loop.specs.declared.reader.Outcome.the-variants.{Accepted, Refused}
-use Rattle.es_loop.specs.Conditions.{refusalOf}
+use Rattle.loop_faults.specs.Conditions.{refusalOf}
 use Rattle.loop_writer.specs.declared.writer.Written.{Written}
 use Rattle.loop_writer.specs.declared.writer.Written.the-variants.{Bytes, Refused as NotWritten}
 use Rattle.loop_writer.specs.Layout.{entryTables, loopBytes, tooWide}

@@ -13,7 +13,7 @@ use Rattle.combinators.specs.Lists.{any}
 use Rattle.syntax.specs.Table.{fits}
 use Rattle.vocabulary.specs.declared.refusal.Refusal.{Refusal}
 use Rattle.vocabulary.specs.declared.refusal.Refusal.the-variants.{LoopTooLong, NotStereoSet, RangesMeet, NoRoom}
-use Rattle.es_loop.specs.declared.entries.Entry.{Entry}
+use Rattle.loop_entries.specs.declared.Entry.{Entry}
 use Rattle.es_loop.specs.declared.reader.Outcome.{Outcome}
 use Rattle.es_loop.specs.declared.reader.Outcome.the-variants.{Accepted, Refused as SetRefused}
 use Rattle.loop_writer.specs.declared.writer.Written.{Written}

@@ -6,8 +6,8 @@ use mathlib.Core.List.{List, [], _∷_, _++_, map, map-append}
 use native.Mathlib.Numerals.{add-one}
 use lib.ListN.{length, getD, take}
 use lib.Seq.{take-suc}
-use Rattle.es_loop.specs.declared.entries.Entry.{Entry}
-use Rattle.es_loop.specs.Entries.{blankEntry}
+use Rattle.loop_entries.specs.declared.Entry.{Entry}
+use Rattle.loop_entries.specs.Entries.{blankEntry}
 use Rattle.mvc_extension.specs.declared.MvcExtension.{MvcExtension}
 use Rattle.stereo_set.specs.declared.views.View.{View}
 use Rattle.stereo_set.specs.declared.views.Layers.{Layers}

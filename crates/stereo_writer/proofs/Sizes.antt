@@ -12,8 +12,8 @@ use Rattle.combinators.specs.Lists.{gather}
 use Rattle.syntax.specs.Table.{fits}
 use Rattle.syntax.specs.Filled.{bytesIn}
 use Rattle.vocabulary.specs.declared.refusal.Refusal.{Refusal}
-use Rattle.descriptors.specs.Records.{isLayer, recordTables}
-use Rattle.es_loop.specs.declared.entries.Entry.{Entry}
+use Rattle.records.specs.Records.{isLayer, recordTables}
+use Rattle.loop_entries.specs.declared.Entry.{Entry}
 use Rattle.es_loop.specs.declared.reader.Outcome.{Outcome}
 use Rattle.es_loop.specs.declared.reader.Outcome.the-variants.{Accepted, Refused}
 use Rattle.loop_writer.specs.Layout.{entryBytes, loopBytes}

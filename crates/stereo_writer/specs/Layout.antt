@@ -7,8 +7,8 @@ use mathlib.Core.List.{List, [], _∷_, _++_}
 use lib.ListN.{length}
 use Rattle.combinators.specs.Lists.{gather}
 use Rattle.syntax.specs.Filled.{Filled, bytesIn}
-use Rattle.descriptors.specs.Records.{isLayer, isSecondView, recordTables}
-use Rattle.es_loop.specs.declared.entries.Entry.{Entry}
+use Rattle.records.specs.Records.{isLayer, isSecondView, recordTables}
+use Rattle.loop_entries.specs.declared.Entry.{Entry}
 use Rattle.loop_writer.specs.Layout.{entryHeadTable}
 use Rattle.mvc_extension.specs.declared.MvcExtension.{MvcExtension}
 use Rattle.mvc_descriptors.specs.declared.Found.the-variants.{One}

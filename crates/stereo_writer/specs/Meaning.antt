@@ -10,7 +10,7 @@ use Rattle.syntax.specs.Filled.{Filled, Writes}
 use Rattle.vocabulary.specs.declared.refusal.Refusal.{Refusal}
 use Rattle.vocabulary.specs.declared.refusal.Refusal.the-variants.{LoopTooLong, NoRoom, NotStereoSet, RangesMeet}
 use Rattle.vocabulary.specs.Refusals.{numberOf, placeOf}
-use Rattle.es_loop.specs.declared.entries.Entry.{Entry}
+use Rattle.loop_entries.specs.declared.Entry.{Entry}
 use Rattle.loop_writer.specs.declared.writer.Written.{Written}
 use Rattle.loop_writer.specs.declared.writer.Written.the-variants.{Bytes, Refused}
 use Rattle.loop_writer.specs.Layout.{entryHeadTable}

@@ -24,7 +24,7 @@ pub fn layers_in(numbers: &[u16], base: MvcExtension, second: MvcExtension) -> L
     while i < count {
         let start = i * 80;
         let end = start + 80;
-        let entry = entry_rows::entry_in(&numbers[start..end]);
+        let entry = row_taking::entry_in(&numbers[start..end]);
         layers = stereo_set::next_view(layers, view_for(base, second, entry));
         i += 1;
     }
@@ -47,7 +47,7 @@ pub fn put_stereo_entries(
     while i < count {
         let start = i * 80;
         let end = start + 80;
-        let entry = entry_rows::entry_in(&numbers[start..end]);
+        let entry = row_taking::entry_in(&numbers[start..end]);
         place = put_stereo_entry(out, place, base, second, entry);
         i += 1;
     }

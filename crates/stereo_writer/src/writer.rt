@@ -57,8 +57,8 @@ pub fn write_stereo(
     if MOST_ENTRIES < numbers.len() / 80 {
         return Written::Refused(Refusal::LoopTooLong);
     }
-    let pair = entry_rows::pair_in(numbers);
-    let weighed = entry_rows::weigh_rows(pair, numbers);
+    let pair = row_writer::pair_in(numbers);
+    let weighed = row_writer::weigh_rows(pair, numbers);
     let size = weighed.size;
     if MOST_BYTES - EXTENSIONS_SIZE < size {
         return Written::Refused(Refusal::LoopTooLong);

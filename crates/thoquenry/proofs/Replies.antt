@@ -13,10 +13,10 @@ use lib.Seq.{take-suc, take-at, length-take-le}
 use Rattle.combinators.specs.Padding.{padTo, store-padTo}
 use Rattle.vocabulary.specs.declared.refusal.Refusal.the-variants.{NoRoom, TooWide}
 use Rattle.vocabulary.specs.declared.stream_types.Reading.{Reading}
-use Rattle.es_loop.specs.declared.entries.Entry.{Entry}
-use Rattle.es_loop.specs.declared.entries.Stream.{Stream}
+use Rattle.loop_entries.specs.declared.Entry.{Entry}
+use Rattle.loop_entries.specs.declared.Stream.{Stream}
 use Rattle.es_loop.specs.declared.verdict.Verdict.the-variants.{Entries}
-use Rattle.es_loop.specs.Entries.{blankEntry, streamsOf, entryOf}
+use Rattle.loop_entries.specs.Entries.{blankEntry, streamsOf, entryOf}
 use Rattle.es_loop.specs.Reading.{verdictOf, answerBy}
 use Rattle.es_loop.proofs.Judged.{sound}
 use Rattle.loop_writer.specs.Writing.{answer, content}

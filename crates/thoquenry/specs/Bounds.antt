@@ -41,13 +41,13 @@ use Rattle.closure.specs.declared.Layers.{Layers}
 use Rattle.closure.specs.declared.Closure.{Closure}
 use Rattle.closure.specs.declared.Closure.the-variants.{Complete, Refused as NoClosure}
 use Rattle.closure.specs.Closures.{isLayer, lacks, restedOn, answerFor, closureOf}
-use Rattle.es_loop.specs.declared.entries.Entry.{Entry}
-use Rattle.es_loop.specs.declared.entries.Stream.{Stream}
+use Rattle.loop_entries.specs.declared.Entry.{Entry}
+use Rattle.loop_entries.specs.declared.Stream.{Stream}
 use Rattle.es_loop.specs.declared.reader.Outcome.{Outcome}
 use Rattle.es_loop.specs.declared.reader.Outcome.the-variants.{Accepted, Refused as LoopRefused}
 use Rattle.es_loop.specs.declared.reader.LoopRead.{LoopRead}
-use Rattle.es_loop.specs.Entries.{esInfoLength, streamOf, pairOf, markedStream, streamsAlone, streamsOf}
-use Rattle.es_loop.specs.Conditions.{applies, refusalOf}
+use Rattle.loop_entries.specs.Entries.{esInfoLength, streamOf, pairOf, markedStream, streamsAlone, streamsOf}
+use Rattle.loop_faults.specs.Conditions.{applies, refusalOf}
 use Rattle.es_loop.specs.declared.verdict.Verdict.{Verdict as LoopVerdict}
 use Rattle.es_loop.specs.declared.verdict.Verdict.the-variants.{Entries, Refused as Refuses}
 use Rattle.es_loop.specs.Reading.{judged, answerBy, loopRead}

@@ -1,7 +1,7 @@
 // A loop read and written as rows of numbers, and the closure of a target.
 ghost use mathlib.Core.Path.{_≡_};
 ghost use mathlib.Core.List.{map};
-ghost use Rattle.es_loop.specs.Entries.{streamsOf, entryOf};
+ghost use Rattle.loop_entries.specs.Entries.{streamsOf, entryOf};
 ghost use Rattle.es_loop.specs.Reading.{verdictOf, loopRead};
 ghost use Rattle.thoquenry.specs.Loops.{entriesLaid, rowsRead, readLoop, writeLoop, closureLaid, closureCall};
 use c_answers::Asked;
@@ -33,7 +33,7 @@ fn lay_accepted(
     if entries.len() < count * ENTRY_NUMBERS {
         return refused(Refusal::NoRoom);
     }
-    entry_rows::put_rows(reading, pair, bytes, entries);
+    row_laying::put_rows(reading, pair, bytes, entries);
     accepted(count)
 }
 
@@ -68,7 +68,7 @@ pub extern "C" fn thq_write_loop(entries: &[u16], out: &mut [u8]) -> u64
     if entry_rows::some_too_wide(entries) {
         return refused(Refusal::TooWide);
     }
-    let written = entry_rows::write_rows(entries, out);
+    let written = row_writer::write_rows(entries, out);
     match written {
         Written::Bytes(count) => accepted(count),
         Written::Refused(refusal) => refused(refusal),

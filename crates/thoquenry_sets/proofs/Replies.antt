@@ -14,7 +14,7 @@ use Rattle.combinators.specs.Bools.{both-left, both-right, both-ways}
 use Rattle.sets.specs.Sets.{size}
 use Rattle.vocabulary.specs.declared.refusal.Refusal.{Refusal}
 use Rattle.vocabulary.specs.declared.refusal.Refusal.the-variants.{NoRoom, TooWide}
-use Rattle.es_loop.specs.declared.entries.Entry.{Entry}
+use Rattle.loop_entries.specs.declared.Entry.{Entry}
 use Rattle.es_loop.specs.declared.reader.Outcome.{Outcome}
 use Rattle.closure.specs.declared.Closure.{Closure}
 use Rattle.entry_rows.specs.Rows.{rowCount, rowAt, rowTooWide, someTooWide, entryIn}

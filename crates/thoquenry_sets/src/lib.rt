@@ -113,7 +113,7 @@ pub extern "C" fn thq_set_add(layers: &mut [u16], stored: &mut [u64], entry: &[u
     if entry_rows::some_too_wide(entry) {
         return refused(Refusal::TooWide);
     }
-    let changed = layer_set::add(set, entry_rows::entry_in(entry));
+    let changed = layer_set::add(set, row_taking::entry_in(entry));
     lay_changed(changed, layers, stored)
 }
 

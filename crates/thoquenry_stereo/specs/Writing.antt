@@ -6,7 +6,7 @@ use mathlib.Core.List.{List}
 use lib.ListN.{length}
 use Rattle.syntax.specs.Table.{fits}
 use Rattle.vocabulary.specs.declared.refusal.Refusal.the-variants.{TooWide}
-use Rattle.es_loop.specs.declared.entries.Entry.{Entry}
+use Rattle.loop_entries.specs.declared.Entry.{Entry}
 use Rattle.loop_writer.specs.declared.writer.Written.{Written}
 use Rattle.loop_writer.specs.declared.writer.Written.the-variants.{Bytes, Refused}
 use Rattle.entry_rows.specs.Rows.{someTooWide, rowCount, entriesBelow}

@@ -23,8 +23,8 @@ fn lay_entries(entries: &mut [u16], base: Entry, second: Entry)
     requires { ⌜ 160 ≤ length (now entries) ⌝ }
     ensures { λ r. ⌜ now (entries .exit) ≡ over (rowOf base ++ rowOf second) (now (entries .entry)) ⌝ }
 {
-    entry_rows::lay_row(&mut entries[0..80], base);
-    entry_rows::lay_row(&mut entries[80..160], second);
+    row_laying::lay_row(&mut entries[0..80], base);
+    row_laying::lay_row(&mut entries[80..160], second);
 }
 
 // A set that was accepted, where there is room for it.

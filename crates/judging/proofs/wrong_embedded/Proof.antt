@@ -5,10 +5,10 @@ use mathlib.Core.List.{List, map}
 use native.Mathlib.Omega.{arith}
 use lib.ListN.{length}
 use Rattle.vocabulary.specs.declared.LayerIndex.{LayerIndex}
-use Rattle.descriptors.specs.declared.«record».Record.{Record}
-use Rattle.descriptors.specs.Records.{plain}
+use Rattle.records.specs.declared.Record.{Record}
+use Rattle.records.specs.Records.{plain}
 use Rattle.judging.specs.Judging.{wrongList, wrongEmbedded}
-use Rattle.descriptors.proofs.Naming.{all-listed}
+use Rattle.records.proofs.Naming.{all-listed}
 use Rattle.judging.proofs.Meant.{implied-sound}
 use borrow.Author.Needs.{needs}
 use Rattle.judging.proofs.wrong_embedded.Statement.{statement}

@@ -6,7 +6,7 @@ use mathlib.Core.Path.{_≡_, _∙_, sym}
 use mathlib.Core.List.{map}
 use native.Mathlib.Omega.{arith}
 use lib.ListN.{length, take}
-use Rattle.descriptors.specs.Records.{plain}
+use Rattle.records.specs.Records.{plain}
 use Rattle.judging.proofs.Loops.{count-length, count-at, Passed, passed-start, passed-high, passed-marked, passed-step, passed-end}
 use Rattle.judging.proofs.wrong_list.Statement.{statement}
 use Rattle.judging.proofs.wrong_list.Tie as tie

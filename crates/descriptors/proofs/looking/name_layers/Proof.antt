@@ -13,7 +13,7 @@ use Rattle.combinators.specs.Lists.{part-to-end, gather}
 use Rattle.vocabulary.specs.declared.stream_types.Reading.{Reading}
 use Rattle.descriptors.specs.declared.looking.Named.{Named}
 use Rattle.descriptor_heads.specs.Head.{descriptorTag, descriptorLength}
-use Rattle.descriptors.specs.Records.{isLayer}
+use Rattle.records.specs.Records.{isLayer}
 use Rattle.descriptors.specs.Looking.{Kind, Held, heldIn, kindsOf, payloadKind, seenOf}
 use Rattle.descriptors.specs.Finding.{namedIn, namedBy}
 use Rattle.descriptor_heads.proofs.Heads.{framed-not, framed-fits}

@@ -7,10 +7,10 @@ use mathlib.Core.List.{List, map}
 use native.Mathlib.Omega.{arith}
 use lib.ListN.{length, take, drop}
 use Rattle.combinators.specs.Lists.{part-to-end}
-use Rattle.descriptors.specs.declared.«record».Record.the-variants.{Hierarchy, Extension}
+use Rattle.records.specs.declared.Record.the-variants.{Hierarchy, Extension}
 use Rattle.descriptors.specs.declared.looking.Look.{Look}
 use Rattle.extension.specs.Extension.{layersOf}
-use Rattle.descriptors.specs.Records.{plain, withIndices}
+use Rattle.records.specs.Records.{plain, withIndices}
 use Rattle.descriptors.specs.Looking.{heldIn, payloadKind}
 use Rattle.descriptors.specs.Finding.{namedIn}
 use Rattle.descriptors.proofs.Finding.{payload-shaped, Names, look-names}

@@ -1,7 +1,7 @@
 -- `descriptors::with_record` meets its contract: which arm was taken says whether there was a record before.
 -- Assumes nothing.
 use mathlib.Core.Path.{_∙_, ap, sym}
-use Rattle.descriptors.specs.declared.«record».Record.{Record}
+use Rattle.records.specs.declared.Record.{Record}
 use Rattle.descriptors.specs.Finding.{besidesFound}
 use borrow.Author.Needs.{needs}
 use Rattle.descriptors.proofs.looking.with_record.Statement.{statement}

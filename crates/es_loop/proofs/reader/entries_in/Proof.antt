@@ -7,11 +7,12 @@ use mathlib.Core.List.{List}
 use lib.ListN.{length, take, set}
 use lib.Seq.{length-take-le, take-all}
 use Rattle.combinators.specs.Padding.{store-map}
-use Rattle.es_loop.specs.declared.entries.Entry.{Entry}
-use Rattle.es_loop.specs.declared.entries.Stream.{Stream}
-use Rattle.es_loop.specs.Entries.{noStream, blankEntry, streamsOf, entryOf, entriesOf}
+use Rattle.loop_entries.specs.declared.Entry.{Entry}
+use Rattle.loop_entries.specs.declared.Stream.{Stream}
+use Rattle.loop_entries.specs.Entries.{noStream, blankEntry, streamsOf, entryOf, entriesOf}
 use Rattle.es_loop.proofs.Judged.{sound}
-use Rattle.es_loop.proofs.Walk.{Cursor, cursor-start, leftAt, left-long, size-5, size-fits, stands-here, inside-here, next-here, counted-all}
+use Rattle.loop_entries.proofs.Front.{leftAt, left-long}
+use Rattle.es_loop.proofs.Walk.{Cursor, cursor-start, size-5, size-fits, stands-here, inside-here, next-here, counted-all}
 use borrow.Author.Needs.{needs}
 use Rattle.es_loop.proofs.reader.entries_in.Statement.{statement}
 use Rattle.es_loop.proofs.reader.entries_in.Tie as tie

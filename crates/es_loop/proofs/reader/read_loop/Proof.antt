@@ -3,11 +3,11 @@
 use Prim.Native.Nat.{ℕ}
 use mathlib.Core.Path.{_≡_, _∙_, ap, ap₂, sym}
 use mathlib.Core.List.{List}
-use Rattle.es_loop.specs.declared.entries.Entry.{Entry}
+use Rattle.loop_entries.specs.declared.Entry.{Entry}
 use Rattle.es_loop.specs.declared.verdict.Verdict.{Verdict}
 use Rattle.es_loop.specs.declared.verdict.Verdict.the-variants.{Entries}
 use Rattle.es_loop.specs.declared.reader.Outcome.the-variants.{Accepted}
-use Rattle.es_loop.specs.Entries.{streamsOf}
+use Rattle.loop_entries.specs.Entries.{streamsOf}
 use Rattle.es_loop.specs.Reading.{answerBy}
 use Rattle.es_loop.proofs.Judged.{sound}
 use borrow.Author.Needs.{needs}

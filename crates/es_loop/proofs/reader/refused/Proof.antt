@@ -2,7 +2,7 @@
 -- Assumes nothing.
 use mathlib.Core.Path.{ap}
 use mathlib.Core.List.{List}
-use Rattle.es_loop.specs.declared.entries.Entry.{Entry}
+use Rattle.loop_entries.specs.declared.Entry.{Entry}
 use Rattle.es_loop.specs.declared.reader.Outcome.the-variants.{Refused}
 use borrow.Author.Needs.{needs}
 use Rattle.es_loop.proofs.reader.refused.Statement.{statement}

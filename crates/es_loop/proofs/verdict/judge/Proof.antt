@@ -6,7 +6,7 @@ use borrow.Author.Tests.{lt-ltb, le-ltb}
 use lib.ListN.{length}
 use Rattle.vocabulary.specs.declared.refusal.Refusal.the-variants.{LoopTooLong}
 use Rattle.es_loop.specs.declared.verdict.Verdict.the-variants.{Refused as Refuses}
-use Rattle.es_loop.specs.Entries.{streamsOf}
+use Rattle.loop_entries.specs.Entries.{streamsOf}
 use Rattle.es_loop.specs.Reading.{judged}
 use borrow.Author.Needs.{needs}
 use Rattle.es_loop.proofs.verdict.judge.Statement.{statement}

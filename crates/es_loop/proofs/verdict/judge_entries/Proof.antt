@@ -9,11 +9,12 @@ use mathlib.Core.Path.{_≡_, _∙_, ap, sym}
 use lib.ListN.{length}
 use lib.Seq.{length-take-le}
 use Rattle.vocabulary.specs.declared.refusal.Refusal.{Refusal}
-use Rattle.es_loop.specs.declared.entries.Stream.{Stream}
+use Rattle.loop_entries.specs.declared.Stream.{Stream}
 use Rattle.es_loop.specs.declared.verdict.Verdict.the-variants.{Refused as Refuses}
-use Rattle.es_loop.specs.Entries.{streamsOf}
-use Rattle.es_loop.proofs.Passing.{Passed, passed-start, passed-next, stays-above}
-use Rattle.es_loop.proofs.Walk.{Cursor, cursor-start, leftAt, left-long, size-5, no-entry, stands-here, given-here, inside-here, pid-here, next-here, does-not-fit, end-refused, end-accepted}
+use Rattle.loop_entries.specs.Entries.{streamsOf}
+use Rattle.loop_faults.proofs.Passing.{Passed, passed-start, passed-next, stays-above}
+use Rattle.loop_entries.proofs.Front.{leftAt, left-long}
+use Rattle.es_loop.proofs.Walk.{Cursor, cursor-start, size-5, no-entry, stands-here, given-here, inside-here, pid-here, next-here, does-not-fit, end-refused, end-accepted}
 use Rattle.es_loop.proofs.verdict.judge_entries.Statement.{statement}
 use Rattle.es_loop.proofs.verdict.judge_entries.Tie as tie
 

@@ -6,8 +6,8 @@ use native.Mathlib.Omega.{arith}
 use borrow.Author.Needs.{needs}
 use mathlib.Core.Path.{_≡_, sym, _∙_, ap}
 use lib.ListN.{length}
-use Rattle.es_loop.specs.declared.entries.Entry.{Entry}
-use Rattle.es_loop.specs.Entries.{entryOf}
+use Rattle.loop_entries.specs.declared.Entry.{Entry}
+use Rattle.loop_entries.specs.Entries.{entryOf}
 use Rattle.layer_set.specs.declared.«set».Placed.{Placed}
 use Rattle.layer_set.specs.Sets.{placedOf, placedNext}
 use Rattle.loop_layers.proofs.Walked.{Standing, standing-first, leftFrom, streamFrom, turn, none-left}

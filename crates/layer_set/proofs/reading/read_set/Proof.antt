@@ -2,7 +2,7 @@
 -- Assumes nothing.
 use mathlib.Core.Path.{_∙_, ap, sym}
 use Rattle.es_loop.specs.declared.reader.Outcome.the-variants.{Accepted, Refused}
-use Rattle.es_loop.specs.Entries.{streamsOf}
+use Rattle.loop_entries.specs.Entries.{streamsOf}
 use Rattle.es_loop.specs.Reading.{answerBy}
 use Rattle.loop_layers.proofs.Meant.{entries-read}
 use Rattle.loop_layers.proofs.Walked.{counted-verdict}

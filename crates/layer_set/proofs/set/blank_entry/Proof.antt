@@ -3,8 +3,8 @@
 use mathlib.Core.List.{List}
 use mathlib.Core.Path.{ap}
 use Rattle.vocabulary.specs.declared.LayerIndex.{LayerIndex}
-use Rattle.descriptors.specs.declared.«record».Record.the-variants.{NoRecord}
-use Rattle.es_loop.specs.declared.entries.Entry.{Entry}
+use Rattle.records.specs.declared.Record.the-variants.{NoRecord}
+use Rattle.loop_entries.specs.declared.Entry.{Entry}
 use borrow.Author.Needs.{needs}
 use Rattle.layer_set.proofs.set.blank_entry.Statement.{statement}
 use Rattle.layer_set.proofs.set.blank_entry.Tie as tie

@@ -2,7 +2,7 @@
 -- Assumes nothing.
 use mathlib.Core.Path.{ap}
 use lib.ListN.{replicate}
-use Rattle.es_loop.specs.declared.entries.Entry.{Entry}
+use Rattle.loop_entries.specs.declared.Entry.{Entry}
 use borrow.Author.Needs.{needs}
 use Rattle.layer_set.proofs.set.blank_layers.Statement.{statement}
 use Rattle.layer_set.proofs.set.blank_layers.Tie as tie

@@ -3,7 +3,7 @@
 use mathlib.Core.List.{List}
 use mathlib.Core.Path.{ap₂}
 use Rattle.closure.specs.declared.Layers.{Layers}
-use Rattle.es_loop.specs.declared.entries.Entry.{Entry}
+use Rattle.loop_entries.specs.declared.Entry.{Entry}
 use borrow.Author.Needs.{needs}
 use Rattle.layer_set.proofs.set.nothing_placed.Statement.{statement}
 use Rattle.layer_set.proofs.set.nothing_placed.Tie as tie

@@ -4,7 +4,7 @@ use Prim.Native.Nat.{_≤_, _<_}
 use mathlib.Core.Path.{refl}
 use native.Mathlib.Omega.{arith}
 use borrow.Author.Tests.{lt-ltb, le-ltb}
-use Rattle.es_loop.specs.declared.entries.Entry.{Entry}
+use Rattle.loop_entries.specs.declared.Entry.{Entry}
 use Rattle.loop_layers.specs.Layers.{placeOf}
 use borrow.Author.Needs.{needs}
 use Rattle.layer_set.proofs.set.place.Statement.{statement}

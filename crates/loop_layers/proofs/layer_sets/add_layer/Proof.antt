@@ -8,7 +8,7 @@ use borrow.Author.Needs.{needs}
 use borrow.Author.Tests.{lt-ltb, le-ltb}
 use lib.ListN.{set}
 use Rattle.sets.specs.Sets.{added}
-use Rattle.es_loop.specs.Conditions.{slotOf}
+use Rattle.loop_faults.specs.Conditions.{slotOf}
 use Rattle.loop_layers.proofs.layer_sets.add_layer.Statement.{statement}
 use Rattle.loop_layers.proofs.layer_sets.add_layer.Tie as tie
 

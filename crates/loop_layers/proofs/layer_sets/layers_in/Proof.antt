@@ -9,10 +9,10 @@ use lib.ListN.{length}
 use Rattle.sets.specs.Sets.{added}
 use Rattle.descriptors.specs.declared.looking.Named.{Named}
 use Rattle.closure.specs.declared.Layers.{Layers}
-use Rattle.es_loop.specs.declared.entries.Entry.{Entry}
-use Rattle.es_loop.specs.declared.entries.Stream.{Stream}
-use Rattle.es_loop.specs.Entries.{entryOf}
-use Rattle.es_loop.specs.Conditions.{slotOf}
+use Rattle.loop_entries.specs.declared.Entry.{Entry}
+use Rattle.loop_entries.specs.declared.Stream.{Stream}
+use Rattle.loop_entries.specs.Entries.{entryOf}
+use Rattle.loop_faults.specs.Conditions.{slotOf}
 use Rattle.loop_layers.specs.Layers.{layersOf, putAt}
 use Rattle.loop_layers.proofs.Walked.{Standing, standing-first, leftFrom, streamFrom, type-there, turn, none-left, layersWith, layers-next}
 use Rattle.loop_layers.proofs.layer_sets.layers_in.Statement.{statement}

@@ -4,7 +4,7 @@ use mathlib.Core.Path.{_∙_, ap, sym}
 use borrow.Author.Needs.{needs}
 use Rattle.loop_layers.specs.declared.table.LayerTable.{LayerTable}
 use Rattle.es_loop.specs.declared.reader.Outcome.the-variants.{Accepted, Refused}
-use Rattle.es_loop.specs.Entries.{streamsOf}
+use Rattle.loop_entries.specs.Entries.{streamsOf}
 use Rattle.es_loop.specs.Reading.{answerBy}
 use Rattle.loop_layers.specs.Layers.{tableOf}
 use Rattle.loop_layers.specs.Closures.{tableIn}

@@ -7,8 +7,8 @@ use mathlib.Core.List.{List, []}
 use native.Mathlib.Omega.{arith}
 use lib.ListN.{length, take, drop, drop-of-length-le}
 use lib.Seq.{length-take-le}
-use Rattle.es_loop.specs.declared.entries.Entry.{Entry}
-use Rattle.descriptors.specs.declared.«record».Record.the-variants.{NoRecord}
+use Rattle.loop_entries.specs.declared.Entry.{Entry}
+use Rattle.records.specs.declared.Record.the-variants.{NoRecord}
 use Rattle.loop_layers.specs.declared.table.LayerTable.{LayerTable}
 use Rattle.loop_layers.specs.Layers.{tableOf}
 use Rattle.loop_layers.proofs.Walked.{tableWith}

@@ -6,7 +6,7 @@ use mathlib.Core.Path.{_∙_, ap}
 use mathlib.Core.List.{[], _∷_}
 use native.Mathlib.Omega.{arith}
 use Rattle.syntax.specs.Table.{writeTable}
-use Rattle.es_loop.specs.Entries.{entryHead}
+use Rattle.loop_entries.specs.Entries.{entryHead}
 use Rattle.loop_writer.proofs.Entries.{record-fit, pid-small}
 use borrow.Author.Needs.{needs}
 use Rattle.loop_writer.proofs.entry.put_entry.Statement.{statement}

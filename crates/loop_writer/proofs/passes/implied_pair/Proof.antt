@@ -6,8 +6,8 @@ use mathlib.Core.List.{List, []}
 use native.Mathlib.Omega.{arith}
 use lib.ListN.{length, take, getD}
 use lib.Seq.{length-take-le, getD-take}
-use Rattle.descriptors.specs.declared.«record».Record.the-variants.{NoRecord}
-use Rattle.es_loop.specs.declared.entries.Entry.{Entry}
+use Rattle.records.specs.declared.Record.the-variants.{NoRecord}
+use Rattle.loop_entries.specs.declared.Entry.{Entry}
 use Rattle.loop_writer.proofs.Pairs.{Viewed, viewed-start, viewed-next, viewed-end}
 use borrow.Author.Needs.{needs}
 use Rattle.loop_writer.proofs.passes.implied_pair.Statement.{statement}

@@ -8,8 +8,8 @@ use native.Mathlib.Omega.{arith}
 use lib.ListN.{length, take, getD}
 use lib.Seq.{length-take-le, getD-take}
 use Rattle.combinators.specs.Lists.{any-none}
-use Rattle.descriptors.specs.declared.«record».Record.the-variants.{NoRecord}
-use Rattle.es_loop.specs.declared.entries.Entry.{Entry}
+use Rattle.records.specs.declared.Record.the-variants.{NoRecord}
+use Rattle.loop_entries.specs.declared.Entry.{Entry}
 use Rattle.loop_writer.specs.Layout.{tooWide}
 use Rattle.loop_writer.specs.Verdict.{givenTo}
 use Rattle.loop_writer.proofs.Weights.{Weighing, weighing-start, weighing-next, weighing-end}

@@ -1,7 +1,7 @@
 -- `nothing_weighed` meets its contract: no fault is that of no entry.
 -- Assumes nothing.
 use mathlib.Core.Path.{ap}
-use Rattle.es_loop.specs.declared.faults.Fault.{Fault}
+use Rattle.loop_faults.specs.declared.Fault.{Fault}
 use borrow.Author.Needs.{needs}
 use Rattle.loop_writer.proofs.weighing.nothing_weighed.Statement.{statement}
 use Rattle.loop_writer.proofs.weighing.nothing_weighed.Tie as tie

@@ -4,10 +4,10 @@ use Prim.Native.Nat.{ℕ, _+_, _<_}
 use mathlib.Core.Path.{_≡_, _∙_, ap, ap₂, subst}
 use mathlib.Core.Bool.{true}
 use lib.ListN.{set}
-use Rattle.descriptors.specs.Records.{indexOf}
-use Rattle.es_loop.specs.Conditions.{faultAt, slotOf, lowerOf}
-use Rattle.es_loop.specs.declared.faults.Fault.{Fault}
-use Rattle.es_loop.specs.declared.entries.Stream.{Stream}
+use Rattle.records.specs.Records.{indexOf}
+use Rattle.loop_faults.specs.Conditions.{faultAt, slotOf, lowerOf}
+use Rattle.loop_faults.specs.declared.Fault.{Fault}
+use Rattle.loop_entries.specs.declared.Stream.{Stream}
 use Rattle.loop_writer.proofs.Entries.{pid-small}
 use native.Mathlib.Omega.{arith}
 use borrow.Author.Needs.{needs}

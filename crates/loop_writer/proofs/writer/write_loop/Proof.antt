@@ -7,7 +7,7 @@ use native.Mathlib.Omega.{arith}
 use lib.ListN.{length, take}
 use Rattle.combinators.specs.Lists.{any, take-within}
 use Rattle.buffers.specs.Buffers.{Laid}
-use Rattle.es_loop.specs.declared.entries.Entry.{Entry}
+use Rattle.loop_entries.specs.declared.Entry.{Entry}
 use Rattle.loop_writer.specs.Layout.{loopBytes, tooWide}
 use Rattle.loop_writer.specs.Weighing.{Weighs}
 use Rattle.loop_writer.proofs.Answers.{some-wide, too-many, decided-refused, decided-written}

@@ -2,8 +2,8 @@
 -- Assumes nothing.
 use mathlib.Core.Path.{_∙_, ap, ap₂}
 use Rattle.combinators.specs.Lists.{part-to-end}
-use Rattle.es_loop.specs.declared.entries.Entry.{Entry}
-use Rattle.es_loop.specs.Entries.{entryOf}
+use Rattle.loop_entries.specs.declared.Entry.{Entry}
+use Rattle.loop_entries.specs.Entries.{entryOf}
 use Rattle.mvc_descriptors.specs.declared.Found.{Found}
 use Rattle.mvc_descriptors.specs.Finding.{extensionIn}
 use borrow.Author.Needs.{needs}

@@ -3,7 +3,7 @@
 use mathlib.Core.Path.{ap}
 use mathlib.Core.List.{List}
 use Rattle.vocabulary.specs.declared.LayerIndex.{LayerIndex}
-use Rattle.descriptors.specs.declared.«record».Record.the-variants.{NoRecord}
+use Rattle.records.specs.declared.Record.the-variants.{NoRecord}
 use borrow.Author.Needs.{needs}
 use Rattle.stereo_set.proofs.views.blank_entry.Statement.{statement}
 use Rattle.stereo_set.proofs.views.blank_entry.Tie as tie

@@ -1,7 +1,7 @@
 -- `no_view` meets its contract.
 -- Assumes nothing.
 use mathlib.Core.Path.{ap}
-use Rattle.es_loop.specs.declared.entries.Entry.{Entry}
+use Rattle.loop_entries.specs.declared.Entry.{Entry}
 use Rattle.mvc_descriptors.specs.declared.Found.the-variants.{Missing}
 use borrow.Author.Needs.{needs}
 use Rattle.stereo_set.proofs.views.no_view.Statement.{statement}

@@ -6,7 +6,7 @@ use mathlib.Core.List.{[]}
 use Rattle.combinators.specs.Lists.{gather}
 use Rattle.syntax.specs.Table.{fits}
 use Rattle.syntax.specs.Filled.{bytesIn}
-use Rattle.descriptors.specs.Records.{isSecondView}
+use Rattle.records.specs.Records.{isSecondView}
 use Rattle.mvc_extension.specs.declared.MvcExtension.{MvcExtension}
 use Rattle.mvc_extension.specs.MvcExtension.{mvcExtensionDescriptor, mvcExtensionFields}
 use Rattle.mvc_descriptors.specs.Tables.{mvcExtensionTables}

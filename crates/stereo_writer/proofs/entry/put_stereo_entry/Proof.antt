@@ -9,9 +9,9 @@ use lib.ListN.{length, length-append}
 use Rattle.combinators.specs.Lists.{gather}
 use Rattle.syntax.specs.Table.{writeTable}
 use Rattle.syntax.specs.Filled.{bytesIn}
-use Rattle.descriptors.specs.Records.{recordTables}
-use Rattle.es_loop.specs.declared.entries.Entry.{Entry}
-use Rattle.es_loop.specs.Entries.{entryHead}
+use Rattle.records.specs.Records.{recordTables}
+use Rattle.loop_entries.specs.declared.Entry.{Entry}
+use Rattle.loop_entries.specs.Entries.{entryHead}
 use Rattle.loop_writer.proofs.Entries.{record-fit, pid-small}
 use Rattle.buffers.proofs.Laws.{laid-then, laid-as}
 use Rattle.stereo_writer.specs.Layout.{isPart, extraSize, extraTables, stereoInfo}

@@ -7,7 +7,7 @@ use native.Mathlib.Omega.{arith}
 use borrow.Author.Needs.{needs}
 use lib.ListN.{length, take, length-take, length-drop}
 use lib.Seq.{take-all}
-use Rattle.es_loop.specs.declared.entries.Entry.{Entry}
+use Rattle.loop_entries.specs.declared.Entry.{Entry}
 use Rattle.entry_rows.specs.Rows.{rowTooWide, rowCount, entryIn, entriesBelow}
 use Rattle.entry_rows.proofs.Judged.{row-part, length-entries}
 use Rattle.entry_rows.proofs.Given.{entry-at, row-fine}

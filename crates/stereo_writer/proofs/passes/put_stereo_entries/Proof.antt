@@ -7,7 +7,7 @@ use native.Mathlib.Omega.{arith}
 use borrow.Author.Needs.{needs}
 use lib.ListN.{length, take, length-take, length-drop}
 use lib.Seq.{take-all}
-use Rattle.es_loop.specs.Entries.{blankEntry}
+use Rattle.loop_entries.specs.Entries.{blankEntry}
 use Rattle.buffers.specs.Buffers.{Laid}
 use Rattle.buffers.proofs.Laws.{laid-nothing, laid-as, laid-length}
 use Rattle.buffers.proofs.Pieces.{pieces-next}

@@ -2,7 +2,7 @@
 -- Assumes nothing.
 use mathlib.Core.Path.{_≡_, _∙_, ap, sym}
 use mathlib.Core.List.{List, map}
-use Rattle.es_loop.specs.declared.entries.Entry.{Entry}
+use Rattle.loop_entries.specs.declared.Entry.{Entry}
 use Rattle.entry_rows.specs.Rows.{rowCount, entriesBelow}
 use Rattle.stereo_set.specs.declared.set.StereoRead.{StereoRead}
 use Rattle.stereo_set.specs.Set.{setBy}

@@ -5,7 +5,7 @@ use mathlib.Core.Path.{_≡_, _∙_, ap, sym}
 use mathlib.Core.List.{List}
 use native.Mathlib.Omega.{arith}
 use lib.ListN.{length}
-use Rattle.es_loop.specs.declared.entries.Entry.{Entry}
+use Rattle.loop_entries.specs.declared.Entry.{Entry}
 use Rattle.entry_rows.specs.Rows.{rowCount, entriesBelow}
 use Rattle.entry_rows.proofs.Judged.{length-entries}
 use Rattle.loop_writer.specs.Layout.{loopBytes}

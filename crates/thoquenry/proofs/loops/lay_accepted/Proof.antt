@@ -4,9 +4,9 @@ use Prim.Native.Nat.{ℕ, _*_, _≤_, _<_}
 use mathlib.Core.Path.{_≡_, sym, _∙_, ap}
 use mathlib.Core.List.{List, map}
 use lib.ListN.{length, length-map}
-use Rattle.es_loop.specs.declared.entries.Entry.{Entry}
+use Rattle.loop_entries.specs.declared.Entry.{Entry}
 use Rattle.es_loop.specs.declared.verdict.Verdict.the-variants.{Entries}
-use Rattle.es_loop.specs.Entries.{streamsOf, entryOf}
+use Rattle.loop_entries.specs.Entries.{streamsOf, entryOf}
 use Rattle.thoquenry.proofs.Replies.{answers, buffers, counted, few-counted, no-room-for-rows, room-for-rows}
 use native.Mathlib.Omega.{arith}
 use borrow.Author.Needs.{needs}

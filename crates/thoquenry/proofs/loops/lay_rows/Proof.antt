@@ -2,7 +2,7 @@
 -- Assumes nothing.
 use mathlib.Core.Path.{sym, _∙_, ap}
 use Rattle.es_loop.specs.declared.verdict.Verdict.{Verdict}
-use Rattle.es_loop.specs.Entries.{streamsOf}
+use Rattle.loop_entries.specs.Entries.{streamsOf}
 use Rattle.es_loop.specs.Reading.{answerBy}
 use Rattle.thoquenry.specs.Loops.{rowsRead}
 use Rattle.thoquenry.proofs.Replies.{answers, buffers, counted, laid-accepted}

@@ -4,7 +4,7 @@ use mathlib.Core.Path.{_≡_, _∙_, ap, ap₂, sym}
 use mathlib.Core.List.{List}
 use native.Mathlib.Omega.{arith}
 use lib.ListN.{length}
-use Rattle.es_loop.specs.declared.entries.Entry.{Entry}
+use Rattle.loop_entries.specs.declared.Entry.{Entry}
 use Rattle.mvc_extension.specs.declared.MvcExtension.{MvcExtension}
 use Rattle.syntax.specs.Table.{fits}
 use Rattle.mvc_extension.specs.MvcExtension.{mvcExtensionDescriptor, mvcExtensionFields}

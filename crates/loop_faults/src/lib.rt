@@ -1,0 +1,151 @@
+// The faults of an entry: the lowest number that applies at it, and the lowest of all entries so far. A loop is read and written by one step, which judges
+// an entry more.
+ghost use mathlib.Core.Path.{_≡_};
+ghost use mathlib.Core.Bool.{true, false};
+ghost use Prim.Native.Nat.{_+_, _<_};
+ghost use lib.ListN.{replicate, set};
+ghost use Rattle.combinators.specs.Lists.{firstTrue};
+ghost use Rattle.records.specs.Records.{indexOf};
+ghost use Rattle.loop_faults.specs.Conditions.{conditions, recordConditions, lowerOf, refusalOf, slotOf, faultAt};
+use descriptors::Record;
+use descriptors::Seen;
+use loop_entries::Stream;
+use loop_entries::wide;
+use vocabulary::Refusal;
+
+// Past all numbers that are judged at an entry.
+pub const NO_FAULT: u8 = 10;
+
+// A number that applies, and the entry at which it does.
+pub struct Fault {
+    pub number: u8,
+    pub place: usize,
+}
+
+// The lowest number, from 2 to 9, that applies at an entry, or 10 where none does. The caller says whether it is given the implied mark,
+// whether an earlier entry has its PID, and whether an earlier layer holds its index.
+pub fn lowest_fault(given: bool, pid_seen: bool, index_held: bool, stream: Stream) -> u8
+    ensures { λ r. ⌜ r ≡ firstTrue (conditions given «pid_seen» «index_held» stream) ⌝ }
+{
+    let seen = stream.seen;
+    if !stream.fits {
+        return 2;
+    }
+    if pid_seen {
+        return 3;
+    }
+    if seen.wrong_length {
+        return 4;
+    }
+    if seen.second_record {
+        return 5;
+    }
+    judged_fault(given, index_held, stream.stream_type, seen)
+}
+
+// The same of what is judged on the record alone, and of its index: 6 to 9.
+fn judged_fault(given: bool, index_held: bool, stream_type: u8, seen: Seen) -> u8
+    ensures { λ r. ⌜ r ≡ 6 + firstTrue (recordConditions given «index_held» «stream_type» seen) ⌝ }
+{
+    let record = seen.record;
+    let embedded = seen.embedded;
+    if judging::type_not_allowed(given, stream_type, record) {
+        return 6;
+    }
+    if judging::wrong_flags(record) {
+        return 7;
+    }
+    if index_held {
+        return 8;
+    }
+    if judging::wrong_embedded(record, embedded) {
+        return 9;
+    }
+    NO_FAULT
+}
+
+// Where the mark of a record's index stands: at the index, and past all of them for a stream that is no layer.
+pub fn slot_of(stream_type: u8, record: Record) -> usize
+    ensures { λ r. ⌜ (r ≡ slotOf «stream_type» «record») × (indexOf «stream_type» «record» < 256) ⌝ }
+{
+    let index = descriptors::layer_index(stream_type, record);
+    if descriptors::is_layer(record) {
+        return wide(index.0);
+    }
+    256
+}
+
+// The lower of two faults, the earlier where their numbers are the same.
+pub fn lower(so_far: Fault, number: u8, place: usize) -> Fault
+    ensures { λ r. ⌜ r ≡ lowerOf «so_far» number place ⌝ }
+{
+    if number < so_far.number {
+        return Fault { number, place };
+    }
+    so_far
+}
+
+// A fault as a refusal.
+pub fn refusal_of(number: u8, place: usize) -> Refusal
+    ensures { λ r. ⌜ r ≡ refusalOf number place ⌝ }
+{
+    match number {
+        2 => Refusal::DoesNotFit(place),
+        3 => Refusal::RepeatedPid(place),
+        4 => Refusal::WrongLength(place),
+        5 => Refusal::SecondRecord(place),
+        6 => Refusal::TypeNotAllowed(place),
+        7 => Refusal::WrongFlags(place),
+        8 => Refusal::RepeatedLayerIndex(place),
+        9 => Refusal::WrongEmbeddedIndex(place),
+        _ => Refusal::LoopTooLong,
+    }
+}
+
+// A mark for each of the 8,192 PIDs, none set.
+pub fn no_pids() -> [bool; 8192]
+    ensures { λ r. ⌜ r ≡ replicate 8192 false ⌝ }
+{
+    [false; 8192]
+}
+
+// A mark for each value of an index's byte, and one for streams that are no layer, none set.
+pub fn no_indices() -> [bool; 257]
+    ensures { λ r. ⌜ r ≡ replicate 257 false ⌝ }
+{
+    [false; 257]
+}
+
+// Before any stream: a number past all that are judged.
+pub fn no_fault() -> Fault
+    ensures { λ r. ⌜ r ≡ record { number = 10; place = 0 } ⌝ }
+{
+    Fault {
+        number: NO_FAULT,
+        place: 0,
+    }
+}
+
+// One stream more, and whether it is given the implied mark: the lowest fault so far or this stream's, and the marks with its PID and its layer index.
+pub fn judge_next(
+    pids: &mut [bool; 8192],
+    indices: &mut [bool; 257],
+    so_far: Fault,
+    given: bool,
+    stream: Stream,
+    place: usize,
+) -> Fault
+    requires { ⌜ stream .pid < 8192 ⌝ }
+    ensures { λ r. ⌜ (r ≡ lowerOf «so_far» (faultAt given (now (pids .entry)) (now (indices .entry)) stream) place) × (indexOf (stream .«stream_type») (stream .seen .«record») < 256) ⌝ }
+    ensures { λ r. ⌜ (now (pids .exit) ≡ set (now (pids .entry)) (stream .pid) true) × (now (indices .exit) ≡ set (now (indices .entry)) (slotOf (stream .«stream_type») (stream .seen .«record»)) true) ⌝ }
+{
+    let seen = stream.seen;
+    let record = seen.record;
+    let pid = stream.pid as usize;
+    let slot = slot_of(stream.stream_type, record);
+    let index_held = descriptors::is_layer(record) & indices[slot];
+    let number = lowest_fault(given, pids[pid], index_held, stream);
+    pids[pid] = true;
+    indices[slot] = true;
+    lower(so_far, number, place)
+}
