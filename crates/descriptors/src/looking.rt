@@ -66,7 +66,7 @@ pub fn nothing_seen() -> Seen
     }
 }
 
-fn nothing_found() -> Found
+pub fn nothing_found() -> Found
     ensures { λ r. ⌜ r ≡ nothingFound ⌝ }
 {
     Found {
@@ -172,7 +172,7 @@ fn with_look(found: Found, look: Look, end: usize) -> Found
 }
 
 // Every descriptor of a stream that the reading knows.
-fn find_records(reading: Reading, info: &[u8]) -> Found
+pub fn find_records(reading: Reading, info: &[u8]) -> Found
     ensures { λ r. ⌜ (seenBy (now (info .entry)) r ≡ seenOf reading (now (info .entry))) × Within (now (info .entry)) (r .«record») (r .end) ⌝ }
 {
     let mut found = nothing_found();

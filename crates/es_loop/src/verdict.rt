@@ -7,13 +7,13 @@ ghost use Rattle.loop_entries.specs.Entries.{pairOf, streamsAlone, streamsOf};
 ghost use Rattle.es_loop.specs.Reading.{judged, verdictOf};
 use loop_entries::MOST_BYTES;
 use loop_entries::entry_size;
-use loop_entries::read_stream;
 use loop_faults::NO_FAULT;
 use loop_faults::judge_next;
 use loop_faults::no_fault;
 use loop_faults::no_indices;
 use loop_faults::no_pids;
 use loop_faults::refusal_of;
+use loop_outlines::read_outline;
 use loop_views::implied_pair;
 use vocabulary::Reading;
 use vocabulary::Refusal;
@@ -40,12 +40,12 @@ fn judge_entries(reading: Reading, pair: bool, bytes: &[u8]) -> Verdict
         if left.len() < size {
             return Verdict::Refused(Refusal::DoesNotFit(count));
         }
-        let stream = read_stream(reading, pair, &left[..size]);
-        if !stream.fits {
+        let outline = read_outline(reading, pair, &left[..size]);
+        if !outline.fits {
             return Verdict::Refused(Refusal::DoesNotFit(count));
         }
-        let given = implied::gives(pair, stream.stream_type);
-        fault = judge_next(&mut pids, &mut indices, fault, given, stream, count);
+        let given = implied::gives(pair, outline.stream_type);
+        fault = judge_next(&mut pids, &mut indices, fault, given, outline, count);
         count += 1;
         at += size;
     }

@@ -1,6 +1,6 @@
 -- What the two loops over an extension's list know after each turn.
 -- Assumes nothing.
-use Prim.Native.Nat.{ℕ, suc, _+_, _≤_, _<_, min}
+use Prim.Native.Nat.{ℕ, suc, _+_, _%_, _≤_, _<_, min}
 use mathlib.Core.Path.{_≡_, refl, sym, _∙_, ap}
 use mathlib.Core.Bool.{Bool, true, false, _||_, or-true, or-false}
 use mathlib.Core.List.{List, [], _∷_, map, map-append}
@@ -15,7 +15,8 @@ use Rattle.combinators.specs.Bools.{either-left, either-right}
 use Rattle.combinators.specs.Below.{some, some-at}
 use Rattle.combinators.specs.Members.{member, member-last}
 use Rattle.vocabulary.specs.declared.LayerIndex.{LayerIndex}
-use Rattle.extension.specs.Extension.{noLayer}
+use Rattle.extension.specs.Extension.{noLayer, layerIndexOf, layersOf}
+use Rattle.extension.proofs.Bytes.{layer-byte}
 use Rattle.records.specs.Records.{plain, withIndices}
 use Rattle.judging.specs.Judging.{wrongAt, wrongList}
 use Rattle.records.proofs.Naming.{indices-last}
@@ -28,6 +29,15 @@ module _ (embedded : List LayerIndex) (count : ℕ) (room : count ≤ length emb
 
   pub count-at : (i : ℕ) → i < count → getD (map plain (take count embedded)) i 0 ≡ plain (getD embedded i noLayer)
   count-at i h = List·getD-map plain (take count embedded) i noLayer ∙ ap plain (getD-take count embedded i noLayer h)
+
+-- The same of the bytes of a list.
+pub bytes-length : (list : List ℕ) → length (map plain (layersOf list)) ≡ length list
+bytes-length list = length-map (layersOf list) plain ∙ length-map list layerIndexOf
+
+pub bytes-at : (list : List ℕ) (i : ℕ) → getD (map plain (layersOf list)) i 0 ≡ getD list i 0 % 64
+bytes-at list i =
+    List·getD-map plain (layersOf list) i noLayer
+    ∙ ap plain (List·getD-map layerIndexOf list i 0 ∙ sym (layer-byte (getD list i 0)))
 
 -- THE JUDGING. Of the indices passed none is wrong, and the marks are those of the indices passed.
 pub record Passed (own : ℕ) (indices : List ℕ) (marks : List Bool) (i : ℕ) : Type 0 where

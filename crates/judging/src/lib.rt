@@ -10,6 +10,7 @@ ghost use mathlib.Core.List.{map};
 ghost use Prim.Native.Nat.{_≤_, _<_};
 ghost use lib.ListN.{take, replicate};
 ghost use Rattle.combinators.specs.Members.{member};
+ghost use Rattle.extension.specs.Extension.{layersOf};
 ghost use Rattle.records.specs.Records.{plain, hierarchyList};
 ghost use Rattle.judging.specs.Judging.{extensionOn, typeNotAllowed, at0, flagsAt0, flagsWrongFor, wrongFlags, wrongList, TellsEmbedded};
 use descriptors::HierarchyRecord;
@@ -112,7 +113,27 @@ fn wrong_list(own: LayerIndex, count: usize, embedded: [LayerIndex; 63]) -> bool
     false
 }
 
-fn wrong_hierarchy_index(hierarchy: HierarchyRecord) -> bool
+// The same of the bytes of an extension's list, where it stands in a descriptor.
+pub fn wrong_listed(own: LayerIndex, list: &[u8]) -> bool
+    ensures { λ r. ⌜ r ≡ wrongList (plain own) (map plain (layersOf (now (list .entry)))) ⌝ }
+{
+    let mut marks = no_marks();
+    let mut i = 0;
+    while i < list.len() {
+        let index = mark_of(LayerIndex(list[i] % 64));
+        if mark_of(own) <= index {
+            return true;
+        }
+        if marks[index] {
+            return true;
+        }
+        marks[index] = true;
+        i += 1;
+    }
+    false
+}
+
+pub fn wrong_hierarchy_index(hierarchy: HierarchyRecord) -> bool
     ensures { λ r. ⌜ r ≡ wrongList (plain (hierarchy .«layer_index»)) (map plain (hierarchyList hierarchy)) ⌝ }
 {
     if descriptors::is_base(hierarchy) {

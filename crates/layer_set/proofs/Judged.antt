@@ -22,8 +22,10 @@ use Rattle.judging.specs.Judging.{typeNotAllowed, wrongFlags, wrongEmbedded}
 use Rattle.judging.specs.Meaning.{hasDescriptor}
 use Rattle.sets.specs.Sets.{has}
 use Rattle.loop_entries.specs.declared.Entry.{Entry}
-use Rattle.loop_entries.specs.declared.Stream.{Stream}
+use Rattle.loop_outlines.specs.declared.Outline.{Outline}
+use Rattle.loop_outlines.specs.Outlines.{outlineOf}
 use Rattle.loop_faults.specs.Conditions.{conditions, slotOf}
+use Rattle.loop_faults.specs.Outlined.{tests as outlineTests}
 use Rattle.loop_writer.specs.Layout.{tooWide}
 use Rattle.loop_writer.specs.Verdict.{streamFor}
 use Rattle.loop_writer.proofs.Entries.{record-fit}
@@ -31,12 +33,12 @@ use Rattle.loop_layers.specs.Layers.{placeOf}
 use Rattle.layer_set.specs.Sets.{pidHeld, faultOf}
 
 -- the number that the code finds
-pub fault-parts : (present : ℕ) (entries : List Entry) (e : Entry) (layer held there : Bool) (index : ℕ) (stream : Stream) (number : ℕ)
-    → layer ≡ isLayer (e .«record») → held ≡ pidHeld present entries (e .pid) → index ≡ placeOf e → there ≡ has present index → stream ≡ streamFor e
-    → number ≡ firstTrue (conditions (not layer) held there stream) → number ≡ faultOf present entries e
-fault-parts present entries e layer held there index stream number is-layer is-held is-index is-there is-stream is-number =
+pub fault-parts : (present : ℕ) (entries : List Entry) (e : Entry) (layer held there : Bool) (index : ℕ) (outline : Outline) (number : ℕ)
+    → layer ≡ isLayer (e .«record») → held ≡ pidHeld present entries (e .pid) → index ≡ placeOf e → there ≡ has present index → outline ≡ outlineOf (streamFor e)
+    → number ≡ firstTrue (outlineTests (not layer) held there outline) → number ≡ faultOf present entries e
+fault-parts present entries e layer held there index outline number is-layer is-held is-index is-there is-outline is-number =
     is-number
-    ∙ ap (λ (s : Stream). firstTrue (conditions (not layer) held there s)) is-stream
+    ∙ ap (λ (o : Outline). firstTrue (outlineTests (not layer) held there o)) is-outline
     ∙ ap (λ (b : Bool). firstTrue (conditions (not b) held there (streamFor e))) is-layer
     ∙ ap (λ (b : Bool). firstTrue (conditions (not (isLayer (e .«record»))) b there (streamFor e))) is-held
     ∙ ap (λ (b : Bool). firstTrue (conditions (not (isLayer (e .«record»))) (pidHeld present entries (e .pid)) b (streamFor e))) (is-there ∙ ap (has present) is-index)

@@ -54,7 +54,7 @@ fn fault_of(present: u64, entries: [Entry; 64], entry: Entry) -> u8
         !descriptors::is_layer(record),
         held,
         sets::member(present, index),
-        loop_writer::stream_for(entry),
+        loop_writer::outline_for(entry),
     )
 }
 

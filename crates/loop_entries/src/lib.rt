@@ -72,7 +72,7 @@ fn look_into(reading: Reading, stream_type: u8, info: &[u8]) -> Seen
     descriptors::nothing_seen()
 }
 
-fn elementary_pid(high: u8, low: u8) -> u16
+pub fn elementary_pid(high: u8, low: u8) -> u16
     ensures { λ r. ⌜ r ≡ high % 32 * 256 + low ⌝ }
 {
     (high as u16) % 32 * 256 + (low as u16)

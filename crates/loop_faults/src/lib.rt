@@ -6,11 +6,11 @@ ghost use Prim.Native.Nat.{_+_, _<_};
 ghost use lib.ListN.{replicate, set};
 ghost use Rattle.combinators.specs.Lists.{firstTrue};
 ghost use Rattle.records.specs.Records.{indexOf};
-ghost use Rattle.loop_faults.specs.Conditions.{conditions, recordConditions, lowerOf, refusalOf, slotOf, faultAt};
+ghost use Rattle.loop_faults.specs.Conditions.{lowerOf, refusalOf, slotOf};
+ghost use Rattle.loop_faults.specs.Outlined.{recordTests, tests, faultOn};
 use descriptors::Record;
-use descriptors::Seen;
-use loop_entries::Stream;
 use loop_entries::wide;
+use loop_outlines::Outline;
 use vocabulary::Refusal;
 
 // Past all numbers that are judged at an entry.
@@ -24,32 +24,30 @@ pub struct Fault {
 
 // The lowest number, from 2 to 9, that applies at an entry, or 10 where none does. The caller says whether it is given the implied mark,
 // whether an earlier entry has its PID, and whether an earlier layer holds its index.
-pub fn lowest_fault(given: bool, pid_seen: bool, index_held: bool, stream: Stream) -> u8
-    ensures { λ r. ⌜ r ≡ firstTrue (conditions given «pid_seen» «index_held» stream) ⌝ }
+pub fn lowest_fault(given: bool, pid_seen: bool, index_held: bool, outline: Outline) -> u8
+    ensures { λ r. ⌜ r ≡ firstTrue (tests given «pid_seen» «index_held» outline) ⌝ }
 {
-    let seen = stream.seen;
-    if !stream.fits {
+    if !outline.fits {
         return 2;
     }
     if pid_seen {
         return 3;
     }
-    if seen.wrong_length {
+    if outline.wrong_length {
         return 4;
     }
-    if seen.second_record {
+    if outline.second_record {
         return 5;
     }
-    judged_fault(given, index_held, stream.stream_type, seen)
+    judged_fault(given, index_held, outline)
 }
 
 // The same of what is judged on the record alone, and of its index: 6 to 9.
-fn judged_fault(given: bool, index_held: bool, stream_type: u8, seen: Seen) -> u8
-    ensures { λ r. ⌜ r ≡ 6 + firstTrue (recordConditions given «index_held» «stream_type» seen) ⌝ }
+fn judged_fault(given: bool, index_held: bool, outline: Outline) -> u8
+    ensures { λ r. ⌜ r ≡ 6 + firstTrue (recordTests given «index_held» outline) ⌝ }
 {
-    let record = seen.record;
-    let embedded = seen.embedded;
-    if judging::type_not_allowed(given, stream_type, record) {
+    let record = outline.record;
+    if judging::type_not_allowed(given, outline.stream_type, record) {
         return 6;
     }
     if judging::wrong_flags(record) {
@@ -58,7 +56,7 @@ fn judged_fault(given: bool, index_held: bool, stream_type: u8, seen: Seen) -> u
     if index_held {
         return 8;
     }
-    if judging::wrong_embedded(record, embedded) {
+    if outline.wrong_embedded {
         return 9;
     }
     NO_FAULT
@@ -132,19 +130,18 @@ pub fn judge_next(
     indices: &mut [bool; 257],
     so_far: Fault,
     given: bool,
-    stream: Stream,
+    outline: Outline,
     place: usize,
 ) -> Fault
-    requires { ⌜ stream .pid < 8192 ⌝ }
-    ensures { λ r. ⌜ (r ≡ lowerOf «so_far» (faultAt given (now (pids .entry)) (now (indices .entry)) stream) place) × (indexOf (stream .«stream_type») (stream .seen .«record») < 256) ⌝ }
-    ensures { λ r. ⌜ (now (pids .exit) ≡ set (now (pids .entry)) (stream .pid) true) × (now (indices .exit) ≡ set (now (indices .entry)) (slotOf (stream .«stream_type») (stream .seen .«record»)) true) ⌝ }
+    requires { ⌜ outline .pid < 8192 ⌝ }
+    ensures { λ r. ⌜ (r ≡ lowerOf «so_far» (faultOn given (now (pids .entry)) (now (indices .entry)) outline) place) × (indexOf (outline .«stream_type») (outline .«record») < 256) ⌝ }
+    ensures { λ r. ⌜ (now (pids .exit) ≡ set (now (pids .entry)) (outline .pid) true) × (now (indices .exit) ≡ set (now (indices .entry)) (slotOf (outline .«stream_type») (outline .«record»)) true) ⌝ }
 {
-    let seen = stream.seen;
-    let record = seen.record;
-    let pid = stream.pid as usize;
-    let slot = slot_of(stream.stream_type, record);
+    let record = outline.record;
+    let pid = outline.pid as usize;
+    let slot = slot_of(outline.stream_type, record);
     let index_held = descriptors::is_layer(record) & indices[slot];
-    let number = lowest_fault(given, pids[pid], index_held, stream);
+    let number = lowest_fault(given, pids[pid], index_held, outline);
     pids[pid] = true;
     indices[slot] = true;
     lower(so_far, number, place)

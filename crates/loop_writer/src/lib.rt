@@ -14,7 +14,7 @@ pub use entry::too_wide;
 pub use entry::view_of;
 pub use weighing::Weighed;
 pub use weighing::nothing_weighed;
-pub use weighing::stream_for;
+pub use weighing::outline_for;
 pub use weighing::weigh_next;
 pub use writer::Written;
 pub use writer::decide;

@@ -6,16 +6,16 @@ ghost use Prim.Native.Nat.{_+_, _*_, _≤_, _<_};
 ghost use lib.ListN.{set};
 ghost use Rattle.records.specs.Records.{indexOf};
 ghost use Rattle.loop_faults.specs.Conditions.{slotOf};
+ghost use Rattle.loop_outlines.specs.Outlines.{outlineOf};
 ghost use Rattle.loop_writer.specs.Layout.{tooWide};
 ghost use Rattle.loop_writer.specs.Verdict.{streamFor};
 ghost use Rattle.loop_writer.specs.Weighing.{nothingWeighed, weighedNext};
 use super::entry::entry_size;
-use descriptors::Seen;
 use es_loop::Entry;
 use es_loop::Fault;
-use es_loop::Stream;
 use es_loop::judge_next;
 use es_loop::no_fault;
+use loop_outlines::Outline;
 
 // Number 10 of the fault says that none applies.
 pub struct Weighed {
@@ -34,23 +34,19 @@ pub fn nothing_weighed() -> Weighed
 }
 
 // An entry as it is judged.
-pub fn stream_for(entry: Entry) -> Stream
-    ensures { λ r. ⌜ r ≡ streamFor entry ⌝ }
+pub fn outline_for(entry: Entry) -> Outline
+    ensures { λ r. ⌜ r ≡ outlineOf (streamFor entry) ⌝ }
 {
     let record = entry.record;
     let embedded = entry.embedded;
-    let seen = Seen {
-        fits: true,
-        wrong_length: false,
-        second_record: false,
-        record,
-        embedded,
-    };
-    Stream {
+    Outline {
         fits: true,
         stream_type: entry.stream_type,
         pid: entry.pid,
-        seen,
+        wrong_length: false,
+        second_record: false,
+        record,
+        wrong_embedded: judging::wrong_embedded(record, embedded),
     }
 }
 
@@ -68,6 +64,13 @@ pub fn weigh_next(
     ensures { λ r. ⌜ (now (pids .exit) ≡ set (now (pids .entry)) (entry .pid) true) × (now (indices .exit) ≡ set (now (indices .entry)) (slotOf (entry .«stream_type») (entry .«record»)) true) ⌝ }
 {
     let size = so_far.size + entry_size(entry);
-    let fault = judge_next(pids, indices, so_far.fault, given, stream_for(entry), place);
+    let fault = judge_next(
+        pids,
+        indices,
+        so_far.fault,
+        given,
+        outline_for(entry),
+        place,
+    );
     Weighed { size, fault }
 }

@@ -1,20 +1,24 @@
-// From a loop's bytes to rows: each entry's numbers are stored straight into the row that the caller lends, and no entry is kept.
+// From a loop's bytes to rows: each entry's numbers are stored straight into the row that the caller lends, and no entry is made.
 ghost use mathlib.Core.Path.{_≡_};
 ghost use mathlib.Core.List.{_++_, map};
 ghost use Prim.Native.Nat.{_*_, _≤_, min};
-ghost use lib.ListN.{length, take, replicate};
+ghost use lib.ListN.{length, take, drop, replicate};
 ghost use Rattle.combinators.specs.Padding.{padTo};
 ghost use Rattle.buffers.specs.Buffers.{over};
-ghost use Rattle.syntax.specs.Filled.{bitOf};
-ghost use Rattle.loop_entries.specs.Entries.{streamsOf, entryOf};
+ghost use Rattle.framing.specs.Pieces.{whole};
+ghost use Rattle.extension.specs.Extension.{noLayer, layersOf};
+ghost use Rattle.descriptors.specs.Finding.{listBefore, Within};
+ghost use Rattle.loop_entries.specs.Entries.{streamOf, markedStream, streamsOf, entryOf};
 ghost use Rattle.es_loop.specs.Reading.{verdictOf};
-ghost use Rattle.entry_rows.specs.Rows.{layerNumber, fieldlessHead, headOf, tailOf, rowOf, rowsOf};
+ghost use Rattle.entry_rows.specs.Rows.{layerNumber, tailOf, rowOf, rowsOf};
 use combinators::lesser;
-use descriptors::ExtensionRecord;
-use descriptors::HierarchyRecord;
 use descriptors::Record;
 use es_loop::Entry;
 use es_loop::Verdict;
+use loop_entries::elementary_pid;
+use loop_outlines::find_in;
+use row_heads::head_of;
+use row_heads::wide;
 use vocabulary::LayerIndex;
 use vocabulary::Reading;
 
@@ -23,106 +27,6 @@ const ROW: usize = 80;
 
 // Those before its embedded layers.
 const HEAD: usize = 16;
-
-fn wide(byte: u8) -> u16
-    ensures { λ r. ⌜ r ≡ byte ⌝ }
-{
-    byte as u16
-}
-
-fn bit(flag: bool) -> u16
-    ensures { λ r. ⌜ r ≡ bitOf flag ⌝ }
-{
-    if flag { 1 } else { 0 }
-}
-
-// The 16 numbers of a stream without a descriptor: it is no layer, or an implied one.
-fn fieldless_head(stream_type: u8, pid: u16, kind: u16) -> [u16; 16]
-    ensures { λ r. ⌜ r ≡ fieldlessHead «stream_type» pid kind ⌝ }
-{
-    [
-        wide(stream_type),
-        pid,
-        kind,
-        0,
-        0,
-        0,
-        0,
-        0,
-        0,
-        0,
-        0,
-        0,
-        0,
-        0,
-        0,
-        0,
-    ]
-}
-
-// Those of a stream with a hierarchy descriptor.
-fn head_with_hierarchy(stream_type: u8, pid: u16, hierarchy: HierarchyRecord) -> [u16; 16]
-    ensures { λ r. ⌜ r ≡ headOf «stream_type» pid (Record.Hierarchy hierarchy) ⌝ }
-{
-    [
-        wide(stream_type),
-        pid,
-        1,
-        bit(hierarchy.no_view),
-        bit(hierarchy.no_temporal),
-        bit(hierarchy.no_spatial),
-        bit(hierarchy.no_quality),
-        wide(hierarchy.hierarchy_type),
-        wide(hierarchy.layer_index.0),
-        bit(hierarchy.tref_present_flag),
-        wide(hierarchy.embedded_layer_index.0),
-        wide(hierarchy.channel.0),
-        0,
-        0,
-        0,
-        0,
-    ]
-}
-
-// Those of a stream with an extension.
-fn head_with_extension(stream_type: u8, pid: u16, extension: ExtensionRecord) -> [u16; 16]
-    ensures { λ r. ⌜ r ≡ headOf «stream_type» pid (Record.Extension extension) ⌝ }
-{
-    [
-        wide(stream_type),
-        pid,
-        2,
-        0,
-        0,
-        0,
-        0,
-        0,
-        wide(extension.layer_index.0),
-        bit(extension.tref_present_flag),
-        0,
-        wide(extension.channel.0),
-        extension.dimension_bits,
-        wide(extension.temporal_id.0),
-        wide(extension.nuh_layer_id.0),
-        wide(extension.num_embedded_layers),
-    ]
-}
-
-fn head_of(entry: Entry) -> [u16; 16]
-    ensures { λ r. ⌜ r ≡ headOf (entry .«stream_type») (entry .pid) (entry .«record») ⌝ }
-{
-    let record = entry.record;
-    match record {
-        Record::NoRecord => fieldless_head(entry.stream_type, entry.pid, 0),
-        Record::Hierarchy(hierarchy) => {
-            head_with_hierarchy(entry.stream_type, entry.pid, hierarchy)
-        }
-        Record::Extension(extension) => {
-            head_with_extension(entry.stream_type, entry.pid, extension)
-        }
-        Record::Implied => fieldless_head(entry.stream_type, entry.pid, 3),
-    }
-}
 
 // The head, with what follows it left as it is.
 fn lay_head(row: &mut [u16], head: [u16; HEAD])
@@ -177,15 +81,61 @@ fn lay_tail(row: &mut [u16], record: Record, embedded: [LayerIndex; 63])
     }
 }
 
+// The row of an entry that a caller has.
 pub fn lay_row(row: &mut [u16], entry: Entry)
     requires { ⌜ length (now row) ≡ 80 ⌝ }
     ensures { λ r. ⌜ now (row .exit) ≡ rowOf entry ⌝ }
 {
     let record = entry.record;
     let embedded = entry.embedded;
-    let head = head_of(entry);
+    let head = head_of(entry.stream_type, entry.pid, record);
     lay_head(row, head);
     lay_tail(row, record, embedded);
+}
+
+// After the head the layers of an extension's list, a byte each, and 0 after them.
+fn lay_listed(row: &mut [u16], list: &[u8])
+    requires { ⌜ (length (now row) ≡ 80) × (length (now list) ≤ 63) ⌝ }
+    ensures { λ r. ⌜ now (row .exit) ≡ take 16 (now (row .entry)) ++ padTo 64 0 (map layerNumber (layersOf (now (list .entry)))) ⌝ }
+{
+    clear_tail(row);
+    let mut i = 0;
+    while i < list.len() {
+        row[HEAD + i] = wide(list[i] % 64);
+        i += 1;
+    }
+}
+
+// The same of a record whose descriptor ends at `end`: an extension's list are its last bytes.
+fn lay_found(row: &mut [u16], record: Record, end: usize, info: &[u8])
+    requires { ⌜ (length (now row) ≡ 80) × Within (now info) «record» end ⌝ }
+    ensures { λ r. ⌜ now (row .exit) ≡ take 16 (now (row .entry)) ++ tailOf «record» (padTo 63 noLayer (listBefore (now (info .entry)) «record» end)) ⌝ }
+{
+    match record {
+        Record::NoRecord => clear_tail(row),
+        Record::Hierarchy(_) => clear_tail(row),
+        Record::Extension(extension) => {
+            let start = end - extension.num_embedded_layers as usize;
+            lay_listed(row, &info[start..end]);
+        }
+        Record::Implied => clear_tail(row),
+    }
+}
+
+// The row of a whole entry of a loop's bytes, with its mark where the loop has the two views. The embedded layers go from byte to number, and no list is
+// made of them.
+fn lay_entry(row: &mut [u16], reading: Reading, pair: bool, entry: &[u8])
+    requires { ⌜ (length (now row) ≡ 80) × (5 ≤ length (now entry)) ⌝ }
+    ensures { λ r. ⌜ now (row .exit) ≡ rowOf (entryOf (markedStream pair (streamOf reading (whole (take 5 (now (entry .entry))) (drop 5 (now (entry .entry))))))) ⌝ }
+{
+    let stream_type = entry[0];
+    let pid = elementary_pid(entry[1], entry[2]);
+    let info = &entry[5..];
+    let found = find_in(reading, stream_type, info);
+    let record = found.record;
+    let head = head_of(stream_type, pid, implied::mark(pair, stream_type, record));
+    lay_head(row, head);
+    lay_found(row, record, found.end, info);
 }
 
 // The rows of a loop that was judged and accepted, from the front of a buffer on that has room for them.
@@ -199,10 +149,9 @@ pub fn put_rows(reading: Reading, pair: bool, bytes: &[u8], out: &mut [u16])
     while at < bytes.len() {
         let left = &bytes[at..];
         let size = es_loop::entry_size(left);
-        let entry = es_loop::entry_of(es_loop::read_stream(reading, pair, &left[..size]));
         let start = count * ROW;
         let end = start + ROW;
-        lay_row(&mut out[start..end], entry);
+        lay_entry(&mut out[start..end], reading, pair, &left[..size]);
         count += 1;
         at += size;
     }

@@ -1,4 +1,4 @@
--- `taking::extension_too_wide` meets its contract: 16 bits always fit, and each other value is tested.
+-- `entry_rows::extension_too_wide` meets its contract: 16 bits always fit, and each other value is tested.
 -- Assumes nothing.
 use mathlib.Core.Bool.{and-true, and-assoc}
 use borrow.Author.Tests.{lt-ltb}

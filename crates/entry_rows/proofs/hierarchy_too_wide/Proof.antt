@@ -1,4 +1,4 @@
--- `taking::hierarchy_too_wide` meets its contract: each value of the table is tested.
+-- `entry_rows::hierarchy_too_wide` meets its contract: each value of the table is tested.
 -- Assumes nothing.
 use mathlib.Core.Bool.{and-true, and-assoc}
 use native.Mathlib.Omega.{arith}

@@ -1,4 +1,4 @@
--- `taking::list_too_wide` meets its contract. The invariant: none of the layers passed is too wide.
+-- `entry_rows::list_too_wide` meets its contract. The invariant: none of the layers passed is too wide.
 -- Assumes nothing.
 use Prim.Native.Nat.{_-_, _≤_}
 use mathlib.Core.Bool.{false, _||_}

@@ -1,4 +1,4 @@
--- `taking::row_too_wide` meets its contract: the tests in their order decide (Judged).
+-- `entry_rows::row_too_wide` meets its contract: the tests in their order decide (Judged).
 -- Assumes nothing.
 use mathlib.Core.Path.{_≡_, sym, _∙_, ap}
 use Rattle.entry_rows.proofs.Judged.{kind-wide, type-wide, pid-wide, hierarchy-decides, extension-decides, fieldless-fine}

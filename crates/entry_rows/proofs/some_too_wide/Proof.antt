@@ -1,4 +1,4 @@
--- `taking::some_too_wide` meets its contract. The invariant: none of the rows passed has a value that is too wide.
+-- `entry_rows::some_too_wide` meets its contract. The invariant: none of the rows passed has a value that is too wide.
 -- Assumes nothing.
 use Prim.Native.Nat.{ℕ, _-_, _≤_}
 use mathlib.Core.Path.{_≡_, refl, sym, _∙_, ap, ap₂}

@@ -1,4 +1,4 @@
--- `loop_faults::judge_next` meets its contract: the marks are read and set at the stream's PID and at its record's slot.
+-- `loop_faults::judge_next` meets its contract: the marks are read and set at the entry's PID and at its record's slot.
 -- Assumes nothing.
 use mathlib.Core.Path.{_≡_, refl, sym, _∙_, ap}
 use Prim.Native.Nat.{ℕ}
@@ -6,7 +6,8 @@ use mathlib.Core.Bool.{Bool, true, false, _&&_}
 use mathlib.Core.List.{List}
 use lib.ListN.{getD, set}
 use Rattle.combinators.specs.Lists.{firstTrue}
-use Rattle.loop_faults.specs.Conditions.{conditions, slotOf, lowerOf}
+use Rattle.loop_faults.specs.Conditions.{slotOf, lowerOf}
+use Rattle.loop_faults.specs.Outlined.{tests}
 use native.Mathlib.Omega.{arith}
 use Rattle.loop_faults.proofs.Marked.{slot-below}
 use borrow.Author.Needs.{needs}
@@ -24,8 +25,8 @@ is-layer-requires c κs = search needs
 
 element-copy-out-index-held : tie.Need-element-copy-out-index-held
 element-copy-out-index-held c =
-    let s = c .before .before .before .before .args .stream in
-    rw (c .before .slot-of .ensures .0) (slot-below (s .«stream_type») (s .seen .«record») (c .before .slot-of .ensures .1))
+    let s = c .before .before .before .args .outline in
+    rw (c .before .slot-of .ensures .0) (slot-below (s .«stream_type») (s .«record») (c .before .slot-of .ensures .1))
 
 element-copy-out-lowest-fault : tie.Need-element-copy-out-lowest-fault
 element-copy-out-lowest-fault c = search needs
@@ -38,22 +39,22 @@ element-write-pids c = search needs
 
 element-write-indices : tie.Need-element-write-indices
 element-write-indices c =
-    let s = c .before .before .before .before .before .before .before .args .stream in
-    rw (c .before .before .before .before .slot-of .ensures .0) (slot-below (s .«stream_type») (s .seen .«record») (c .before .before .before .before .slot-of .ensures .1))
+    let s = c .before .before .before .before .before .before .args .outline in
+    rw (c .before .before .before .before .slot-of .ensures .0) (slot-below (s .«stream_type») (s .«record») (c .before .before .before .before .slot-of .ensures .1))
 
 lower-requires : tie.Need-lower-requires
 lower-requires c κs = search needs
 
 returns : tie.Need-returns
 returns c =
-    let a = c .before .before .before .before .before .before .before .before .args in
+    let a = c .before .before .before .before .before .before .before .args in
     let slot = c .before .before .before .before .before .slot-of in
     let layer = c .before .before .before .before .is-layer in
     let pids : List Bool = a .pids .now in
     let indices : List Bool = a .indices .now in
     let number = c .before .lowest-fault .ensures
-    ∙ ap (λ (i : ℕ). firstTrue (conditions (a .given) (getD pids (a .stream .pid) false) (layer .result && getD indices i false) (a .stream))) (slot .ensures .0)
-    ∙ ap (λ (b : Bool). firstTrue (conditions (a .given) (getD pids (a .stream .pid) false) (b && getD indices (slotOf (a .stream .«stream_type») (a .stream .seen .«record»)) false) (a .stream))) (layer .ensures) in
+    ∙ ap (λ (i : ℕ). firstTrue (tests (a .given) (getD pids (a .outline .pid) false) (layer .result && getD indices i false) (a .outline))) (slot .ensures .0)
+    ∙ ap (λ (b : Bool). firstTrue (tests (a .given) (getD pids (a .outline .pid) false) (b && getD indices (slotOf (a .outline .«stream_type») (a .outline .«record»)) false) (a .outline))) (layer .ensures) in
     ((c .lower .ensures ∙ ap (λ (n : ℕ). lowerOf (a .so-far) n (a .place)) number, slot .ensures .1), (refl, ap (λ (i : ℕ). set indices i true) (slot .ensures .0)))
 
 pub judge-next-spec : {M : Type 1} → statement M

@@ -20,18 +20,11 @@ returns-2 c = rw (sym (c .before .before .before .type-not-allowed .ensures) ∙
 returns-3 : tie.Need-returns-3
 returns-3 c = rw (sym (c .before .before .before .before .type-not-allowed .ensures) ∙ c .before .before .before .if1 .left, sym (c .before .before .wrong-flags .ensures) ∙ c .before .if2 .left, c .if3 .taken)
 
-wrong-embedded-requires : tie.Need-wrong-embedded-requires
-wrong-embedded-requires c κs = search needs
-
 returns-4 : tie.Need-returns-4
-returns-4 c =
-    let t = c .before .before .before .before .before .before .before .before .args .stream-type in
-    rw (sym (c .before .before .before .before .before .before .type-not-allowed .ensures) ∙ c .before .before .before .before .before .if1 .left, sym (c .before .before .before .before .wrong-flags .ensures) ∙ c .before .before .before .if2 .left, c .before .before .if3 .left, sym (c .before .wrong-embedded .ensures t) ∙ c .if4 .taken)
+returns-4 c = rw (sym (c .before .before .before .before .before .type-not-allowed .ensures) ∙ c .before .before .before .before .if1 .left, sym (c .before .before .before .wrong-flags .ensures) ∙ c .before .before .if2 .left, c .before .if3 .left, c .if4 .taken)
 
 returns-5 : tie.Need-returns-5
-returns-5 c =
-    let t = c .before .before .before .before .before .before .before .before .args .stream-type in
-    rw (sym (c .before .before .before .before .before .before .type-not-allowed .ensures) ∙ c .before .before .before .before .before .if1 .left, sym (c .before .before .before .before .wrong-flags .ensures) ∙ c .before .before .before .if2 .left, c .before .before .if3 .left, sym (c .before .wrong-embedded .ensures t) ∙ c .if4 .left)
+returns-5 c = rw (sym (c .before .before .before .before .before .type-not-allowed .ensures) ∙ c .before .before .before .before .if1 .left, sym (c .before .before .before .wrong-flags .ensures) ∙ c .before .before .if2 .left, c .before .if3 .left, c .if4 .left)
 
 pub judged-fault-spec : {M : Type 1} → statement M
 judged-fault-spec =
@@ -42,6 +35,5 @@ judged-fault-spec =
     wrong-flags-requires
     returns-2
     returns-3
-    wrong-embedded-requires
     returns-4
     returns-5)

@@ -1,4 +1,4 @@
--- `laying::clear_tail` meets its contract. The invariant: the places passed hold 0.
+-- `row_laying::clear_tail` meets its contract. The invariant: the places passed hold 0.
 -- Assumes nothing.
 use Prim.Native.Nat.{ℕ, _-_, _≤_}
 use mathlib.Core.List.{List}

@@ -1,4 +1,4 @@
--- `laying::lay_head` meets its contract. The invariant: the numbers passed are stored.
+-- `row_laying::lay_head` meets its contract. The invariant: the numbers passed are stored.
 -- Assumes nothing.
 use Prim.Native.Nat.{ℕ, _-_, _≤_}
 use mathlib.Core.List.{List}

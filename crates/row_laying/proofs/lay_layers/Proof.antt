@@ -1,4 +1,4 @@
--- `laying::lay_layers` meets its contract. The invariant: the layers passed stand after the head, and 0 after them.
+-- `row_laying::lay_layers` meets its contract. The invariant: the layers passed stand after the head, and 0 after them.
 -- Assumes nothing.
 use Prim.Native.Nat.{ℕ, _-_, _≤_, min}
 use mathlib.Core.List.{List, _++_, map}

@@ -1,4 +1,4 @@
--- `laying::lay_row` meets its contract: the head, and after it the rest of the row.
+-- `row_laying::lay_row` meets its contract: the head, and after it the rest of the row.
 -- Assumes nothing.
 use Prim.Native.Nat.{ℕ}
 use mathlib.Core.Path.{_≡_, _∙_, ap}

@@ -1,4 +1,4 @@
--- `laying::lay_tail` meets its contract: only an extension counts embedded layers.
+-- `row_laying::lay_tail` meets its contract: only an extension counts embedded layers.
 -- Assumes nothing.
 use mathlib.Core.Path.{sym, _∙_, ap}
 use mathlib.Core.List.{_++_}

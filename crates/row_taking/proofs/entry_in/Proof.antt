@@ -1,4 +1,4 @@
--- `taking::entry_in` meets its contract: which kind of record the row has decides.
+-- `row_taking::entry_in` meets its contract: which kind of record the row has decides.
 -- Assumes nothing.
 use mathlib.Core.Path.{_≡_, sym, _∙_, ap}
 use lib.ListN.{getD, take, length-take, length-drop}

@@ -1,4 +1,4 @@
--- `taking::extension_in` meets its contract: each value is the one under its name, and the casts keep it, since it fits its field.
+-- `row_taking::extension_in` meets its contract: each value is the one under its name, and the casts keep it, since it fits its field.
 -- Assumes nothing.
 use Prim.Native.Nat.{_<_}
 use lib.ListN.{getD}

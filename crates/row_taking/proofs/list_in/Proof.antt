@@ -1,4 +1,4 @@
--- `taking::list_in` meets its contract. The invariant: the array holds the layers passed, and blanks.
+-- `row_taking::list_in` meets its contract. The invariant: the array holds the layers passed, and blanks.
 -- Assumes nothing.
 use Prim.Native.Nat.{ℕ, _-_, _≤_, _<_}
 use mathlib.Core.Path.{_≡_, refl, sym, _∙_, ap}

@@ -1,4 +1,4 @@
--- `taking::view_in` meets its contract: a row's first number is its type, and its third says whether it has a hierarchy descriptor.
+-- `row_taking::view_in` meets its contract: a row's first number is its type, and its third says whether it has a hierarchy descriptor.
 -- Assumes nothing.
 use mathlib.Core.Path.{_∙_, ap}
 use native.Mathlib.Omega.{arith}

@@ -1,4 +1,4 @@
--- `writing::pair_in` meets its contract. The invariant is what is known of the entries of the rows passed.
+-- `row_writer::pair_in` meets its contract. The invariant is what is known of the entries of the rows passed.
 -- Assumes nothing.
 use Prim.Native.Nat.{ℕ, _-_, _≤_}
 use mathlib.Core.Path.{_≡_, sym, _∙_, ap}

@@ -1,4 +1,4 @@
--- `writing::put_entries` meets its contract. The invariant: the entries of the rows passed are laid in.
+-- `row_writer::put_entries` meets its contract. The invariant: the entries of the rows passed are laid in.
 -- Assumes nothing.
 use Prim.Native.Nat.{ℕ, _-_, _≤_, _<_}
 use mathlib.Core.Path.{_≡_, refl, sym, _∙_, ap}

@@ -1,4 +1,4 @@
--- `writing::weigh_rows` meets its contract. The invariant is what is known of the entries weighed.
+-- `row_writer::weigh_rows` meets its contract. The invariant is what is known of the entries weighed.
 -- Assumes nothing.
 use Prim.Native.Nat.{ℕ, _-_, _≤_, _<_}
 use mathlib.Core.Path.{_≡_, refl, sym, _∙_, ap}

@@ -1,4 +1,4 @@
--- `writing::write_rows` meets its contract: each return follows from the tests on the way to it, as in the loop writer.
+-- `row_writer::write_rows` meets its contract: each return follows from the tests on the way to it, as in the loop writer.
 -- Assumes nothing.
 use Prim.Native.Nat.{_≤_}
 use mathlib.Core.Path.{sym, _∙_, subst}

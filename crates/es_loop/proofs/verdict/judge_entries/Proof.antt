@@ -1,17 +1,25 @@
 -- `es_loop::judge_entries` meets its contract. The invariant: where the walk stands, and what the judging pass knows of the entries so far. Each turn is
 -- one step of both, and the ways out are `does-not-fit`, `end-refused` and `end-accepted`.
 -- Assumes nothing.
-use Prim.Native.Nat.{ℕ, _-_, _≤_}
+use Prim.Native.Nat.{ℕ, _-_, _≤_, _<_}
 use borrow.Author.Needs.{needs}
 use native.Mathlib.Omega.{arith}
 use borrow.Author.Tests.{not-true, not-false}
-use mathlib.Core.Path.{_≡_, _∙_, ap, sym}
-use lib.ListN.{length}
+use mathlib.Core.Path.{_≡_, refl, _∙_, ap, sym, subst}
+use mathlib.Core.Bool.{true}
+use mathlib.Core.List.{List}
+use lib.ListN.{length, set, take, drop}
 use lib.Seq.{length-take-le}
 use Rattle.vocabulary.specs.declared.refusal.Refusal.{Refusal}
 use Rattle.loop_entries.specs.declared.Stream.{Stream}
 use Rattle.es_loop.specs.declared.verdict.Verdict.the-variants.{Refused as Refuses}
-use Rattle.loop_entries.specs.Entries.{streamsOf}
+use Rattle.framing.specs.Pieces.{whole}
+use Rattle.records.specs.Records.{indexOf}
+use Rattle.implied.specs.Rule.{given}
+use Rattle.loop_outlines.specs.declared.Outline.{Outline}
+use Rattle.loop_faults.specs.Conditions.{faultAt, slotOf, lowerOf}
+use Rattle.loop_faults.specs.Outlined.{faultOn}
+use Rattle.loop_entries.specs.Entries.{streamOf, markedStream, streamsOf}
 use Rattle.loop_faults.proofs.Passing.{Passed, passed-start, passed-next, stays-above}
 use Rattle.loop_entries.proofs.Front.{leftAt, left-long}
 use Rattle.es_loop.proofs.Walk.{Cursor, cursor-start, size-5, no-entry, stands-here, given-here, inside-here, pid-here, next-here, does-not-fit, end-refused, end-accepted}
@@ -67,8 +75,8 @@ returns c =
     does-not-fit (streamsOf (a .reading) bytes) (loop .fault .number) (loop .fault .place) (loop .count) (unfit .0) (unfit .1) (loop .inv .2)
     (loop .inv .1 .lowest)
 
-slice-aggregate-read-stream : tie.Need-slice-aggregate-read-stream Inv-loop μ-loop
-slice-aggregate-read-stream c =
+slice-aggregate-read-outline : tie.Need-slice-aggregate-read-outline Inv-loop μ-loop
+slice-aggregate-read-outline c =
     let a = c .before .before .before .before .before .before .before .before .before .before .args in
     let bytes = a .bytes .now in
     let loop = c .before .before .before .before .before .loop in
@@ -81,8 +89,8 @@ slice-aggregate-read-stream c =
     let room : size ≤ length (leftAt (a .reading) bytes (loop .at)) = c .before .if1 .left in
     sym (length-take-le size (leftAt (a .reading) bytes (loop .at)) room)
 
-read-stream-requires : tie.Need-read-stream-requires Inv-loop μ-loop
-read-stream-requires c κs =
+read-outline-requires : tie.Need-read-outline-requires Inv-loop μ-loop
+read-outline-requires c κs =
     let a = c .before .before .before .before .before .before .before .before .before .before .args in
     let bytes = a .bytes .now in
     let loop = c .before .before .before .before .before .loop in
@@ -108,12 +116,15 @@ returns-2 c =
     let long = left-long (a .reading) bytes (loop .at) in
     let large : 5 ≤ size = size-5 (a .reading) bytes (loop .count) (loop .at) cursor more size is-size in
     let room : size ≤ length (leftAt (a .reading) bytes (loop .at)) = c .before .before .before .before .if1 .left in
-    let stream = c .before .before .read-stream .result in
-    let is-stream = c .before .before .read-stream .ensures in
+    let outline = c .before .before .read-outline .result in
+    let is-outline = c .before .before .read-outline .ensures in
+    let part : List ℕ = take size (leftAt (a .reading) bytes (loop .at)) in
+    let stream : Stream = markedStream (a .pair) (streamOf (a .reading) (whole (take 5 part) (drop 5 part))) in
+    let is-stream : stream ≡ stream = refl in
     let here = stands-here (a .reading) bytes (loop .count) (loop .at) cursor more size is-size room (a .pair) (start .pre .1) stream is-stream in
     does-not-fit (streamsOf (a .reading) bytes) (loop .fault .number) (loop .fault .place) (loop .count)
     (inside-here (a .reading) bytes (loop .count) (loop .at) cursor more size is-size room (a .pair) (start .pre .1) stream is-stream)
-    (ap (λ (s : Stream). s .fits) here ∙ not-true (stream .fits) (c .if2 .taken)) (loop .inv .2) (loop .inv .1 .lowest)
+    (ap (λ (s : Stream). s .fits) here ∙ sym (ap (λ (o : Outline). o .fits) is-outline) ∙ not-true (outline .fits) (c .if2 .taken)) (loop .inv .2) (loop .inv .1 .lowest)
 
 gives-requires : tie.Need-gives-requires Inv-loop μ-loop
 gives-requires c κs = search needs
@@ -131,9 +142,13 @@ judge-next-requires c κs =
     let long = left-long (a .reading) bytes (loop .at) in
     let large : 5 ≤ size = size-5 (a .reading) bytes (loop .count) (loop .at) cursor more size is-size in
     let room : size ≤ length (leftAt (a .reading) bytes (loop .at)) = c .before .before .before .before .before .before .before .if1 .left in
-    let stream = c .before .before .before .before .before .read-stream .result in
-    let is-stream = c .before .before .before .before .before .read-stream .ensures in
-    pid-here (a .reading) bytes (loop .count) (loop .at) cursor more size is-size room (a .pair) (start .pre .1) stream is-stream
+    let outline = c .before .before .before .before .before .read-outline .result in
+    let is-outline = c .before .before .before .before .before .read-outline .ensures in
+    let part : List ℕ = take size (leftAt (a .reading) bytes (loop .at)) in
+    let stream : Stream = markedStream (a .pair) (streamOf (a .reading) (whole (take 5 part) (drop 5 part))) in
+    let is-stream : stream ≡ stream = refl in
+    subst (λ (o : Outline). o .pid < 8192) (sym is-outline)
+    (pid-here (a .reading) bytes (loop .count) (loop .at) cursor more size is-size room (a .pair) (start .pre .1) stream is-stream)
 
 add-count : tie.Need-add-count Inv-loop μ-loop
 add-count c =
@@ -197,20 +212,27 @@ loop-again c =
     let long = left-long (a .reading) bytes (loop .at) in
     let large : 5 ≤ size = size-5 (a .reading) bytes (loop .count) (loop .at) cursor more size is-size in
     let room : size ≤ length (leftAt (a .reading) bytes (loop .at)) = c .before .before .before .before .before .before .before .before .if1 .left in
-    let stream = c .before .before .before .before .before .before .read-stream .result in
-    let is-stream = c .before .before .before .before .before .before .read-stream .ensures in
+    let outline = c .before .before .before .before .before .before .read-outline .result in
+    let is-outline = c .before .before .before .before .before .before .read-outline .ensures in
+    let part : List ℕ = take size (leftAt (a .reading) bytes (loop .at)) in
+    let stream : Stream = markedStream (a .pair) (streamOf (a .reading) (whole (take 5 part) (drop 5 part))) in
+    let is-stream : stream ≡ stream = refl in
     let next = c .judge-next in
     let all = streamsOf (a .reading) bytes in
     let here = stands-here (a .reading) bytes (loop .count) (loop .at) cursor more size is-size room (a .pair) (start .pre .1) stream is-stream in
     let small = pid-here (a .reading) bytes (loop .count) (loop .at) cursor more size is-size room (a .pair) (start .pre .1) stream is-stream in
     let gives = c .before .before .before .gives in
-    let is-given = gives .ensures ∙ given-here (a .reading) bytes (loop .count) (loop .at) cursor more size is-size room (a .pair) (start .pre .1) stream is-stream in
-    let index = next .ensures .0 .1 in (
+    let is-given = gives .ensures ∙ ap (λ (o : Outline). given (a .pair) (o .«stream_type»)) is-outline ∙ given-here (a .reading) bytes (loop .count) (loop .at) cursor more size is-size room (a .pair) (start .pre .1) stream is-stream in
+    let index : indexOf (stream .«stream_type») (stream .seen .«record») < 256 =
+    subst (λ (o : Outline). indexOf (o .«stream_type») (o .«record») < 256) is-outline (next .ensures .0 .1) in
+    let told : next .result ≡ lowerOf (loop .fault) (faultAt (gives .result) (loop .pids) (loop .indices) stream) (loop .count) =
+    next .ensures .0 .0 ∙ ap (λ (o : Outline). lowerOf (loop .fault) (faultOn (gives .result) (loop .pids) (loop .indices) o) (loop .count)) is-outline in (
       next-here (a .reading) bytes (loop .count) (loop .at) cursor more size is-size room (a .pair) (start .pre .1) stream is-stream,
       passed-next all (loop .pids) (loop .indices) (loop .fault) (loop .count) (loop .inv .1) (gives .result) stream here is-given small index (next .result) _ _
-          (next .ensures .0 .0) (next .ensures .1 .0) (next .ensures .1 .1),
+          told (next .ensures .1 .0 ∙ ap (λ (o : Outline). set (loop .pids) (o .pid) true) is-outline)
+          (next .ensures .1 .1 ∙ ap (λ (o : Outline). set (loop .indices) (slotOf (o .«stream_type») (o .«record»)) true) is-outline),
       stays-above all (loop .pids) (loop .indices) (loop .fault) (loop .count) (loop .inv .1) (gives .result) stream here is-given small index
-          (not-false (stream .fits) (c .before .before .before .before .if2 .left)) (loop .inv .2) (next .result) (next .ensures .0 .0),
+          (sym (ap (λ (o : Outline). o .fits) is-outline) ∙ not-false (outline .fits) (c .before .before .before .before .if2 .left)) (loop .inv .2) (next .result) told,
     )
 
 refusal-of-requires : tie.Need-refusal-of-requires Inv-loop μ-loop
@@ -245,8 +267,8 @@ judge-entries-spec =
     part-left-end
     entry-size-requires
     returns
-    slice-aggregate-read-stream
-    read-stream-requires
+    slice-aggregate-read-outline
+    read-outline-requires
     returns-2
     gives-requires
     judge-next-requires

@@ -17,8 +17,8 @@ is-layer-requires c κs = search needs
 member-requires : tie.Need-member-requires
 member-requires c κs = search needs
 
-stream-for-requires : tie.Need-stream-for-requires
-stream-for-requires c κs = search needs
+outline-for-requires : tie.Need-outline-for-requires
+outline-for-requires c κs = search needs
 
 lowest-fault-requires : tie.Need-lowest-fault-requires
 lowest-fault-requires c κs = search needs
@@ -30,9 +30,9 @@ returns c =
     let slot = c .before .before .before .before .slot-of in
     let layer = c .before .before .before .is-layer in
     let there = c .before .before .member in
-    let stream = c .before .stream-for in
-    fault-parts (a .present) (a .entries) (a .entry) (layer .result) (held .result) (there .result) (slot .result) (stream .result) (c .lowest-fault .result)
-    (layer .ensures) (held .ensures) (slot .ensures .0) (there .ensures) (stream .ensures) (c .lowest-fault .ensures)
+    let outline = c .before .outline-for in
+    fault-parts (a .present) (a .entries) (a .entry) (layer .result) (held .result) (there .result) (slot .result) (outline .result) (c .lowest-fault .result)
+    (layer .ensures) (held .ensures) (slot .ensures .0) (there .ensures) (outline .ensures) (c .lowest-fault .ensures)
 
 pub fault-of-spec : {M : Type 1} → statement M
 fault-of-spec =
@@ -42,6 +42,6 @@ fault-of-spec =
     slot-of-requires
     is-layer-requires
     member-requires
-    stream-for-requires
+    outline-for-requires
     lowest-fault-requires
     returns)

@@ -1,13 +1,14 @@
--- `weigh_next` meets its contract: the entry's size is added, and its stream judged.
+-- `weigh_next` meets its contract: the entry's size is added, and its outline judged.
 -- Assumes nothing.
 use Prim.Native.Nat.{ℕ, _+_, _<_}
 use mathlib.Core.Path.{_≡_, _∙_, ap, ap₂, subst}
 use mathlib.Core.Bool.{true}
 use lib.ListN.{set}
 use Rattle.records.specs.Records.{indexOf}
-use Rattle.loop_faults.specs.Conditions.{faultAt, slotOf, lowerOf}
+use Rattle.loop_faults.specs.Conditions.{slotOf, lowerOf}
+use Rattle.loop_faults.specs.Outlined.{faultOn}
 use Rattle.loop_faults.specs.declared.Fault.{Fault}
-use Rattle.loop_entries.specs.declared.Stream.{Stream}
+use Rattle.loop_outlines.specs.declared.Outline.{Outline}
 use Rattle.loop_writer.proofs.Entries.{pid-small}
 use native.Mathlib.Omega.{arith}
 use borrow.Author.Needs.{needs}
@@ -20,29 +21,29 @@ entry-size-requires c κs = search needs
 add-size : tie.Need-add-size
 add-size c = search needs
 
-stream-for-requires : tie.Need-stream-for-requires
-stream-for-requires c κs = search needs
+outline-for-requires : tie.Need-outline-for-requires
+outline-for-requires c κs = search needs
 
 judge-next-requires : tie.Need-judge-next-requires
 judge-next-requires c κs =
     let start = c .before .before .before .before .before in
-    let small : (c .stream-for .result) .pid < 8192 = rw (c .stream-for .ensures) (pid-small (start .args .entry) (start .pre .0)) in
+    let small : (c .outline-for .result) .pid < 8192 = rw (c .outline-for .ensures) (pid-small (start .args .entry) (start .pre .0)) in
     small
 
 returns : tie.Need-returns
 returns c =
     let a = c .before .before .before .before .before .before .args in
     let size = c .before .before .before .before .before .entry-size in
-    let stream = c .before .stream-for in
+    let outline = c .before .outline-for in
     let next = c .judge-next in
-    let fault = next .ensures .0 .0 ∙ ap (λ (s : Stream). lowerOf (a .so-far .fault) (faultAt (a .given) (a .pids .now) (a .indices .now) s) (a .place)) (stream .ensures) in
+    let fault = next .ensures .0 .0 ∙ ap (λ (o : Outline). lowerOf (a .so-far .fault) (faultOn (a .given) (a .pids .now) (a .indices .now) o) (a .place)) (outline .ensures) in
     let index : indexOf (a .entry .«stream_type») (a .entry .«record») < 256 =
-    subst (λ (s : Stream). indexOf (s .«stream_type») (s .seen .«record») < 256) (stream .ensures) (next .ensures .0 .1) in (
+    subst (λ (o : Outline). indexOf (o .«stream_type») (o .«record») < 256) (outline .ensures) (next .ensures .0 .1) in (
       (ap₂ (λ (n : ℕ) (f : Fault). record { size = a .so-far .size + n; fault = f }) (size .ensures .0) fault, omega (arith, size .ensures .1), index),
-      (next .ensures .1 .0 ∙ ap (λ (s : Stream). set (a .pids .now) (s .pid) true) (stream .ensures), next .ensures .1 .1 ∙ ap (λ (s : Stream). set (a .indices .now) (slotOf (s .«stream_type») (s .seen .«record»)) true) (stream .ensures)),
+      (next .ensures .1 .0 ∙ ap (λ (o : Outline). set (a .pids .now) (o .pid) true) (outline .ensures), next .ensures .1 .1 ∙ ap (λ (o : Outline). set (a .indices .now) (slotOf (o .«stream_type») (o .«record»)) true) (outline .ensures)),
     )
 
 pub weigh-next-spec : {M : Type 1} → statement M
 weigh-next-spec =
     tie.close
-    (tie.spec entry-size-requires add-size stream-for-requires judge-next-requires returns)
+    (tie.spec entry-size-requires add-size outline-for-requires judge-next-requires returns)

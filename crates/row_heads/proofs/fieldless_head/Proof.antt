@@ -1,10 +1,10 @@
--- `laying::fieldless_head` meets its contract: the numbers in the order of the names.
+-- `row_heads::fieldless_head` meets its contract: the numbers in the order of the names.
 -- Assumes nothing.
 use Rattle.entry_rows.specs.Rows.{fieldlessHead}
 use native.Mathlib.Omega.{arith}
 use borrow.Author.Needs.{needs}
-use Rattle.row_laying.proofs.fieldless_head.Statement.{statement}
-use Rattle.row_laying.proofs.fieldless_head.Tie as tie
+use Rattle.row_heads.proofs.fieldless_head.Statement.{statement}
+use Rattle.row_heads.proofs.fieldless_head.Tie as tie
 
 wide-requires : tie.Need-wide-requires
 wide-requires c κs = search needs

@@ -1,10 +1,10 @@
--- `laying::head_with_hierarchy` meets its contract: the numbers in the order of the names, 0 for those that its table lacks.
+-- `row_heads::head_with_hierarchy` meets its contract: the numbers in the order of the names, 0 for those that its table lacks.
 -- Assumes nothing.
 use Rattle.entry_rows.specs.Rows.{headOf}
 use native.Mathlib.Omega.{arith}
 use borrow.Author.Needs.{needs}
-use Rattle.row_laying.proofs.head_with_hierarchy.Statement.{statement}
-use Rattle.row_laying.proofs.head_with_hierarchy.Tie as tie
+use Rattle.row_heads.proofs.head_with_hierarchy.Statement.{statement}
+use Rattle.row_heads.proofs.head_with_hierarchy.Tie as tie
 
 wide-requires : tie.Need-wide-requires
 wide-requires c κs = search needs

@@ -1,12 +1,12 @@
--- `laying::head_of` meets its contract: which arm was taken says which record it is.
+-- `row_heads::head_of` meets its contract: which arm was taken says which record it is.
 -- Assumes nothing.
 use mathlib.Core.Path.{sym, _∙_, ap}
 use Rattle.records.specs.declared.Record.{Record}
 use Rattle.entry_rows.specs.Rows.{fieldlessHead, headOf}
 use native.Mathlib.Omega.{arith}
 use borrow.Author.Needs.{needs}
-use Rattle.row_laying.proofs.head_of.Statement.{statement}
-use Rattle.row_laying.proofs.head_of.Tie as tie
+use Rattle.row_heads.proofs.head_of.Statement.{statement}
+use Rattle.row_heads.proofs.head_of.Tie as tie
 
 enum-told : tie.Need-enum-told
 enum-told c = search needs
@@ -35,24 +35,24 @@ fieldless-head-requires-2 c κs = search needs
 returns : tie.Need-returns
 unfolding headOf fieldlessHead
 returns c =
-    let e = c .before .before .before .args .entry in
-    c .fieldless-head .ensures ∙ sym (ap (headOf (e .«stream_type») (e .pid)) (c .before .enum-told .given .1))
+    let a = c .before .before .before .args in
+    c .fieldless-head .ensures ∙ sym (ap (headOf (a .stream-type) (a .pid)) (c .before .enum-told .given .1))
 
 returns-2 : tie.Need-returns-2
 returns-2 c =
-    let e = c .before .before .before .before .args .entry in
-    c .head-with-hierarchy .ensures ∙ sym (ap (headOf (e .«stream_type») (e .pid)) (c .before .before .«record» .given .1))
+    let a = c .before .before .before .before .args in
+    c .head-with-hierarchy .ensures ∙ sym (ap (headOf (a .stream-type) (a .pid)) (c .before .before .«record» .given .1))
 
 returns-3 : tie.Need-returns-3
 returns-3 c =
-    let e = c .before .before .before .before .args .entry in
-    c .head-with-extension .ensures ∙ sym (ap (headOf (e .«stream_type») (e .pid)) (c .before .before .record2 .given .1))
+    let a = c .before .before .before .before .args in
+    c .head-with-extension .ensures ∙ sym (ap (headOf (a .stream-type) (a .pid)) (c .before .before .record2 .given .1))
 
 returns-4 : tie.Need-returns-4
 unfolding headOf fieldlessHead
 returns-4 c =
-    let e = c .before .before .before .args .entry in
-    c .fieldless-head2 .ensures ∙ sym (ap (headOf (e .«stream_type») (e .pid)) (c .before .enum-told2 .given .1))
+    let a = c .before .before .before .args in
+    c .fieldless-head2 .ensures ∙ sym (ap (headOf (a .stream-type) (a .pid)) (c .before .enum-told2 .given .1))
 
 pub head-of-spec : {M : Type 1} → statement M
 head-of-spec =
