@@ -16,7 +16,7 @@ use Rattle.vocabulary.specs.Refusals.{numberOf}
 use Rattle.closure.specs.declared.Layers.{Layers}
 use Rattle.closure.specs.declared.Closure.{Closure}
 use Rattle.closure.specs.Meaning as Target
-use Rattle.es_loop.specs.declared.entries.Entry.{Entry}
+use Rattle.loop_entries.specs.declared.Entry.{Entry}
 use Rattle.es_loop.specs.Reading.{refusedWith}
 use Rattle.es_loop.specs.Meaning as Loop
 use Rattle.loop_layers.specs.Closures.{loopLayers}

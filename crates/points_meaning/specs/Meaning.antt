@@ -14,8 +14,8 @@ use Rattle.vocabulary.specs.declared.refusal.Refusal.the-variants.{PointsDoNotF
 use Rattle.vocabulary.specs.declared.stream_types.Reading.the-variants.{Edition2015}
 use Rattle.descriptor_heads.specs.Head.{descriptorTag, descriptorLength}
 use Rattle.closure.specs.declared.Layers.{Layers}
-use Rattle.es_loop.specs.declared.entries.Stream.{Stream}
-use Rattle.es_loop.specs.Entries.{entryOf}
+use Rattle.loop_entries.specs.declared.Stream.{Stream}
+use Rattle.loop_entries.specs.Entries.{entryOf}
 use Rattle.es_loop.specs.Reading.{refusedWith, accepted}
 use Rattle.es_loop.specs.Meaning as Loop
 use Rattle.loop_layers.specs.Meaning.{LayersOf}
