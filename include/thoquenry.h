@@ -94,6 +94,14 @@ enum thq_refusal {
     THQ_REFUSED_PTS_BEFORE_DTS = 24,
     /* a value to be written is too wide for its field */
     THQ_REFUSED_TOO_WIDE = 25,
+    /* packet {} has lost sync, or is the last part of one */
+    THQ_REFUSED_LOST_SYNC = 30,
+    /* packet {}, on a layer's PID, has another counter than the next one, and no discontinuity indicator */
+    THQ_REFUSED_COUNTER_GAP = 31,
+    /* packet {}, on a layer's PID, has an adaptation field, or a PES header (9 bytes and its data), that is not within it */
+    THQ_REFUSED_OUTSIDE_PACKET = 32,
+    /* packet {}, on a layer's PID, has a scrambled payload */
+    THQ_REFUSED_SCRAMBLED = 33,
     /* the program's descriptor loop is longer than 1,008 bytes, a descriptor in it runs past it, or the fields of an operation point descriptor don't fill its length exactly */
     THQ_REFUSED_POINTS_DO_NOT_FIT = 40,
     /* an operation point has the reserved ES_count 0xFF */

@@ -20,7 +20,7 @@ use Rattle.syntax.proofs.Laws.{read-before}
 use Rattle.vocabulary.specs.declared.LayerIndex.{LayerIndex}
 use Rattle.vocabulary.specs.declared.stream_types.Reading.{Reading}
 use Rattle.vocabulary.specs.declared.refusal.Refusal.{Refusal}
-use Rattle.vocabulary.specs.declared.refusal.Refusal.the-variants.{LoopTooLong, DoesNotFit, RepeatedPid, WrongLength, SecondRecord, TypeNotAllowed as TypeRefused, WrongFlags as FlagsRefused, RepeatedLayerIndex, WrongEmbeddedIndex, NoSuchLayer, EmbeddedLayerAbsent, OutOfRange, TimeOrderBroken, Unpaired, UsedTwice, NoRoom, SpanTooWide, NotVideoHeader, NoPts, FieldsDoNotFit, WrongMarker, PtsBeforeDts, TooWide, PointsDoNotFit, ReservedEsCount, UnknownReference, NotStereoSet, WrongMvcExtension, RangesMeet}
+use Rattle.vocabulary.specs.declared.refusal.Refusal.the-variants.{LoopTooLong, DoesNotFit, RepeatedPid, WrongLength, SecondRecord, TypeNotAllowed as TypeRefused, WrongFlags as FlagsRefused, RepeatedLayerIndex, WrongEmbeddedIndex, NoSuchLayer, EmbeddedLayerAbsent, OutOfRange, TimeOrderBroken, Unpaired, UsedTwice, NoRoom, SpanTooWide, NotVideoHeader, NoPts, FieldsDoNotFit, WrongMarker, PtsBeforeDts, TooWide, LostSync, CounterGap, OutsidePacket, Scrambled, PointsDoNotFit, ReservedEsCount, UnknownReference, NotStereoSet, WrongMvcExtension, RangesMeet}
 use Rattle.vocabulary.specs.Refusals.{numberOf, placeOf}
 use Rattle.vocabulary.specs.StreamTypes.{known}
 use Rattle.records.specs.declared.Record.{Record}
@@ -78,6 +78,10 @@ named-refusal FieldsDoNotFit h = absurd (omega arith)
 named-refusal WrongMarker h = absurd (omega arith)
 named-refusal PtsBeforeDts h = absurd (omega arith)
 named-refusal TooWide h = absurd (omega arith)
+named-refusal (LostSync packet) h = absurd (omega arith)
+named-refusal (CounterGap packet) h = absurd (omega arith)
+named-refusal (OutsidePacket packet) h = absurd (omega arith)
+named-refusal (Scrambled packet) h = absurd (omega arith)
 named-refusal PointsDoNotFit h = absurd (omega arith)
 named-refusal ReservedEsCount h = absurd (omega arith)
 named-refusal UnknownReference h = absurd (omega arith)

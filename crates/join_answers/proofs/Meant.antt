@@ -19,7 +19,7 @@ use Rattle.combinators.specs.Ascending.{Ascending}
 use Rattle.combinators.specs.Bools.{false-unless}
 use Rattle.combinators.specs.Those.{length-those}
 use Rattle.vocabulary.specs.declared.LayerIndex.{LayerIndex}
-use Rattle.vocabulary.specs.declared.refusal.Refusal.the-variants.{LoopTooLong, DoesNotFit, RepeatedPid, WrongLength, SecondRecord, TypeNotAllowed, WrongFlags, RepeatedLayerIndex, WrongEmbeddedIndex, NotVideoHeader, NoPts, FieldsDoNotFit, WrongMarker, PtsBeforeDts, TooWide, PointsDoNotFit, ReservedEsCount, UnknownReference, NotStereoSet, WrongMvcExtension, RangesMeet, NoSuchLayer, EmbeddedLayerAbsent, OutOfRange, TimeOrderBroken, Unpaired, UsedTwice, NoRoom, SpanTooWide}
+use Rattle.vocabulary.specs.declared.refusal.Refusal.the-variants.{LoopTooLong, DoesNotFit, RepeatedPid, WrongLength, SecondRecord, TypeNotAllowed, WrongFlags, RepeatedLayerIndex, WrongEmbeddedIndex, NotVideoHeader, NoPts, FieldsDoNotFit, WrongMarker, PtsBeforeDts, TooWide, LostSync, CounterGap, OutsidePacket, Scrambled, PointsDoNotFit, ReservedEsCount, UnknownReference, NotStereoSet, WrongMvcExtension, RangesMeet, NoSuchLayer, EmbeddedLayerAbsent, OutOfRange, TimeOrderBroken, Unpaired, UsedTwice, NoRoom, SpanTooWide}
 use Rattle.rows.specs.Table.{Table, rowsIn, layerOf, wrongShape, firstOutOfRange, firstBroken}
 use Rattle.rows.specs.Meaning.{FirstRow, NoRow, WrongShape, RowOutOfRange, BreaksOrder, InOrder}
 use Rattle.rows.proofs.Meant.{shape-meant, shape-only, right-shape-meant, right-shape-only, outside-meant, outside-only, none-outside-meant, none-outside-only, broken-meant, broken-only, in-order-meant, in-order-only}
@@ -344,6 +344,10 @@ module _ (most : ℕ) (layers : Layers) (target : ℕ) (t : Table) (before : Lis
   Given (Refused WrongMarker) = ⊥
   Given (Refused PtsBeforeDts) = ⊥
   Given (Refused TooWide) = ⊥
+  Given (Refused (LostSync packet)) = ⊥
+  Given (Refused (CounterGap packet)) = ⊥
+  Given (Refused (OutsidePacket packet)) = ⊥
+  Given (Refused (Scrambled packet)) = ⊥
   Given (Refused PointsDoNotFit) = ⊥
   Given (Refused ReservedEsCount) = ⊥
   Given (Refused UnknownReference) = ⊥

@@ -2,5 +2,4 @@ pub mod Tables
 pub mod Reading
 pub mod Judging
 pub mod Meaning
-pub mod Faults
 pub mod Examples

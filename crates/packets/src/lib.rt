@@ -5,7 +5,6 @@ ghost use Prim.Native.Nat.{_+_, _*_, _%_};
 ghost use lib.ListN.{length};
 ghost use Rattle.packets.specs.Reading.{packetBytes, adaptationOf, packetOf, readOf};
 ghost use Rattle.packets.specs.Judging.{lostSync, isSkipped, withPayload, payloadAt, adaptationOutside, startsClear, headerWithin, isOutside, isScrambled};
-ghost use Rattle.packets.specs.Faults.{numberOf, placeOf};
 
 // The bytes of a packet.
 pub const PACKET_BYTES: usize = 188;
@@ -34,38 +33,6 @@ pub struct Packet {
 pub enum Answer {
     Read(Packet),
     NotWhole,
-}
-
-// The refusals of packets, one named case for each number, with the packet that is its place.
-pub enum Fault {
-    LostSync(usize),
-    CounterGap(usize),
-    OutsidePacket(usize),
-    Scrambled(usize),
-}
-
-// The number under which a refusal is listed.
-pub fn number(fault: Fault) -> u8
-    ensures { λ r. ⌜ r ≡ numberOf fault ⌝ }
-{
-    match fault {
-        Fault::LostSync(_) => 30,
-        Fault::CounterGap(_) => 31,
-        Fault::OutsidePacket(_) => 32,
-        Fault::Scrambled(_) => 33,
-    }
-}
-
-// The place of a refusal: the packet's number.
-pub fn place(fault: Fault) -> usize
-    ensures { λ r. ⌜ r ≡ placeOf fault ⌝ }
-{
-    match fault {
-        Fault::LostSync(packet) => packet,
-        Fault::CounterGap(packet) => packet,
-        Fault::OutsidePacket(packet) => packet,
-        Fault::Scrambled(packet) => packet,
-    }
 }
 
 fn adaptation_field(packet: &[u8]) -> Adaptation

@@ -14,11 +14,8 @@ use Rattle.combinators.specs.Lists.{Nth, nth-inside, getD-nth, next}
 use Rattle.combinators.specs.Lowest.{Lowest, earliestPlace, lowest-number, earliest-place}
 use Rattle.framing.specs.Pieces.{Item, whole, broken, Cuts, cut-cuts, cuts-unique}
 use Rattle.vocabulary.specs.declared.refusal.Refusal.{Refusal}
-use Rattle.vocabulary.specs.declared.refusal.Refusal.the-variants.{LoopTooLong, DoesNotFit, RepeatedPid, WrongLength, SecondRecord, TypeNotAllowed, WrongFlags, RepeatedLayerIndex, WrongEmbeddedIndex, NoSuchLayer, EmbeddedLayerAbsent, OutOfRange, TimeOrderBroken, Unpaired, UsedTwice, NoRoom, SpanTooWide, NotVideoHeader, NoPts, FieldsDoNotFit, WrongMarker, PtsBeforeDts, TooWide, PointsDoNotFit, ReservedEsCount, UnknownReference, NotStereoSet, WrongMvcExtension, RangesMeet}
-use Rattle.vocabulary.specs.Refusals.{numberOf as headerNumber}
-use Rattle.packets.specs.declared.Fault.{Fault as Refused}
-use Rattle.packets.specs.declared.Fault.the-variants.{LostSync, CounterGap, OutsidePacket, Scrambled}
-use Rattle.packets.specs.Faults.{numberOf, placeOf}
+use Rattle.vocabulary.specs.declared.refusal.Refusal.the-variants.{LoopTooLong, DoesNotFit, RepeatedPid, WrongLength, SecondRecord, TypeNotAllowed, WrongFlags, RepeatedLayerIndex, WrongEmbeddedIndex, NoSuchLayer, EmbeddedLayerAbsent, OutOfRange, TimeOrderBroken, Unpaired, UsedTwice, NoRoom, SpanTooWide, NotVideoHeader, NoPts, FieldsDoNotFit, WrongMarker, PtsBeforeDts, TooWide, LostSync, CounterGap, OutsidePacket, Scrambled, PointsDoNotFit, ReservedEsCount, UnknownReference, NotStereoSet, WrongMvcExtension, RangesMeet}
+use Rattle.vocabulary.specs.Refusals.{numberOf, placeOf}
 use Rattle.packets.specs.Reading.{packetBytes}
 use Rattle.scanning.specs.declared.events.Row.{Row}
 use Rattle.scanning.specs.declared.events.Event.{Event}
@@ -56,19 +53,42 @@ fault-place n k = go (eqb n 30) (eqb n 31) (eqb n 32)
     go false false true = refl
     go false false false = refl
 
-named-fault : (fault : Refused) → faultOf (numberOf fault) (placeOf fault) ≡ fault
-named-fault (LostSync k) = refl
-named-fault (CounterGap k) = refl
-named-fault (OutsidePacket k) = refl
-named-fault (Scrambled k) = refl
+named-fault : (r : Refusal) → leb 30 (numberOf r) && ltb (numberOf r) 34 ≡ true → faultOf (numberOf r) (placeOf r) ≡ r
+named-fault LoopTooLong e = apart e
+named-fault (DoesNotFit k) e = apart e
+named-fault (RepeatedPid k) e = apart e
+named-fault (WrongLength k) e = apart e
+named-fault (SecondRecord k) e = apart e
+named-fault (TypeNotAllowed k) e = apart e
+named-fault (WrongFlags k) e = apart e
+named-fault (RepeatedLayerIndex k) e = apart e
+named-fault (WrongEmbeddedIndex k) e = apart e
+named-fault NoSuchLayer e = apart e
+named-fault (EmbeddedLayerAbsent index) e = apart e
+named-fault (OutOfRange k) e = apart e
+named-fault (TimeOrderBroken k) e = apart e
+named-fault (Unpaired k) e = apart e
+named-fault (UsedTwice k) e = apart e
+named-fault NoRoom e = apart e
+named-fault SpanTooWide e = apart e
+named-fault NotVideoHeader e = apart e
+named-fault NoPts e = apart e
+named-fault FieldsDoNotFit e = apart e
+named-fault WrongMarker e = apart e
+named-fault PtsBeforeDts e = apart e
+named-fault TooWide e = apart e
+named-fault (LostSync k) e = refl
+named-fault (CounterGap k) e = refl
+named-fault (OutsidePacket k) e = refl
+named-fault (Scrambled k) e = refl
+named-fault PointsDoNotFit e = apart e
+named-fault ReservedEsCount e = apart e
+named-fault UnknownReference e = apart e
+named-fault NotStereoSet e = apart e
+named-fault WrongMvcExtension e = apart e
+named-fault RangesMeet e = apart e
 
-fault-small : (fault : Refused) → numberOf fault < 34
-fault-small (LostSync k) = omega arith
-fault-small (CounterGap k) = omega arith
-fault-small (OutsidePacket k) = omega arith
-fault-small (Scrambled k) = omega arith
-
-named-header : (r : Refusal) → leb 20 (headerNumber r) && ltb (headerNumber r) 25 ≡ true → headerRefusal (headerNumber r) ≡ r
+named-header : (r : Refusal) → leb 20 (numberOf r) && ltb (numberOf r) 25 ≡ true → headerRefusal (numberOf r) ≡ r
 named-header LoopTooLong e = apart e
 named-header (DoesNotFit k) e = apart e
 named-header (RepeatedPid k) e = apart e
@@ -92,6 +112,10 @@ named-header FieldsDoNotFit e = refl
 named-header WrongMarker e = refl
 named-header PtsBeforeDts e = refl
 named-header TooWide e = apart e
+named-header (LostSync k) e = apart e
+named-header (CounterGap k) e = apart e
+named-header (OutsidePacket k) e = apart e
+named-header (Scrambled k) e = apart e
 named-header PointsDoNotFit e = apart e
 named-header ReservedEsCount e = apart e
 named-header UnknownReference e = apart e
@@ -105,10 +129,10 @@ is-fault n (Fault given) e = ap Fault (eqb-true given n e)
 is-fault n (NotRead refusal) e = apart e
 is-fault n (Unit row) e = apart e
 
-is-refusal : (n : ℕ) (event : Event) → refusalIs n event ≡ true → (r : Refusal) × (event ≡ NotRead r) × (headerNumber r ≡ n)
+is-refusal : (n : ℕ) (event : Event) → refusalIs n event ≡ true → (r : Refusal) × (event ≡ NotRead r) × (numberOf r ≡ n)
 is-refusal n Nothing e = apart e
 is-refusal n (Fault given) e = apart e
-is-refusal n (NotRead refusal) e = (refusal, refl, eqb-true (headerNumber refusal) n e)
+is-refusal n (NotRead refusal) e = (refusal, refl, eqb-true (numberOf refusal) n e)
 is-refusal n (Unit row) e = apart e
 
 module _ (table : List ℕ) (packets : List Item) (size : (k : ℕ) (packet rest : List ℕ) → Nth packets k (whole packet rest) → length packet ≡ packetBytes) where
@@ -175,13 +199,13 @@ module _ (table : List ℕ) (packets : List Item) (size : (k : ℕ) (packet rest
   fault-true : {n k : ℕ} → Gives table packets k (Fault n) → faults table packets n k ≡ true
   fault-true {n} g = ap (faultIs n) (sym (only-here g)) ∙ eq-eqb n n refl
 
-  refusal-true : {r : Refusal} {k : ℕ} → Gives table packets k (NotRead r) → refusals table packets (headerNumber r) k ≡ true
-  refusal-true {r} g = ap (refusalIs (headerNumber r)) (sym (only-here g)) ∙ eq-eqb (headerNumber r) (headerNumber r) refl
+  refusal-true : {r : Refusal} {k : ℕ} → Gives table packets k (NotRead r) → refusals table packets (numberOf r) k ≡ true
+  refusal-true {r} g = ap (refusalIs (numberOf r)) (sym (only-here g)) ∙ eq-eqb (numberOf r) (numberOf r) refl
 
   fault-given : (n k : ℕ) → k < length packets → faults table packets n k ≡ true → Gives table packets k (Fault n)
   fault-given n k h e = subst (Gives table packets k) (is-fault n (eventHere table packets k) e) (given-here k h)
 
-  refusal-given : (n k : ℕ) → k < length packets → refusals table packets n k ≡ true → (r : Refusal) × Gives table packets k (NotRead r) × (headerNumber r ≡ n)
+  refusal-given : (n k : ℕ) → k < length packets → refusals table packets n k ≡ true → (r : Refusal) × Gives table packets k (NotRead r) × (numberOf r ≡ n)
   refusal-given n k h e =
       let w = is-refusal n (eventHere table packets k) e in (w .0, subst (Gives table packets k) (w .1) (given-here k h), w .2)
 
@@ -189,7 +213,7 @@ module _ (table : List ℕ) (packets : List Item) (size : (k : ℕ) (packet rest
   fault-range : {n k : ℕ} → Gives table packets k (Fault n) → leb 30 n && ltb n 34 ≡ true
   fault-range {n} {k} g = ap inRange (only-here g) ∙ event-in-range table k (getD packets k broken) (lastsAt table packets k)
 
-  refusal-range : {r : Refusal} {k : ℕ} → Gives table packets k (NotRead r) → leb 20 (headerNumber r) && ltb (headerNumber r) 25 ≡ true
+  refusal-range : {r : Refusal} {k : ℕ} → Gives table packets k (NotRead r) → leb 20 (numberOf r) && ltb (numberOf r) 25 ≡ true
   refusal-range {r} {k} g = ap inRange (only-here g) ∙ event-in-range table k (getD packets k broken) (lastsAt table packets k)
 
   module _ (f : Found) (low : Low table packets (length packets) f) where
@@ -204,8 +228,8 @@ module _ (table : List ℕ) (packets : List Item) (size : (k : ℕ) (packet rest
     readable h =
         record {
           no-refusal = λ r k g. both-ways (refusal-true g)
-              (low .refusal .lower (headerNumber r) k
-              (omega (arith, ltb-true (headerNumber r) 25 (both-right (leb 20 (headerNumber r)) (ltb (headerNumber r) 25) (refusal-range g)))) (inside g));
+              (low .refusal .lower (numberOf r) k
+              (omega (arith, ltb-true (numberOf r) 25 (both-right (leb 20 (numberOf r)) (ltb (numberOf r) 25) (refusal-range g)))) (inside g));
         }
 
     -- the other way: where the meaning says what is lowest, the walk has kept that
@@ -232,32 +256,32 @@ module _ (table : List ℕ) (packets : List Item) (size : (k : ℕ) (packet rest
         )
 
     same-refusal : (r : Refusal) (k : ℕ) → Gives table packets k (NotRead r)
-        → ((other : Refusal) (j : ℕ) → headerNumber other < headerNumber r → Gives table packets j (NotRead other) → ⊥)
+        → ((other : Refusal) (j : ℕ) → numberOf other < numberOf r → Gives table packets j (NotRead other) → ⊥)
         → ((j : ℕ) → j < k → Gives table packets j (NotRead r) → ⊥)
-        → (f .refusal .number ≡ headerNumber r) × (f .refusal .packet ≡ k)
+        → (f .refusal .number ≡ numberOf r) × (f .refusal .packet ≡ k)
     same-refusal r k g lower earlier =
-        let small : headerNumber r < 25 = ltb-true (headerNumber r) 25 (both-right (leb 20 (headerNumber r)) (ltb (headerNumber r) 25) (refusal-range g)) in
-        let meant : Lowest (refusals table packets) 25 (length packets) (headerNumber r) k =
+        let small : numberOf r < 25 = ltb-true (numberOf r) 25 (both-right (leb 20 (numberOf r)) (ltb (numberOf r) 25) (refusal-range g)) in
+        let meant : Lowest (refusals table packets) 25 (length packets) (numberOf r) k =
         record {
           within = omega arith;
           lower = λ m j h l. false-unless (refusals table packets m j)
-              (λ e. let w = refusal-given m j l e in lower (w .0) j (subst (λ (x : ℕ). x < headerNumber r) (sym (w .2)) h) (w .1));
+              (λ e. let w = refusal-given m j l e in lower (w .0) j (subst (λ (x : ℕ). x < numberOf r) (sym (w .2)) h) (w .1));
           inside = λ h. inside g;
           holds = λ h. refusal-true g;
-          earlier = λ h j l. false-unless (refusals table packets (headerNumber r) j)
+          earlier = λ h j l. false-unless (refusals table packets (numberOf r) j)
               (λ e.
-              let w = refusal-given (headerNumber r) j (omega (arith, inside g)) e in
+              let w = refusal-given (numberOf r) j (omega (arith, inside g)) e in
               let same : w .0 ≡ r = sym (named-header (w .0) (refusal-range (w .1))) ∙ ap headerRefusal (w .2) ∙ named-header r (refusal-range g) in
               earlier j l (subst (λ (x : Refusal). Gives table packets j (NotRead x)) same (w .1)));
         } in
         let kept = low .refusal in
-        let same : f .refusal .number ≡ headerNumber r =
+        let same : f .refusal .number ≡ numberOf r =
         lowest-number (refusals table packets) 25 (length packets) (f .refusal .number) (f .refusal .packet) kept
-        ∙ sym (lowest-number (refusals table packets) 25 (length packets) (headerNumber r) k meant) in (
+        ∙ sym (lowest-number (refusals table packets) 25 (length packets) (numberOf r) k meant) in (
           same,
           earliest-place (refusals table packets) 25 (length packets) (f .refusal .number) (f .refusal .packet) kept (omega arith)
               ∙ ap (λ (m : ℕ). earliestPlace (refusals table packets) m (length packets)) same
-              ∙ sym (earliest-place (refusals table packets) 25 (length packets) (headerNumber r) k meant small),
+              ∙ sym (earliest-place (refusals table packets) 25 (length packets) (numberOf r) k meant small),
         )
 
     -- where none is refused, nothing was kept
@@ -327,7 +351,7 @@ module _ (table bytes : List ℕ) (room : ℕ) where
           subst (λ (x : Refusal). Answers table bytes room (Unread x (found .refusal .packet))) name
           (not-read cuts (clear table (packetsIn bytes) (sized cuts) found low (ltb-false (found .fault .number) 34 p)) (w .1)
           (λ other j l d. both-ways (refusal-true table (packetsIn bytes) (sized cuts) d)
-          (low .refusal .lower (headerNumber other) j (subst (λ (x : ℕ). headerNumber other < x) (w .2) l) (inside table (packetsIn bytes) (sized cuts) d)))
+          (low .refusal .lower (numberOf other) j (subst (λ (x : ℕ). numberOf other < x) (w .2) l) (inside table (packetsIn bytes) (sized cuts) d)))
           (λ j l d. both-ways (refusal-true table (packetsIn bytes) (sized cuts) d)
           (subst (λ (x : ℕ). refusals table (packetsIn bytes) x j ≡ false) (sym (w .2)) (low .refusal .earlier h j l))))
       by-tests false false true p q r =
@@ -341,23 +365,25 @@ module _ (table bytes : List ℕ) (room : ℕ) where
           (subst (λ (x : ℕ). x ≤ room) (rows-counted table bytes) (ltb-false room (found .rows) r)))
 
   -- and nothing else has it
-  faulty-only : (fault : Refused) → Gives table (packetsIn bytes) (placeOf fault) (Fault (numberOf fault))
+  faulty-only : (fault : Refusal) → Gives table (packetsIn bytes) (placeOf fault) (Fault (numberOf fault))
       → ((m j : ℕ) → m < numberOf fault → Gives table (packetsIn bytes) j (Fault m) → ⊥)
       → ((j : ℕ) → j < placeOf fault → Gives table (packetsIn bytes) j (Fault (numberOf fault)) → ⊥)
       → Faulty fault ≡ answerOf found room
   faulty-only fault g lower earlier =
-      let w = same-fault table (packetsIn bytes) (sized cuts) found low (numberOf fault) (placeOf fault) (fault-small fault) g lower earlier in
-      ap Faulty (sym (named-fault fault) ∙ ap₂ faultOf (sym (w .0)) (sym (w .1)))
-      ∙ sym (answer-by found room (lt-ltb (found .fault .number) 34 (omega (arith, w .0, fault-small fault))) refl refl)
+      let range = fault-range table (packetsIn bytes) (sized cuts) g in
+      let small : numberOf fault < 34 = ltb-true (numberOf fault) 34 (both-right (leb 30 (numberOf fault)) (ltb (numberOf fault) 34) range) in
+      let w = same-fault table (packetsIn bytes) (sized cuts) found low (numberOf fault) (placeOf fault) small g lower earlier in
+      ap Faulty (sym (named-fault fault range) ∙ ap₂ faultOf (sym (w .0)) (sym (w .1)))
+      ∙ sym (answer-by found room (lt-ltb (found .fault .number) 34 (omega (arith, w .0))) refl refl)
 
   unread-only : (refusal : Refusal) (k : ℕ) → Clear table (packetsIn bytes) → Gives table (packetsIn bytes) k (NotRead refusal)
-      → ((other : Refusal) (j : ℕ) → headerNumber other < headerNumber refusal → Gives table (packetsIn bytes) j (NotRead other) → ⊥)
+      → ((other : Refusal) (j : ℕ) → numberOf other < numberOf refusal → Gives table (packetsIn bytes) j (NotRead other) → ⊥)
       → ((j : ℕ) → j < k → Gives table (packetsIn bytes) j (NotRead refusal) → ⊥)
       → Unread refusal k ≡ answerOf found room
   unread-only refusal k c g lower earlier =
       let w = same-refusal table (packetsIn bytes) (sized cuts) found low refusal k g lower earlier in
       let range = refusal-range table (packetsIn bytes) (sized cuts) g in
-      let small : headerNumber refusal < 25 = ltb-true (headerNumber refusal) 25 (both-right (leb 20 (headerNumber refusal)) (ltb (headerNumber refusal) 25) range) in
+      let small : numberOf refusal < 25 = ltb-true (numberOf refusal) 25 (both-right (leb 20 (numberOf refusal)) (ltb (numberOf refusal) 25) range) in
       ap₂ Unread (sym (named-header refusal range) ∙ ap headerRefusal (sym (w .0))) (sym (w .1))
       ∙ sym
       (answer-by found room (le-ltb (found .fault .number) 34 (no-fault-kept table (packetsIn bytes) (sized cuts) found low c))

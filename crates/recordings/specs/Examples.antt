@@ -5,9 +5,8 @@ use mathlib.Core.Path.{_≡_, refl}
 use mathlib.Core.Bool.{false}
 use mathlib.Core.List.{List, [], _∷_, _++_}
 use lib.ListN.{replicate}
-use Rattle.packets.specs.declared.Fault.the-variants.{LostSync, CounterGap}
 use Rattle.packets.specs.Examples.{filled}
-use Rattle.vocabulary.specs.declared.refusal.Refusal.the-variants.{NotVideoHeader}
+use Rattle.vocabulary.specs.declared.refusal.Refusal.the-variants.{NotVideoHeader, LostSync, CounterGap}
 use Rattle.scanning.specs.Scanning.{foundIn, rowsIn}
 use Rattle.recordings.specs.Reading.{answerOf}
 use Rattle.recordings.specs.declared.Recording.the-variants.{Rows, Faulty, NotRead, TooManyRows}

@@ -8,9 +8,7 @@ use lib.ListN.{length}
 use Rattle.combinators.specs.Lists.{Nth}
 use Rattle.framing.specs.Pieces.{Item, whole, broken, Cuts}
 use Rattle.vocabulary.specs.declared.refusal.Refusal.{Refusal}
-use Rattle.vocabulary.specs.Refusals.{numberOf as headerNumber}
-use Rattle.packets.specs.declared.Fault.{Fault as Refused}
-use Rattle.packets.specs.Faults.{numberOf, placeOf}
+use Rattle.vocabulary.specs.Refusals.{numberOf, placeOf}
 use Rattle.packets.specs.Reading.{packetBytes}
 use Rattle.packets.specs.Meaning.{LostSync, Skipped}
 use Rattle.continuity.specs.declared.Step.{Step}
@@ -66,14 +64,14 @@ module _ (table : List ℕ) (packets : List Item) where
 -- THE ANSWER for a recording that is cut into packets of 188 bytes, where there is room for so many rows: 'the lowest of 30 to 33 at its earliest packet,
 -- then the PES numbers in the same way, then 13'.
 pub data Answers (table bytes : List ℕ) (room : ℕ) : Recording → Type 0 where
-  faulty : {packets : List Item} {fault : Refused} → Cuts packetBytes (λ head. 0) bytes packets
+  faulty : {packets : List Item} {fault : Refusal} → Cuts packetBytes (λ head. 0) bytes packets
       → Gives table packets (placeOf fault) (Fault (numberOf fault))
       → ((number k : ℕ) → number < numberOf fault → Gives table packets k (Fault number) → ⊥)
       → ((k : ℕ) → k < placeOf fault → Gives table packets k (Fault (numberOf fault)) → ⊥)
       → Answers table bytes room (Faulty fault)
   not-read : {packets : List Item} {refusal : Refusal} {k : ℕ} → Cuts packetBytes (λ head. 0) bytes packets → Clear table packets
       → Gives table packets k (NotRead refusal)
-      → ((other : Refusal) (j : ℕ) → headerNumber other < headerNumber refusal → Gives table packets j (NotRead other) → ⊥)
+      → ((other : Refusal) (j : ℕ) → numberOf other < numberOf refusal → Gives table packets j (NotRead other) → ⊥)
       → ((j : ℕ) → j < k → Gives table packets j (NotRead refusal) → ⊥)
       → Answers table bytes room (Unread refusal k)
   too-many : {packets : List Item} {rows : List Row} → Cuts packetBytes (λ head. 0) bytes packets → Clear table packets → Readable table packets

@@ -5,11 +5,8 @@ use mathlib.Core.Bool.{cond}
 use mathlib.Core.List.{List}
 use lib.Dec.{ltb, eqb}
 use Rattle.vocabulary.specs.declared.refusal.Refusal.{Refusal}
-use Rattle.vocabulary.specs.declared.refusal.Refusal.the-variants.{NotVideoHeader, NoPts, FieldsDoNotFit, WrongMarker, PtsBeforeDts}
+use Rattle.vocabulary.specs.declared.refusal.Refusal.the-variants.{NotVideoHeader, NoPts, FieldsDoNotFit, WrongMarker, PtsBeforeDts, LostSync, CounterGap, OutsidePacket, Scrambled}
 use Rattle.vocabulary.specs.Refusals as Refusals
-use Rattle.packets.specs.declared.Fault.{Fault}
-use Rattle.packets.specs.declared.Fault.the-variants.{LostSync, CounterGap, OutsidePacket, Scrambled}
-use Rattle.packets.specs.Faults as Faults
 use Rattle.scanning.specs.declared.finding.Found.{Found}
 use Rattle.scanning.specs.Scanning.{foundIn, rowsIn}
 use Rattle.recordings.specs.Columns.{Columns, roomIn, overAll}
@@ -17,7 +14,7 @@ use Rattle.recordings.specs.declared.Recording.{Recording}
 use Rattle.recordings.specs.declared.Recording.the-variants.{Rows, Faulty, NotRead, TooManyRows}
 
 -- the refusal of packets that has a number, and that of PES headers
-abbrev pub faultOf : ℕ → ℕ → Fault
+abbrev pub faultOf : ℕ → ℕ → Refusal
 faultOf number packet =
     cond (eqb number 30) (LostSync packet)
     (cond (eqb number 31) (CounterGap packet)
@@ -50,12 +47,12 @@ columnsAfter table bytes TooManyRows before = before
 -- the number and the place of a refusal; 0 where there is none
 abbrev pub numberOf : Recording → ℕ
 numberOf (Rows count) = 0
-numberOf (Faulty fault) = Faults.numberOf fault
+numberOf (Faulty fault) = Refusals.numberOf fault
 numberOf (NotRead refusal packet) = Refusals.numberOf refusal
 numberOf TooManyRows = 13
 
 abbrev pub placeOf : Recording → ℕ
 placeOf (Rows count) = 0
-placeOf (Faulty fault) = Faults.placeOf fault
+placeOf (Faulty fault) = Refusals.placeOf fault
 placeOf (NotRead refusal packet) = packet
 placeOf TooManyRows = 0

@@ -9,7 +9,6 @@ ghost use Rattle.scanning.specs.Scanning.{rowIn, rowsIn};
 ghost use Rattle.recordings.specs.Columns.{columns, storedAt, roomIn};
 ghost use Rattle.recordings.specs.Reading.{faultOf, headerRefusal, recordingOf, columnsAfter, numberOf, placeOf};
 use combinators::lesser;
-use packets::Fault;
 use packets::PACKET_BYTES;
 use scanning::Event;
 use scanning::Row;
@@ -18,7 +17,7 @@ use vocabulary::Refusal;
 // The number of rows; or a packet that is refused, a PES header that is refused with the packet in which it stands, or more rows than the columns hold.
 pub enum Recording {
     Rows(usize),
-    Faulty(Fault),
+    Faulty(Refusal),
     NotRead(Refusal, usize),
     TooManyRows,
 }
@@ -29,7 +28,7 @@ pub fn number(recording: Recording) -> u8
 {
     match recording {
         Recording::Rows(_) => 0,
-        Recording::Faulty(fault) => packets::number(fault),
+        Recording::Faulty(fault) => vocabulary::number(fault),
         Recording::NotRead(refusal, _) => vocabulary::number(refusal),
         Recording::TooManyRows => 13,
     }
@@ -41,25 +40,25 @@ pub fn place(recording: Recording) -> usize
 {
     match recording {
         Recording::Rows(_) => 0,
-        Recording::Faulty(fault) => packets::place(fault),
+        Recording::Faulty(fault) => vocabulary::place(fault),
         Recording::NotRead(_, packet) => packet,
         Recording::TooManyRows => 0,
     }
 }
 
-fn fault_of(number: u8, packet: usize) -> Fault
+fn fault_of(number: u8, packet: usize) -> Refusal
     ensures { λ r. ⌜ r ≡ faultOf number packet ⌝ }
 {
     if number == 30 {
-        return Fault::LostSync(packet);
+        return Refusal::LostSync(packet);
     }
     if number == 31 {
-        return Fault::CounterGap(packet);
+        return Refusal::CounterGap(packet);
     }
     if number == 32 {
-        return Fault::OutsidePacket(packet);
+        return Refusal::OutsidePacket(packet);
     }
-    Fault::Scrambled(packet)
+    Refusal::Scrambled(packet)
 }
 
 fn header_refusal(number: u8) -> Refusal

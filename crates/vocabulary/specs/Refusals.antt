@@ -2,7 +2,7 @@
 -- Assumes nothing.
 use Prim.Native.Nat.{ℕ}
 use Rattle.vocabulary.specs.declared.refusal.Refusal.{Refusal}
-use Rattle.vocabulary.specs.declared.refusal.Refusal.the-variants.{LoopTooLong, DoesNotFit, RepeatedPid, WrongLength, SecondRecord, TypeNotAllowed, WrongFlags, RepeatedLayerIndex, WrongEmbeddedIndex, NoSuchLayer, EmbeddedLayerAbsent, OutOfRange, TimeOrderBroken, Unpaired, UsedTwice, NoRoom, SpanTooWide, NotVideoHeader, NoPts, FieldsDoNotFit, WrongMarker, PtsBeforeDts, TooWide, PointsDoNotFit, ReservedEsCount, UnknownReference, NotStereoSet, WrongMvcExtension, RangesMeet}
+use Rattle.vocabulary.specs.declared.refusal.Refusal.the-variants.{LoopTooLong, DoesNotFit, RepeatedPid, WrongLength, SecondRecord, TypeNotAllowed, WrongFlags, RepeatedLayerIndex, WrongEmbeddedIndex, NoSuchLayer, EmbeddedLayerAbsent, OutOfRange, TimeOrderBroken, Unpaired, UsedTwice, NoRoom, SpanTooWide, NotVideoHeader, NoPts, FieldsDoNotFit, WrongMarker, PtsBeforeDts, TooWide, LostSync, CounterGap, OutsidePacket, Scrambled, PointsDoNotFit, ReservedEsCount, UnknownReference, NotStereoSet, WrongMvcExtension, RangesMeet}
 
 -- the column 'No.'
 abbrev pub numberOf : Refusal → ℕ
@@ -29,6 +29,10 @@ numberOf FieldsDoNotFit = 22
 numberOf WrongMarker = 23
 numberOf PtsBeforeDts = 24
 numberOf TooWide = 25
+numberOf (LostSync packet) = 30
+numberOf (CounterGap packet) = 31
+numberOf (OutsidePacket packet) = 32
+numberOf (Scrambled packet) = 33
 numberOf PointsDoNotFit = 40
 numberOf ReservedEsCount = 41
 numberOf UnknownReference = 42
@@ -61,6 +65,10 @@ placeOf FieldsDoNotFit = 0
 placeOf WrongMarker = 0
 placeOf PtsBeforeDts = 0
 placeOf TooWide = 0
+placeOf (LostSync packet) = packet
+placeOf (CounterGap packet) = packet
+placeOf (OutsidePacket packet) = packet
+placeOf (Scrambled packet) = packet
 placeOf PointsDoNotFit = 0
 placeOf ReservedEsCount = 0
 placeOf UnknownReference = 0

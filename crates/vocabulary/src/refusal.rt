@@ -27,6 +27,10 @@ pub enum Refusal {
     WrongMarker,
     PtsBeforeDts,
     TooWide,
+    LostSync(usize),
+    CounterGap(usize),
+    OutsidePacket(usize),
+    Scrambled(usize),
     PointsDoNotFit,
     ReservedEsCount,
     UnknownReference,
@@ -63,6 +67,10 @@ pub fn number(refusal: Refusal) -> u8
         Refusal::WrongMarker => 23,
         Refusal::PtsBeforeDts => 24,
         Refusal::TooWide => 25,
+        Refusal::LostSync(_) => 30,
+        Refusal::CounterGap(_) => 31,
+        Refusal::OutsidePacket(_) => 32,
+        Refusal::Scrambled(_) => 33,
         Refusal::PointsDoNotFit => 40,
         Refusal::ReservedEsCount => 41,
         Refusal::UnknownReference => 42,
@@ -72,7 +80,7 @@ pub fn number(refusal: Refusal) -> u8
     }
 }
 
-// The place of a refusal: an entry, a row or a layer index, and 0 where document 01 names none.
+// The place of a refusal: an entry, a row, a layer index or a packet, and 0 where document 01 names none.
 pub fn place(refusal: Refusal) -> usize
     ensures { λ r. ⌜ r ≡ placeOf refusal ⌝ }
 {
@@ -100,6 +108,10 @@ pub fn place(refusal: Refusal) -> usize
         Refusal::WrongMarker => 0,
         Refusal::PtsBeforeDts => 0,
         Refusal::TooWide => 0,
+        Refusal::LostSync(packet) => packet,
+        Refusal::CounterGap(packet) => packet,
+        Refusal::OutsidePacket(packet) => packet,
+        Refusal::Scrambled(packet) => packet,
         Refusal::PointsDoNotFit => 0,
         Refusal::ReservedEsCount => 0,
         Refusal::UnknownReference => 0,

@@ -6,7 +6,7 @@ use mathlib.Core.Path.{_≡_, refl}
 use Rattle.combinators.specs.Those.{those}
 use Rattle.vocabulary.specs.declared.stream_types.Reading.the-variants.{Edition2009, Edition2015}
 use Rattle.vocabulary.specs.declared.refusal.Refusal.{Refusal}
-use Rattle.vocabulary.specs.declared.refusal.Refusal.the-variants.{LoopTooLong, DoesNotFit, RepeatedPid, WrongLength, SecondRecord, TypeNotAllowed, WrongFlags, RepeatedLayerIndex, WrongEmbeddedIndex, NoSuchLayer, EmbeddedLayerAbsent, OutOfRange, TimeOrderBroken, Unpaired, UsedTwice, NoRoom, SpanTooWide, NotVideoHeader, NoPts, FieldsDoNotFit, WrongMarker, PtsBeforeDts, TooWide, PointsDoNotFit, ReservedEsCount, UnknownReference, NotStereoSet, WrongMvcExtension, RangesMeet}
+use Rattle.vocabulary.specs.declared.refusal.Refusal.the-variants.{LoopTooLong, DoesNotFit, RepeatedPid, WrongLength, SecondRecord, TypeNotAllowed, WrongFlags, RepeatedLayerIndex, WrongEmbeddedIndex, NoSuchLayer, EmbeddedLayerAbsent, OutOfRange, TimeOrderBroken, Unpaired, UsedTwice, NoRoom, SpanTooWide, NotVideoHeader, NoPts, FieldsDoNotFit, WrongMarker, PtsBeforeDts, TooWide, LostSync, CounterGap, OutsidePacket, Scrambled, PointsDoNotFit, ReservedEsCount, UnknownReference, NotStereoSet, WrongMvcExtension, RangesMeet}
 use Rattle.vocabulary.specs.Refusals.{numberOf, placeOf}
 use Rattle.vocabulary.specs.StreamTypes.{known, mayStandOn}
 
@@ -68,6 +68,14 @@ refusalTable p =
     ∷ line 24 0 PtsBeforeDts
     -- 'a value to be written is too wide for its field'
     ∷ line 25 0 TooWide
+    -- W-202: 'lost sync'
+    ∷ line 30 p (LostSync p)
+    -- 'counter gap without a discontinuity indicator'
+    ∷ line 31 p (CounterGap p)
+    -- 'an adaptation field, or a PES header (9 bytes and its data), not within its packet'
+    ∷ line 32 p (OutsidePacket p)
+    -- 'scrambled payload'
+    ∷ line 33 p (Scrambled p)
     -- W-205: 'a descriptor whose fields don't fill its length exactly or that runs past its loop, or a loop over 1,008 bytes'
     ∷ line 40 0 PointsDoNotFit
     -- 'a reserved ES_count'

@@ -166,6 +166,26 @@ refusals! {
     24 PtsBeforeDts,
     /// 25: a value to be written is too wide for its field.
     25 TooWide,
+    /// 30: packet {} has lost sync, or is the last part of one.
+    30 LostSync {
+        /// The packet, from 0.
+        packet: usize
+    },
+    /// 31: packet {}, on a layer's PID, has another counter than the next one, and no discontinuity indicator.
+    31 CounterGap {
+        /// The packet, from 0.
+        packet: usize
+    },
+    /// 32: packet {}, on a layer's PID, has an adaptation field, or a PES header (9 bytes and its data), that is not within it.
+    32 OutsidePacket {
+        /// The packet, from 0.
+        packet: usize
+    },
+    /// 33: packet {}, on a layer's PID, has a scrambled payload.
+    33 Scrambled {
+        /// The packet, from 0.
+        packet: usize
+    },
     /// 40: the program's descriptor loop is longer than 1,008 bytes, a descriptor in it runs past it, or the fields of an operation point descriptor don't fill its length exactly.
     40 PointsDoNotFit,
     /// 41: an operation point has the reserved ES_count 0xFF.

@@ -27,7 +27,7 @@ returns : tie.Need-returns
 returns c = search needs
 
 returns-2 : tie.Need-returns-2
-returns-2 c = search needs
+returns-2 c = c .number .ensures ∙ sym (ap numberOf (c .before .before .recording .given .1))
 
 returns-3 : tie.Need-returns-3
 returns-3 c = c .number2 .ensures ∙ sym (ap numberOf (c .before .before .recording2 .given .1))

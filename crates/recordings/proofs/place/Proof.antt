@@ -1,6 +1,6 @@
 -- `recordings::place` meets its contract: each case has its place. Assumes nothing.
 use borrow.Author.Needs.{needs}
-use mathlib.Core.Path.{sym, ap}
+use mathlib.Core.Path.{sym, ap, _∙_}
 use Rattle.recordings.specs.Reading.{placeOf}
 use Rattle.recordings.proofs.place.Statement.{statement}
 use Rattle.recordings.proofs.place.Tie as tie
@@ -24,7 +24,7 @@ returns : tie.Need-returns
 returns c = search needs
 
 returns-2 : tie.Need-returns-2
-returns-2 c = search needs
+returns-2 c = c .place .ensures ∙ sym (ap placeOf (c .before .before .recording .given .1))
 
 returns-3 : tie.Need-returns-3
 returns-3 c = sym (ap placeOf (c .before .recording2 .given .1))

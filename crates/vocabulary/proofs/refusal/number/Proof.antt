@@ -93,6 +93,18 @@ enum-told-28 c = search needs
 enum-told-29 : tie.Need-enum-told-29
 enum-told-29 c = search needs
 
+enum-told-30 : tie.Need-enum-told-30
+enum-told-30 c = search needs
+
+enum-told-31 : tie.Need-enum-told-31
+enum-told-31 c = search needs
+
+enum-told-32 : tie.Need-enum-told-32
+enum-told-32 c = search needs
+
+enum-told-33 : tie.Need-enum-told-33
+enum-told-33 c = search needs
+
 returns : tie.Need-returns
 returns c = sym (ap numberOf (c .enum-told .given .1))
 
@@ -180,6 +192,18 @@ returns-28 c = sym (ap numberOf (c .enum-told28 .given .1))
 returns-29 : tie.Need-returns-29
 returns-29 c = sym (ap numberOf (c .enum-told29 .given .1))
 
+returns-30 : tie.Need-returns-30
+returns-30 c = sym (ap numberOf (c .enum-told30 .given .1))
+
+returns-31 : tie.Need-returns-31
+returns-31 c = sym (ap numberOf (c .enum-told31 .given .1))
+
+returns-32 : tie.Need-returns-32
+returns-32 c = sym (ap numberOf (c .enum-told32 .given .1))
+
+returns-33 : tie.Need-returns-33
+returns-33 c = sym (ap numberOf (c .enum-told33 .given .1))
+
 pub number-spec : {M : Type 1} → statement M
 number-spec =
     tie.close
@@ -213,6 +237,10 @@ number-spec =
     enum-told-27
     enum-told-28
     enum-told-29
+    enum-told-30
+    enum-told-31
+    enum-told-32
+    enum-told-33
     returns
     returns-2
     returns-3
@@ -241,4 +269,8 @@ number-spec =
     returns-26
     returns-27
     returns-28
-    returns-29)
+    returns-29
+    returns-30
+    returns-31
+    returns-32
+    returns-33)

@@ -78,6 +78,18 @@ enum-told-9 c = search needs
 enum-told-10 : tie.Need-enum-told-10
 enum-told-10 c = search needs
 
+enum-known-refusal-14 : tie.Need-enum-known-refusal-14
+enum-known-refusal-14 c = search needs
+
+enum-known-refusal-15 : tie.Need-enum-known-refusal-15
+enum-known-refusal-15 c = search needs
+
+enum-known-refusal-16 : tie.Need-enum-known-refusal-16
+enum-known-refusal-16 c = search needs
+
+enum-known-refusal-17 : tie.Need-enum-known-refusal-17
+enum-known-refusal-17 c = search needs
+
 enum-told-11 : tie.Need-enum-told-11
 enum-told-11 c = search needs
 
@@ -166,22 +178,34 @@ returns-23 : tie.Need-returns-23
 returns-23 c = sym (ap placeOf (c .enum-told10 .given .1))
 
 returns-24 : tie.Need-returns-24
-returns-24 c = sym (ap placeOf (c .enum-told11 .given .1))
+returns-24 c = sym (ap placeOf (c .before .refusal14 .given .1))
 
 returns-25 : tie.Need-returns-25
-returns-25 c = sym (ap placeOf (c .enum-told12 .given .1))
+returns-25 c = sym (ap placeOf (c .before .refusal15 .given .1))
 
 returns-26 : tie.Need-returns-26
-returns-26 c = sym (ap placeOf (c .enum-told13 .given .1))
+returns-26 c = sym (ap placeOf (c .before .refusal16 .given .1))
 
 returns-27 : tie.Need-returns-27
-returns-27 c = sym (ap placeOf (c .enum-told14 .given .1))
+returns-27 c = sym (ap placeOf (c .before .refusal17 .given .1))
 
 returns-28 : tie.Need-returns-28
-returns-28 c = sym (ap placeOf (c .enum-told15 .given .1))
+returns-28 c = sym (ap placeOf (c .enum-told11 .given .1))
 
 returns-29 : tie.Need-returns-29
-returns-29 c = sym (ap placeOf (c .enum-told16 .given .1))
+returns-29 c = sym (ap placeOf (c .enum-told12 .given .1))
+
+returns-30 : tie.Need-returns-30
+returns-30 c = sym (ap placeOf (c .enum-told13 .given .1))
+
+returns-31 : tie.Need-returns-31
+returns-31 c = sym (ap placeOf (c .enum-told14 .given .1))
+
+returns-32 : tie.Need-returns-32
+returns-32 c = sym (ap placeOf (c .enum-told15 .given .1))
+
+returns-33 : tie.Need-returns-33
+returns-33 c = sym (ap placeOf (c .enum-told16 .given .1))
 
 pub place-spec : {M : Type 1} → statement M
 place-spec =
@@ -211,6 +235,10 @@ place-spec =
     enum-told-8
     enum-told-9
     enum-told-10
+    enum-known-refusal-14
+    enum-known-refusal-15
+    enum-known-refusal-16
+    enum-known-refusal-17
     enum-told-11
     enum-told-12
     enum-told-13
@@ -245,4 +273,8 @@ place-spec =
     returns-26
     returns-27
     returns-28
-    returns-29)
+    returns-29
+    returns-30
+    returns-31
+    returns-32
+    returns-33)
