@@ -20,10 +20,10 @@ use Rattle.packets.specs.Reading.{packetBytes}
 use Rattle.scanning.specs.declared.events.Row.{Row}
 use Rattle.scanning.specs.declared.events.Event.{Event}
 use Rattle.scanning.specs.declared.events.Event.the-variants.{Nothing, Fault, NotRead, Unit}
-use Rattle.scanning.specs.declared.finding.Found.{Found}
+use Rattle.unit_starts.specs.declared.Found.{Found}
 use Rattle.scanning.specs.Events.{packetsIn, noneYet, eventOf, lastsAfter}
-use Rattle.scanning.specs.Scanning.{rowIn, rowsFrom, rowsIn, foundIn}
-use Rattle.scanning.proofs.Running.{rows-counted}
+use Rattle.unit_starts.specs.Finding.{rowIn, rowsFrom, rowsIn, foundIn}
+use Rattle.unit_starts.proofs.Running.{rows-counted}
 use Rattle.recordings.specs.Reading.{faultOf, headerRefusal, answerOf}
 use Rattle.recordings.specs.Meaning.{Gives, last-part, lost-sync, other-pid, on-layer, RowsFrom, ended, without, with-row, Clear, Readable, Answers, faulty, not-read, too-many, all-rows}
 use Rattle.recordings.specs.declared.Recording.{Recording}

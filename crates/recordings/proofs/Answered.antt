@@ -38,10 +38,10 @@ use Rattle.continuity.specs.Following.{isCopy, isGap, aloneOf, afterOf, isThere
 use Rattle.packets.specs.Reading.{packetBytes, packetOf}
 use Rattle.scanning.specs.declared.events.Event.{Event}
 use Rattle.scanning.specs.declared.events.Event.the-variants.{Nothing, Fault, NotRead, Unit}
-use Rattle.scanning.specs.declared.finding.Mark.{Mark}
-use Rattle.scanning.specs.declared.finding.Found.{Found}
+use Rattle.unit_starts.specs.declared.Mark.{Mark}
+use Rattle.unit_starts.specs.declared.Found.{Found}
 use Rattle.scanning.specs.Events.{packetsIn, noneYet, layerOf, onLayer, headerEvent, stepEvent, stepIn, eventOf}
-use Rattle.scanning.specs.Scanning.{lowerOf, nothingFound, noted, foundFrom, foundIn}
+use Rattle.unit_starts.specs.Finding.{lowerOf, nothingFound, noted, foundFrom, foundIn}
 use Rattle.recordings.proofs.Meant.{lastsAt, lasts-next}
 
 -- every packet of a recording that is cut has 188 bytes

@@ -4,7 +4,7 @@ use Prim.Native.Nat.{ℕ}
 use mathlib.Core.Path.{_≡_}
 use mathlib.Core.Bool.{Bool, cond}
 use lib.Dec.{ltb}
-use Rattle.scanning.specs.declared.finding.Found.{Found}
+use Rattle.unit_starts.specs.declared.Found.{Found}
 use Rattle.recordings.specs.Reading.{faultOf, headerRefusal, answerOf}
 use Rattle.recordings.specs.declared.Recording.{Recording}
 use Rattle.recordings.specs.declared.Recording.the-variants.{Rows, Faulty, NotRead, TooManyRows}

@@ -1,4 +1,4 @@
-pub mod Laying
+pub mod Preparing
 pub mod Answering
 pub mod Meant
 pub mod Answered

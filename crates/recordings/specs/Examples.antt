@@ -7,7 +7,7 @@ use mathlib.Core.List.{List, [], _∷_, _++_}
 use lib.ListN.{replicate}
 use Rattle.packets.specs.Examples.{filled}
 use Rattle.vocabulary.specs.declared.refusal.Refusal.the-variants.{NotVideoHeader, LostSync, CounterGap}
-use Rattle.scanning.specs.Scanning.{foundIn, rowsIn}
+use Rattle.unit_starts.specs.Finding.{foundIn, rowsIn}
 use Rattle.recordings.specs.Reading.{answerOf}
 use Rattle.recordings.specs.declared.Recording.the-variants.{Rows, Faulty, NotRead, TooManyRows}
 

@@ -1,4 +1,3 @@
-pub mod Columns
 pub mod Reading
 pub mod Meaning
 pub mod Examples

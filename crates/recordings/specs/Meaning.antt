@@ -17,7 +17,7 @@ use Rattle.scanning.specs.declared.events.Event.{Event}
 use Rattle.scanning.specs.declared.events.Event.the-variants.{Nothing, Fault, NotRead, Unit}
 use Rattle.scanning.specs.declared.events.Row.{Row}
 use Rattle.scanning.specs.Events.{layers, layerOf, stepEvent}
-use Rattle.scanning.specs.Scanning.{rowIn}
+use Rattle.unit_starts.specs.Finding.{rowIn}
 use Rattle.recordings.specs.declared.Recording.{Recording}
 use Rattle.recordings.specs.declared.Recording.the-variants.{Rows, Faulty, NotRead as Unread, TooManyRows}
 

@@ -1,15 +1,15 @@
 -- THE ANSWER for a recording: its rows, or the refusal: the lowest of 30 to 33, then the lowest of 20 to 24, each at its earliest packet, then 13.
 -- Assumes nothing.
-use Prim.Native.Nat.{ℕ}
+use Prim.Native.Nat.{ℕ, min}
 use mathlib.Core.Bool.{cond}
 use mathlib.Core.List.{List}
 use lib.Dec.{ltb, eqb}
 use Rattle.vocabulary.specs.declared.refusal.Refusal.{Refusal}
 use Rattle.vocabulary.specs.declared.refusal.Refusal.the-variants.{NotVideoHeader, NoPts, FieldsDoNotFit, WrongMarker, PtsBeforeDts, LostSync, CounterGap, OutsidePacket, Scrambled}
 use Rattle.vocabulary.specs.Refusals as Refusals
-use Rattle.scanning.specs.declared.finding.Found.{Found}
-use Rattle.scanning.specs.Scanning.{foundIn, rowsIn}
-use Rattle.recordings.specs.Columns.{Columns, roomIn, overAll}
+use Rattle.unit_starts.specs.declared.Found.{Found}
+use Rattle.unit_starts.specs.Finding.{foundIn, rowsIn}
+use Rattle.recording_rows.specs.Columns.{Columns, roomIn, overAll}
 use Rattle.recordings.specs.declared.Recording.{Recording}
 use Rattle.recordings.specs.declared.Recording.the-variants.{Rows, Faulty, NotRead, TooManyRows}
 
@@ -34,8 +34,15 @@ answerOf f room =
     (cond (ltb (f .refusal .number) 25) (NotRead (headerRefusal (f .refusal .number)) (f .refusal .packet))
     (cond (ltb room (f .rows)) TooManyRows (Rows (f .rows))))
 
-abbrev pub recordingOf : List ℕ → List ℕ → Columns → Recording
-recordingOf table bytes before = answerOf (foundIn table bytes) (roomIn before)
+-- of a recording, where so many packets can be noted
+abbrev pub recordingOf : List ℕ → List ℕ → ℕ → Columns → Recording
+recordingOf table bytes places before = answerOf (foundIn table bytes) (min places (roomIn before))
+
+abbrev pub rowsCount : Recording → ℕ
+rowsCount (Rows count) = count
+rowsCount (Faulty fault) = 0
+rowsCount (NotRead refusal packet) = 0
+rowsCount TooManyRows = 0
 
 -- what the columns hold: the rows, and after a refusal all is as it was
 abbrev pub columnsAfter : List ℕ → List ℕ → Recording → Columns → Columns

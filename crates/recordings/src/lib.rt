@@ -1,17 +1,13 @@
 // The rows of a recording of transport packets, straight from its bytes: each unit that starts on a layer's PID is one, laid into columns that the caller lends,
-// or the refusal (30 to 33, 20 to 24, 13), with every column as it was. The first walk judges and counts, the second lays.
-ghost use mathlib.Core.List.{[], _∷_};
+// or the refusal (30 to 33, 20 to 24, 13), with every column as it was. One walk over the packets judges them and notes where units start; the rows are then laid
+// from there alone.
 ghost use mathlib.Core.Path.{_≡_};
-ghost use Prim.Native.Nat.{_+_, _≤_};
+ghost use Prim.Native.Nat.{min};
 ghost use lib.ListN.{length};
-ghost use Rattle.syntax.specs.Filled.{bitOf};
-ghost use Rattle.scanning.specs.Scanning.{rowIn, rowsIn};
-ghost use Rattle.recordings.specs.Columns.{columns, storedAt, roomIn};
-ghost use Rattle.recordings.specs.Reading.{faultOf, headerRefusal, recordingOf, columnsAfter, numberOf, placeOf};
+ghost use Rattle.recording_rows.specs.Columns.{columns};
+ghost use Rattle.recordings.specs.Reading.{faultOf, headerRefusal, answerOf, recordingOf, rowsCount, columnsAfter, numberOf, placeOf};
 use combinators::lesser;
-use packets::PACKET_BYTES;
-use scanning::Event;
-use scanning::Row;
+use unit_starts::Found;
 use vocabulary::Refusal;
 
 // The number of rows; or a packet that is refused, a PES header that is refused with the packet in which it stands, or more rows than the columns hold.
@@ -79,104 +75,10 @@ fn header_refusal(number: u8) -> Refusal
     Refusal::PtsBeforeDts
 }
 
-fn bit(flag: bool) -> u8
-    ensures { λ r. ⌜ r ≡ bitOf flag ⌝ }
+// THE ANSWER to what was found, where there is room for so many rows.
+pub fn answer_of(found: Found, room: usize) -> Recording
+    ensures { λ r. ⌜ r ≡ answerOf found room ⌝ }
 {
-    if flag { 1 } else { 0 }
-}
-
-// One row, at a place of each column.
-fn put_row(
-    row: Row,
-    at: usize,
-    indices: &mut [u8],
-    decodings: &mut [u64],
-    matches: &mut [u64],
-    trefs: &mut [u8],
-    numbers: &mut [u64],
-)
-    requires { ⌜ at + 1 ≤ roomIn (columns (now indices) (now decodings) (now matches) (now trefs) (now numbers)) ⌝ }
-    ensures { λ _. ⌜ columns (now (indices .exit)) (now (decodings .exit)) (now (matches .exit)) (now (trefs .exit)) (now (numbers .exit))
-        ≡ storedAt at (row ∷ []) (columns (now (indices .entry)) (now (decodings .entry)) (now (matches .entry)) (now (trefs .entry)) (now (numbers .entry))) ⌝ }
-{
-    indices[at] = row.layer;
-    decodings[at] = row.decoding;
-    matches[at] = row.matching;
-    trefs[at] = bit(row.tref_sent);
-    numbers[at] = row.packet as u64;
-}
-
-// What a packet gives, if that is a row; and the place after it.
-fn put(
-    given: Event,
-    at: usize,
-    indices: &mut [u8],
-    decodings: &mut [u64],
-    matches: &mut [u64],
-    trefs: &mut [u8],
-    numbers: &mut [u64],
-) -> usize
-    requires { ⌜ at + length (rowIn given) ≤ roomIn (columns (now indices) (now decodings) (now matches) (now trefs) (now numbers)) ⌝ }
-    ensures place { λ r. ⌜ r ≡ at + length (rowIn given) ⌝ }
-    ensures content { λ _. ⌜ columns (now (indices .exit)) (now (decodings .exit)) (now (matches .exit)) (now (trefs .exit)) (now (numbers .exit))
-        ≡ storedAt at (rowIn given) (columns (now (indices .entry)) (now (decodings .entry)) (now (matches .entry)) (now (trefs .entry)) (now (numbers .entry))) ⌝ }
-{
-    match given {
-        Event::Nothing => at,
-        Event::Fault(_) => at,
-        Event::NotRead(_) => at,
-        Event::Unit(row) => {
-            put_row(row, at, indices, decodings, matches, trefs, numbers);
-            at + 1
-        }
-    }
-}
-
-// The second walk, where there is room for all rows.
-fn lay(
-    table: &[u8; 8192],
-    bytes: &[u8],
-    indices: &mut [u8],
-    decodings: &mut [u64],
-    matches: &mut [u64],
-    trefs: &mut [u8],
-    numbers: &mut [u64],
-)
-    requires { ⌜ length (rowsIn (now table) (now bytes)) ≤ roomIn (columns (now indices) (now decodings) (now matches) (now trefs) (now numbers)) ⌝ }
-    ensures { λ _. ⌜ columns (now (indices .exit)) (now (decodings .exit)) (now (matches .exit)) (now (trefs .exit)) (now (numbers .exit))
-        ≡ storedAt 0 (rowsIn (now (table .entry)) (now (bytes .entry)))
-        (columns (now (indices .entry)) (now (decodings .entry)) (now (matches .entry)) (now (trefs .entry)) (now (numbers .entry))) ⌝ }
-{
-    let packets = bytes.len() / PACKET_BYTES;
-    let mut ends = [0usize; 64];
-    let mut at = 0;
-    let mut number = scanning::skip(table, bytes, 0, packets);
-    while number < packets {
-        let given = scanning::look_at(table, bytes, number, &mut ends);
-        at = put(given, at, indices, decodings, matches, trefs, numbers);
-        number = scanning::skip(table, bytes, number + 1, packets);
-    }
-}
-
-// THE CALL. For each PID its layer index, or 64 or more where it is no layer's; the bytes of the recording; and the columns, of any lengths, which
-// together say how many rows there may be.
-pub fn read_recording(
-    table: &[u8; 8192],
-    bytes: &[u8],
-    indices: &mut [u8],
-    decodings: &mut [u64],
-    matches: &mut [u64],
-    trefs: &mut [u8],
-    numbers: &mut [u64],
-) -> Recording
-    ensures answer { λ r. ⌜ r
-        ≡ recordingOf (now (table .entry)) (now (bytes .entry))
-        (columns (now (indices .entry)) (now (decodings .entry)) (now (matches .entry)) (now (trefs .entry)) (now (numbers .entry))) ⌝ }
-    ensures content { λ r. ⌜ columns (now (indices .exit)) (now (decodings .exit)) (now (matches .exit)) (now (trefs .exit)) (now (numbers .exit))
-        ≡ columnsAfter (now (table .entry)) (now (bytes .entry)) r
-        (columns (now (indices .entry)) (now (decodings .entry)) (now (matches .entry)) (now (trefs .entry)) (now (numbers .entry))) ⌝ }
-{
-    let found = scanning::judge(table, bytes);
     let fault = found.fault;
     if fault.number < 34 {
         return Recording::Faulty(fault_of(fault.number, fault.packet));
@@ -185,17 +87,83 @@ pub fn read_recording(
     if refusal.number < 25 {
         return Recording::NotRead(header_refusal(refusal.number), refusal.packet);
     }
-    let rows = found.rows;
-    let room = lesser(
-        indices.len(),
-        lesser(
-            decodings.len(),
-            lesser(matches.len(), lesser(trefs.len(), numbers.len())),
-        ),
-    );
-    if room < rows {
+    if room < found.rows {
         return Recording::TooManyRows;
     }
-    lay(table, bytes, indices, decodings, matches, trefs, numbers);
-    Recording::Rows(rows)
+    Recording::Rows(found.rows)
+}
+
+// The number of rows, and 0 where there is a refusal.
+fn rows_in(recording: Recording) -> usize
+    ensures { λ r. ⌜ r ≡ rowsCount recording ⌝ }
+{
+    match recording {
+        Recording::Rows(rows) => rows,
+        Recording::Faulty(_) => 0,
+        Recording::NotRead(_, _) => 0,
+        Recording::TooManyRows => 0,
+    }
+}
+
+// The rows that there is room for.
+fn room_for(
+    starts: usize,
+    indices: usize,
+    decodings: usize,
+    matches: usize,
+    trefs: usize,
+    numbers: usize,
+) -> usize
+    ensures { λ r. ⌜ r ≡ min starts (min indices (min decodings (min matches (min trefs numbers)))) ⌝ }
+{
+    lesser(
+        starts,
+        lesser(
+            indices,
+            lesser(decodings, lesser(matches, lesser(trefs, numbers))),
+        ),
+    )
+}
+
+// THE CALL. For each PID its layer index, or 64 or more where it is no layer's; the bytes of the recording; work space, in which the packets are noted in which
+// units start; and the columns. They and the work space may have any lengths, which together say how many rows there may be.
+pub fn read_recording(
+    table: &[u8; 8192],
+    bytes: &[u8],
+    starts: &mut [u64],
+    indices: &mut [u8],
+    decodings: &mut [u64],
+    matches: &mut [u64],
+    trefs: &mut [u8],
+    numbers: &mut [u64],
+) -> Recording
+    ensures answer { λ r. ⌜ r
+        ≡ recordingOf (now (table .entry)) (now (bytes .entry)) (length (now (starts .entry)))
+        (columns (now (indices .entry)) (now (decodings .entry)) (now (matches .entry)) (now (trefs .entry)) (now (numbers .entry))) ⌝ }
+    ensures content { λ r. ⌜ columns (now (indices .exit)) (now (decodings .exit)) (now (matches .exit)) (now (trefs .exit)) (now (numbers .exit))
+        ≡ columnsAfter (now (table .entry)) (now (bytes .entry)) r
+        (columns (now (indices .entry)) (now (decodings .entry)) (now (matches .entry)) (now (trefs .entry)) (now (numbers .entry))) ⌝ }
+{
+    let found = unit_starts::judge(table, bytes, starts);
+    let room = room_for(
+        starts.len(),
+        indices.len(),
+        decodings.len(),
+        matches.len(),
+        trefs.len(),
+        numbers.len(),
+    );
+    let answer = answer_of(found, room);
+    let rows = rows_in(answer);
+    recording_rows::lay_all(
+        table,
+        bytes,
+        &starts[..rows],
+        indices,
+        decodings,
+        matches,
+        trefs,
+        numbers,
+    );
+    answer
 }

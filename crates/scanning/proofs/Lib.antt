@@ -1,3 +1,1 @@
 pub mod Looking
-pub mod Running
-pub mod Walking

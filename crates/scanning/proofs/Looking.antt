@@ -1,12 +1,12 @@
 -- One packet of a recording: where its header starts, its first bytes, and the last packets as places.
 -- Assumes nothing.
 use Prim.Native.Nat.{ℕ, zero, suc, _+_, _-_, _*_, _%_, _≤_, _<_}
-use mathlib.Core.Path.{_≡_, refl, sym, ap, ap₂, _∙_}
+use mathlib.Core.Path.{_≡_, refl, sym, ap, ap₂, subst, _∙_}
 use mathlib.Core.Bool.{Bool, true, false, cond, not, _&&_}
 use mathlib.Core.List.{List, [], _∷_}
 use mathlib.Core.Logic.{⊎-elim}
 use native.Mathlib.Decide.{decLt}
-use native.Mathlib.Nat.{add-zero, eq-or-lt-of-le}
+use native.Mathlib.Nat.{add-zero, zero-add, add-suc, suc-add, eq-or-lt-of-le}
 use native.Mathlib.Omega.{arith}
 use borrow.Author.Tests.{ltb-true, ltb-false, lt-ltb, le-ltb, eq-eqb, ne-eqb}
 use lib.Dec.{eqb, ltb}
@@ -24,7 +24,7 @@ use Rattle.continuity.specs.declared.Step.{Step}
 use Rattle.continuity.specs.declared.Step.the-variants.{Skipped, Copy, Faulty, Starts, Continues}
 use Rattle.continuity.specs.Following.{isCopy, isGap, aloneOf, afterOf, isThere, stepOf}
 use Rattle.scanning.specs.declared.events.Event.the-variants.{Nothing, Fault}
-use Rattle.scanning.specs.Events.{lastBy, startIn, stepEvent, stepIn, packetEvent, packetLasts, layerOf, onLayer, isQuiet, packetAt, endingAt, lastsOf, EndsWithin, quietBy, Passes}
+use Rattle.scanning.specs.Events.{lastBy, startIn, stepEvent, stepIn, packetEvent, packetLasts, layerOf, onLayer, isQuiet, packetAt, endingAt, keptAt, lastAt, lastsFrom, lastsOf, LastWithin, EndsWithin, quietBy, Passes}
 
 -- ---- a header starts within its packet
 
@@ -105,51 +105,92 @@ module _ (table packet : List ℕ) (bytes : AreBytes packet) where
 
 -- ---- the last packets as the places at which they end
 
-pub lasts-set : (bytes ends : List ℕ) (slot end : ℕ) → lastsOf bytes (set ends slot end) ≡ set (lastsOf bytes ends) slot (endingAt bytes end)
-lasts-set bytes [] slot end = refl
-lasts-set bytes (e ∷ ends) zero end = refl
-lasts-set bytes (e ∷ ends) (suc slot) end = ap (λ (l : List (List ℕ)). endingAt bytes e ∷ l) (lasts-set bytes ends slot end)
+lasts-set-from : (kept bytes : List ℕ) (from : ℕ) (ends : List ℕ) (slot end : ℕ)
+    → lastsFrom kept bytes from (set ends slot end) ≡ set (lastsFrom kept bytes from ends) slot (lastAt kept bytes (from + slot) end)
+lasts-set-from kept bytes from [] slot end = refl
+lasts-set-from kept bytes from (e ∷ ends) zero end =
+    ap (λ (n : ℕ). lastAt kept bytes n end ∷ lastsFrom kept bytes (suc from) ends) (sym (add-zero from))
+lasts-set-from kept bytes from (e ∷ ends) (suc slot) end =
+    ap (λ (l : List (List ℕ)). lastAt kept bytes from e ∷ l)
+    (lasts-set-from kept bytes (suc from) ends slot end
+    ∙ ap (λ (n : ℕ). set (lastsFrom kept bytes (suc from) ends) slot (lastAt kept bytes n end)) (suc-add from slot ∙ sym (add-suc from slot)))
 
-pub last-at : (bytes ends : List ℕ) (slot : ℕ) → getD (lastsOf bytes ends) slot [] ≡ endingAt bytes (getD ends slot 0)
-last-at bytes [] slot = refl
-last-at bytes (e ∷ ends) zero = refl
-last-at bytes (e ∷ ends) (suc slot) = last-at bytes ends slot
+pub lasts-set : (kept bytes ends : List ℕ) (slot end : ℕ)
+    → lastsOf kept bytes (set ends slot end) ≡ set (lastsOf kept bytes ends) slot (lastAt kept bytes slot end)
+lasts-set kept bytes ends slot end =
+    lasts-set-from kept bytes 0 ends slot end ∙ ap (λ (n : ℕ). set (lastsOf kept bytes ends) slot (lastAt kept bytes n end)) (zero-add slot)
 
-pub ending-at-next : (bytes : List ℕ) (k : ℕ) → endingAt bytes (packetBytes * k + packetBytes) ≡ packetAt bytes k
+last-at-from : (kept bytes : List ℕ) (from : ℕ) (ends : List ℕ) (slot : ℕ)
+    → getD (lastsFrom kept bytes from ends) slot [] ≡ lastAt kept bytes (from + slot) (getD ends slot 0)
+last-at-from kept bytes from [] slot = refl
+last-at-from kept bytes from (e ∷ ends) zero = ap (λ (n : ℕ). lastAt kept bytes n e) (sym (add-zero from))
+last-at-from kept bytes from (e ∷ ends) (suc slot) =
+    last-at-from kept bytes (suc from) ends slot ∙ ap (λ (n : ℕ). lastAt kept bytes n (getD ends slot 0)) (suc-add from slot ∙ sym (add-suc from slot))
+
+pub last-at : (kept bytes ends : List ℕ) (slot : ℕ) → getD (lastsOf kept bytes ends) slot [] ≡ lastAt kept bytes slot (getD ends slot 0)
+last-at kept bytes ends slot = last-at-from kept bytes 0 ends slot ∙ ap (λ (n : ℕ). lastAt kept bytes n (getD ends slot 0)) (zero-add slot)
+
+-- a packet of these bytes
+ending-at-next : (bytes : List ℕ) (k : ℕ) → endingAt bytes (packetBytes * k + packetBytes) ≡ packetAt bytes k
 ending-at-next bytes k =
     let start : packetBytes * k + packetBytes - packetBytes ≡ packetBytes * k = omega arith in
     let size : packetBytes * k + packetBytes - (packetBytes * k) ≡ packetBytes = omega arith in
     ap (λ (n : ℕ). take (packetBytes * k + packetBytes - n) (drop n bytes)) start ∙ ap (λ (n : ℕ). take n (drop (packetBytes * k) bytes)) size
 
--- whichever of two places it is
-pub last-by-end : (bytes : List ℕ) (step : Step) (end next : ℕ) → endingAt bytes (lastBy step end next) ≡ lastBy step (endingAt bytes end) (endingAt bytes next)
-last-by-end bytes Skipped end next = refl
-last-by-end bytes Copy end next = refl
-last-by-end bytes (Faulty n) end next = refl
-last-by-end bytes (Starts n) end next = refl
-last-by-end bytes Continues end next = refl
+pub last-here : (kept bytes : List ℕ) (slot k : ℕ) → lastAt kept bytes slot (packetBytes * k + packetBytes) ≡ packetAt bytes k
+last-here kept bytes slot k =
+    ap (λ (t : Bool). cond t (keptAt kept slot) (endingAt bytes (packetBytes * k + packetBytes))) (ne-eqb (packetBytes * k + packetBytes) 1 (λ e. omega arith))
+    ∙ ending-at-next bytes k
 
-pub last-by-within : (step : Step) {end next bound : ℕ} → end ≤ bound → next ≤ bound → lastBy step end next ≤ bound
+-- whichever of two places it is
+pub last-by-end : (kept bytes : List ℕ) (slot : ℕ) (step : Step) (end next : ℕ)
+    → lastAt kept bytes slot (lastBy step end next) ≡ lastBy step (lastAt kept bytes slot end) (lastAt kept bytes slot next)
+last-by-end kept bytes slot Skipped end next = refl
+last-by-end kept bytes slot Copy end next = refl
+last-by-end kept bytes slot (Faulty n) end next = refl
+last-by-end kept bytes slot (Starts n) end next = refl
+last-by-end kept bytes slot Continues end next = refl
+
+pub last-by-within : {kept bytes : List ℕ} {slot : ℕ} (step : Step) {end next : ℕ} → LastWithin kept bytes slot end → LastWithin kept bytes slot next
+    → LastWithin kept bytes slot (lastBy step end next)
 last-by-within Skipped h k = h
 last-by-within Copy h k = k
 last-by-within (Faulty n) h k = k
 last-by-within (Starts n) h k = k
 last-by-within Continues h k = k
 
-set-within : (bound : ℕ) (ends : List ℕ) (slot end : ℕ) → end ≤ bound → ((i : ℕ) → getD ends i 0 ≤ bound) → (i : ℕ) → getD (set ends slot end) i 0 ≤ bound
-set-within bound [] slot end h all i = all i
-set-within bound (e ∷ ends) zero end h all zero = h
-set-within bound (e ∷ ends) zero end h all (suc i) = all (suc i)
-set-within bound (e ∷ ends) (suc slot) end h all zero = all zero
-set-within bound (e ∷ ends) (suc slot) end h all (suc i) = set-within bound ends slot end h (λ j. all (suc j)) i
+pub next-within : (kept bytes : List ℕ) (slot k : ℕ) → packetBytes * k + packetBytes ≤ length bytes → LastWithin kept bytes slot (packetBytes * k + packetBytes)
+next-within kept bytes slot k h = record { of-kept = λ e. absurd (omega arith); whole-one = λ l. omega arith; inside = λ l. h }
 
-pub ends-set : (bytes ends : List ℕ) (slot end : ℕ) → end ≤ length bytes → EndsWithin bytes ends → EndsWithin bytes (set ends slot end)
-ends-set bytes ends slot end h all = set-within (length bytes) ends slot end h all
+-- a place that is none of the kept ones is in these bytes
+pub place-inside : {kept bytes : List ℕ} {slot end : ℕ} → LastWithin kept bytes slot end → (end ≡ 1 → ⊥) → end ≤ length bytes
+place-inside {kept} {bytes} {slot} {end} w f = go (decLt 1 end)
+  where
+    go : Dec (1 < end) → end ≤ length bytes
+    go (yes h) = w .inside h
+    go (no h) = omega arith
 
-pub ends-none : (bytes : List ℕ) (n : ℕ) → EndsWithin bytes (replicate n 0)
-ends-none bytes zero i = omega arith
-ends-none bytes (suc n) zero = omega arith
-ends-none bytes (suc n) (suc i) = ends-none bytes n i
+none-within : (kept bytes : List ℕ) (slot : ℕ) → LastWithin kept bytes slot 0
+none-within kept bytes slot = record { of-kept = λ e. absurd (omega arith); whole-one = λ l. absurd (omega arith); inside = λ l. absurd (omega arith) }
+
+set-each : (P : ℕ → ℕ → Type 0) (ends : List ℕ) (slot end : ℕ) → P slot end → ((i : ℕ) → P i (getD ends i 0)) → (i : ℕ) → P i (getD (set ends slot end) i 0)
+set-each P [] slot end h all i = all i
+set-each P (e ∷ ends) zero end h all zero = h
+set-each P (e ∷ ends) zero end h all (suc i) = all (suc i)
+set-each P (e ∷ ends) (suc slot) end h all zero = all zero
+set-each P (e ∷ ends) (suc slot) end h all (suc i) = set-each (λ j. P (suc j)) ends slot end h (λ j. all (suc j)) i
+
+pub ends-set : (kept bytes ends : List ℕ) (slot end : ℕ) → LastWithin kept bytes slot end → EndsWithin kept bytes ends
+    → EndsWithin kept bytes (set ends slot end)
+ends-set kept bytes ends slot end h all = set-each (LastWithin kept bytes) ends slot end h all
+
+pub ends-none : (kept bytes : List ℕ) (n : ℕ) → EndsWithin kept bytes (replicate n 0)
+ends-none kept bytes n i = subst (LastWithin kept bytes i) (sym (zero-at n i)) (none-within kept bytes i)
+  where
+    zero-at : (n i : ℕ) → _≡_ {A = ℕ} (getD (replicate n 0) i 0) 0
+    zero-at zero i = refl
+    zero-at (suc n) zero = refl
+    zero-at (suc n) (suc i) = zero-at n i
 
 -- ---- a packet as a part of the recording's bytes
 
@@ -163,28 +204,28 @@ packet-long bytes k h = length-take-le packetBytes (drop (packetBytes * k) bytes
 
 -- ---- what a packet gives, by its first three bytes
 
-module _ (table bytes ends : List ℕ) (k : ℕ) (packet : List ℕ) (is-packet : packet ≡ packetAt bytes k) (are : AreBytes packet) where
+module _ (table kept bytes ends : List ℕ) (k number : ℕ) (packet : List ℕ) (is-packet : packet ≡ packetAt bytes k) (are : AreBytes packet) where
   abbrev lasts : List (List ℕ)
-  lasts = lastsOf bytes ends
+  lasts = lastsOf kept bytes ends
 
   -- no sync byte
   pub looked-lost : (getD packet 0 0 ≡ 0x47 → ⊥)
-      → (Fault 30 ≡ packetEvent table k (packetAt bytes k) lasts) × (lasts ≡ packetLasts table (packetAt bytes k) lasts)
+      → (Fault 30 ≡ packetEvent table number (packetAt bytes k) lasts) × (lasts ≡ packetLasts table (packetAt bytes k) lasts)
   looked-lost f =
       let lost : lostSync (packetOf packet) ≡ true = lost-of-bytes table packet are ∙ ap not (ne-eqb (getD packet 0 0) 0x47 f) in (
-        sym (ap (λ (t : Bool). cond t (Fault 30) (cond (onLayer table packet) (stepEvent (layerOf table packet) k packet (stepIn table lasts packet)) Nothing)) lost)
-            ∙ ap (λ (p : List ℕ). packetEvent table k p lasts) is-packet,
+        sym (ap (λ (t : Bool). cond t (Fault 30) (cond (onLayer table packet) (stepEvent (layerOf table packet) number packet (stepIn table lasts packet)) Nothing)) lost)
+            ∙ ap (λ (p : List ℕ). packetEvent table number p lasts) is-packet,
         sym (ap (λ (t : Bool). cond t lasts (cond (onLayer table packet) (set lasts (layerOf table packet) (lastBy (stepIn table lasts packet) (getD lasts (layerOf table packet) []) packet)) lasts)) lost)
             ∙ ap (λ (p : List ℕ). packetLasts table p lasts) is-packet,
       )
 
   -- in sync, by the layer of its PID
   by-layer : getD packet 0 0 ≡ 0x47 → (t : Bool) → onLayer table packet ≡ t
-      → (packetEvent table k packet lasts ≡ cond t (stepEvent (layerOf table packet) k packet (stepIn table lasts packet)) Nothing)
+      → (packetEvent table number packet lasts ≡ cond t (stepEvent (layerOf table packet) number packet (stepIn table lasts packet)) Nothing)
       × (packetLasts table packet lasts ≡ cond t (set lasts (layerOf table packet) (lastBy (stepIn table lasts packet) (getD lasts (layerOf table packet) []) packet)) lasts)
   by-layer e t on =
       let found : lostSync (packetOf packet) ≡ false = lost-of-bytes table packet are ∙ ap not (eq-eqb (getD packet 0 0) 0x47 e) in (
-        ap₂ (λ (s l : Bool). cond s (Fault 30) (cond l (stepEvent (layerOf table packet) k packet (stepIn table lasts packet)) Nothing)) found on,
+        ap₂ (λ (s l : Bool). cond s (Fault 30) (cond l (stepEvent (layerOf table packet) number packet (stepIn table lasts packet)) Nothing)) found on,
         ap₂ (λ (s l : Bool). cond s lasts (cond l (set lasts (layerOf table packet) (lastBy (stepIn table lasts packet) (getD lasts (layerOf table packet) []) packet)) lasts)) found on,
       )
 
@@ -193,29 +234,29 @@ module _ (table bytes ends : List ℕ) (k : ℕ) (packet : List ℕ) (is-packet 
     same-layer = layer-of-bytes table packet are ∙ sym is-layer
 
     pub looked-other : 63 < layer
-        → (Nothing ≡ packetEvent table k (packetAt bytes k) lasts) × (lasts ≡ packetLasts table (packetAt bytes k) lasts)
+        → (Nothing ≡ packetEvent table number (packetAt bytes k) lasts) × (lasts ≡ packetLasts table (packetAt bytes k) lasts)
     looked-other h =
         let both = by-layer sync false (le-ltb (layerOf table packet) 64 (omega (arith, same-layer))) in
-        (sym (both .0) ∙ ap (λ (p : List ℕ). packetEvent table k p lasts) is-packet, sym (both .1) ∙ ap (λ (p : List ℕ). packetLasts table p lasts) is-packet)
+        (sym (both .0) ∙ ap (λ (p : List ℕ). packetEvent table number p lasts) is-packet, sym (both .1) ∙ ap (λ (p : List ℕ). packetLasts table p lasts) is-packet)
 
     -- on a layer's PID, after the packet that ends where the last one does
     abbrev stepHere : Step
-    stepHere = stepOf (endingAt bytes (getD ends layer 0)) packet
+    stepHere = stepOf (lastAt kept bytes layer (getD ends layer 0)) packet
 
     pub looked-on : layer ≤ 63
-        → (stepEvent layer k packet stepHere ≡ packetEvent table k (packetAt bytes k) lasts)
-        × (lastsOf bytes (set ends layer (lastBy stepHere (getD ends layer 0) (packetBytes * k + packetBytes))) ≡ packetLasts table (packetAt bytes k) lasts)
+        → (stepEvent layer number packet stepHere ≡ packetEvent table number (packetAt bytes k) lasts)
+        × (lastsOf kept bytes (set ends layer (lastBy stepHere (getD ends layer 0) (packetBytes * k + packetBytes))) ≡ packetLasts table (packetAt bytes k) lasts)
     looked-on h =
         let both = by-layer sync true (lt-ltb (layerOf table packet) 64 (omega (arith, same-layer))) in
-        let last : getD lasts layer [] ≡ endingAt bytes (getD ends layer 0) = last-at bytes ends layer in (
-          ap (λ (b : List ℕ). stepEvent layer k packet (stepOf b packet)) (sym last)
-              ∙ ap (λ (l : ℕ). stepEvent l k packet (stepOf (getD lasts l []) packet)) (sym same-layer)
+        let last : getD lasts layer [] ≡ lastAt kept bytes layer (getD ends layer 0) = last-at kept bytes ends layer in (
+          ap (λ (b : List ℕ). stepEvent layer number packet (stepOf b packet)) (sym last)
+              ∙ ap (λ (l : ℕ). stepEvent l number packet (stepOf (getD lasts l []) packet)) (sym same-layer)
               ∙ sym (both .0)
-              ∙ ap (λ (p : List ℕ). packetEvent table k p lasts) is-packet,
-          lasts-set bytes ends layer (lastBy stepHere (getD ends layer 0) (packetBytes * k + packetBytes))
+              ∙ ap (λ (p : List ℕ). packetEvent table number p lasts) is-packet,
+          lasts-set kept bytes ends layer (lastBy stepHere (getD ends layer 0) (packetBytes * k + packetBytes))
               ∙ ap (set lasts layer)
-              (last-by-end bytes stepHere (getD ends layer 0) (packetBytes * k + packetBytes)
-              ∙ ap (lastBy stepHere (endingAt bytes (getD ends layer 0))) (ending-at-next bytes k ∙ sym is-packet))
+              (last-by-end kept bytes layer stepHere (getD ends layer 0) (packetBytes * k + packetBytes)
+              ∙ ap (lastBy stepHere (lastAt kept bytes layer (getD ends layer 0))) (last-here kept bytes layer k ∙ sym is-packet))
               ∙ ap (λ (b : List ℕ). set lasts layer (lastBy (stepOf b packet) b packet)) (sym last)
               ∙ ap (λ (l : ℕ). set lasts l (lastBy (stepOf (getD lasts l []) packet) (getD lasts l []) packet)) (sym same-layer)
               ∙ sym (both .1)

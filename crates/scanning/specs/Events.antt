@@ -1,9 +1,9 @@
 -- What each packet of a recording gives, given for each layer the last packet before it on that layer's PID.
 -- Assumes nothing.
-use Prim.Native.Nat.{ℕ, _+_, _-_, _*_, _%_, _≤_, _<_}
+use Prim.Native.Nat.{ℕ, suc, _+_, _-_, _*_, _%_, _≤_, _<_}
 use mathlib.Core.Path.{_≡_}
 use mathlib.Core.Bool.{Bool, true, cond, not, _&&_}
-use mathlib.Core.List.{List, [], map}
+use mathlib.Core.List.{List, [], _∷_}
 use lib.Dec.{eqb, ltb}
 use lib.ListN.{length, getD, set, take, drop, replicate}
 use Rattle.framing.specs.Pieces.{Item, whole, broken, cut}
@@ -107,15 +107,33 @@ module _ (table : List ℕ) where
 abbrev pub packetAt : List ℕ → ℕ → List ℕ
 packetAt bytes k = take packetBytes (drop (packetBytes * k) bytes)
 
--- the packet that ends at a place, and none at 0; the last packets by the places at which they end
+-- the packet that ends at a place, and none at 0
 abbrev pub endingAt : List ℕ → ℕ → List ℕ
 endingAt bytes end = take (end - (end - packetBytes)) (drop (end - packetBytes) bytes)
 
-abbrev pub lastsOf : List ℕ → List ℕ → List (List ℕ)
-lastsOf bytes ends = map (endingAt bytes) ends
+-- the packet that was kept for a layer
+abbrev pub keptAt : List ℕ → ℕ → List ℕ
+keptAt kept slot = take packetBytes (drop (packetBytes * slot) kept)
 
-abbrev pub EndsWithin : List ℕ → List ℕ → Type 0
-EndsWithin bytes ends = (i : ℕ) → getD ends i 0 ≤ length bytes
+-- the last packet of a layer by its place: 1 stands for the one that was kept
+abbrev pub lastAt : List ℕ → List ℕ → ℕ → ℕ → List ℕ
+lastAt kept bytes slot end = cond (eqb end 1) (keptAt kept slot) (endingAt bytes end)
+
+abbrev pub lastsFrom : List ℕ → List ℕ → ℕ → List ℕ → List (List ℕ)
+lastsFrom kept bytes slot [] = []
+lastsFrom kept bytes slot (end ∷ ends) = lastAt kept bytes slot end ∷ lastsFrom kept bytes (suc slot) ends
+
+abbrev pub lastsOf : List ℕ → List ℕ → List ℕ → List (List ℕ)
+lastsOf kept bytes ends = lastsFrom kept bytes 0 ends
+
+-- a place at which a whole packet stands, or none
+pub record LastWithin (kept bytes : List ℕ) (slot end : ℕ) : Type 0 where
+  pub of-kept : end ≡ 1 → packetBytes * slot + packetBytes ≤ length kept
+  pub whole-one : 1 < end → packetBytes ≤ end
+  pub inside : 1 < end → end ≤ length bytes
+
+abbrev pub EndsWithin : List ℕ → List ℕ → List ℕ → Type 0
+EndsWithin kept bytes ends = (i : ℕ) → LastWithin kept bytes i (getD ends i 0)
 
 -- a quiet packet by its first three bytes
 abbrev pub quietBy : List ℕ → ℕ → ℕ → ℕ → Bool

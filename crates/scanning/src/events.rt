@@ -1,13 +1,17 @@
 // One packet of a recording: what it gives, after the last packet on its layer's PID.
 ghost use mathlib.Core.Path.{_≡_};
-ghost use Prim.Native.Nat.{_+_, _-_, _*_, _%_, _≤_};
+ghost use Prim.Native.Nat.{_+_, _-_, _*_, _%_, _≤_, _<_};
 ghost use lib.ListN.{length};
 ghost use Rattle.packets.specs.Reading.{packetBytes};
-ghost use Rattle.scanning.specs.Events.{lastBy, headerEvent, stepEvent, startIn, packetEvent, packetLasts, packetAt, lastsOf, EndsWithin};
+ghost use Rattle.continuity.specs.Following.{stepOf};
+ghost use Rattle.scanning.specs.Events.{layers, lastBy, headerEvent, stepEvent, startIn, packetEvent, packetLasts, packetAt, lastAt, lastsOf, LastWithin, EndsWithin};
 use continuity::Step;
 use packets::PACKET_BYTES;
 use pes_reader::Answer;
 use vocabulary::Refusal;
+
+// The place of a last packet that was kept of the bytes before these.
+pub const KEPT: usize = 1;
 
 // A row of the table that joining takes, whether a TREF was sent, which joining does not read, and the number of the packet in which its unit starts.
 pub struct Row {
@@ -83,15 +87,37 @@ fn step_event(layer: u8, number: usize, packet: &[u8], step: Step) -> Event
     }
 }
 
-// What the packet of a number gives. For each layer stands the place at which the last packet on its PID ends, 0 where there was none.
-pub fn look_at(table: &[u8; 8192], bytes: &[u8], number: usize, ends: &mut [usize; 64]) -> Event
-    requires { ⌜ (packetBytes * number + packetBytes ≤ length (now bytes)) × EndsWithin (now bytes) (now ends) ⌝ }
-    ensures gives { λ r. ⌜ r ≡ packetEvent (now (table .entry)) number (packetAt (now (bytes .entry)) number) (lastsOf (now (bytes .entry)) (now (ends .entry))) ⌝ }
-    ensures lasts { λ _. ⌜ lastsOf (now (bytes .entry)) (now (ends .exit))
-        ≡ packetLasts (now (table .entry)) (packetAt (now (bytes .entry)) number) (lastsOf (now (bytes .entry)) (now (ends .entry))) ⌝ }
-    ensures within { λ _. ⌜ EndsWithin (now (bytes .entry)) (now (ends .exit)) ⌝ }
+// The step of a packet after the last one on its layer's PID: there is none at 0, it was kept of earlier bytes at 1, and else it ends at that place of these.
+fn follow_last(kept: &[u8], bytes: &[u8], slot: usize, end: usize, packet: &[u8]) -> Step
+    requires { ⌜ LastWithin (now kept) (now bytes) slot end × (slot < layers) × (length (now packet) ≡ packetBytes) ⌝ }
+    ensures { λ r. ⌜ r ≡ stepOf (lastAt (now (kept .entry)) (now (bytes .entry)) slot end) (now (packet .entry)) ⌝ }
 {
-    let at = PACKET_BYTES * number;
+    if end == KEPT {
+        let from = PACKET_BYTES * slot;
+        return continuity::follow(&kept[from..from + PACKET_BYTES], packet);
+    }
+    let start = start_of(end);
+    continuity::follow(&bytes[start..end], packet)
+}
+
+// What the packet at a number of steps gives, which has a number of its own in the recording. For each layer stands the place at which the last packet on its
+// PID ends.
+pub fn look_at(
+    table: &[u8; 8192],
+    kept: &[u8],
+    bytes: &[u8],
+    step: usize,
+    number: usize,
+    ends: &mut [usize; 64],
+) -> Event
+    requires { ⌜ (packetBytes * step + packetBytes ≤ length (now bytes)) × EndsWithin (now kept) (now bytes) (now ends) ⌝ }
+    ensures gives { λ r. ⌜ r
+        ≡ packetEvent (now (table .entry)) number (packetAt (now (bytes .entry)) step) (lastsOf (now (kept .entry)) (now (bytes .entry)) (now (ends .entry))) ⌝ }
+    ensures lasts { λ _. ⌜ lastsOf (now (kept .entry)) (now (bytes .entry)) (now (ends .exit))
+        ≡ packetLasts (now (table .entry)) (packetAt (now (bytes .entry)) step) (lastsOf (now (kept .entry)) (now (bytes .entry)) (now (ends .entry))) ⌝ }
+    ensures within { λ _. ⌜ EndsWithin (now (kept .entry)) (now (bytes .entry)) (now (ends .exit)) ⌝ }
+{
+    let at = PACKET_BYTES * step;
     let next = at + PACKET_BYTES;
     let packet = &bytes[at..next];
     if packet[0] != 0x47 {
@@ -103,8 +129,7 @@ pub fn look_at(table: &[u8; 8192], bytes: &[u8], number: usize, ends: &mut [usiz
     }
     let slot = layer as usize;
     let end = ends[slot];
-    let start = start_of(end);
-    let step = continuity::follow(&bytes[start..end], packet);
-    ends[slot] = end_after(step, end, next);
-    step_event(layer, number, packet, step)
+    let given = follow_last(kept, bytes, slot, end, packet);
+    ends[slot] = end_after(given, end, next);
+    step_event(layer, number, packet, given)
 }

@@ -1,13 +1,11 @@
-// A recording's packets, one after another in steps of 188 bytes: what each gives, and what is found in all of them. Packets of other PIDs cost a look at
-// three bytes.
+// A recording's packets, one after another in steps of 188 bytes: what each gives, after the last packet on its layer's PID, which stands in the same bytes
+// or was kept of those before them; and the packets that give nothing, passed over at the cost of a look at three bytes.
 mod events;
-mod finding;
 mod skipping;
 
 pub use events::Event;
+pub use events::KEPT;
 pub use events::Row;
 pub use events::look_at;
-pub use finding::Found;
-pub use finding::Mark;
-pub use finding::judge;
+pub use events::pid_of;
 pub use skipping::skip;
