@@ -19,7 +19,7 @@ use Rattle.kept_packets.specs.Keeping.{keptAfter, endAfter, Kept}
 
 -- ---- a packet stored at a layer's place, and the places of the others
 
-take-sets : (n : ℕ) (l : List ℕ) (at : ℕ) (vs : List ℕ) → n ≤ at → take n (sets l at vs) ≡ take n l
+pub take-sets : (n : ℕ) (l : List ℕ) (at : ℕ) (vs : List ℕ) → n ≤ at → take n (sets l at vs) ≡ take n l
 take-sets n l at [] h = refl
 take-sets n l at (v ∷ vs) h = take-sets n (set l at v) (suc at) vs (omega arith) ∙ take-set-le n l at v h
 
@@ -27,7 +27,7 @@ drop-sets : (n : ℕ) (l : List ℕ) (at : ℕ) (vs : List ℕ) → at + length 
 drop-sets n l at [] h = refl
 drop-sets n l at (v ∷ vs) h = drop-sets n (set l at v) (suc at) vs (omega (arith, suc-add at (length vs))) ∙ drop-set-lt n l at v (omega arith)
 
-part-of : (m n : ℕ) (l : List ℕ) → take n (drop m l) ≡ drop m (take (m + n) l)
+pub part-of : (m n : ℕ) (l : List ℕ) → take n (drop m l) ≡ drop m (take (m + n) l)
 part-of zero n l = ap (λ (k : ℕ). take k l) (sym (zero-add n))
 part-of (suc m) n [] = take-nil n ∙ sym (ap (drop (suc m)) (take-nil (suc m + n)) ∙ drop-nil (suc m))
 part-of (suc m) n (b ∷ l) = part-of m n l ∙ ap (λ (k : ℕ). drop (suc m) (take k (b ∷ l))) (sym (suc-add m n))
@@ -62,7 +62,7 @@ ending-long bytes end h l =
 -- ---- one layer
 
 -- what was kept, or is none, needs no bytes
-low-same : (kept old bytes : List ℕ) (slot end : ℕ) → end ≤ 1 → keptAt kept slot ≡ keptAt old slot → lastAt kept [] slot end ≡ lastAt old bytes slot end
+pub low-same : (kept old bytes : List ℕ) (slot end : ℕ) → end ≤ 1 → keptAt kept slot ≡ keptAt old slot → lastAt kept [] slot end ≡ lastAt old bytes slot end
 low-same kept old bytes slot zero h e = refl
 low-same kept old bytes slot (suc zero) h e = e
 low-same kept old bytes slot (suc (suc n)) h e = absurd (omega arith)
@@ -94,7 +94,7 @@ one kept old bytes slot end room e whole-one inside = go (leb end 1) refl
 
 -- ---- all layers
 
-lasts-long : (kept bytes : List ℕ) (from : ℕ) (ends : List ℕ) → length (lastsFrom kept bytes from ends) ≡ length ends
+pub lasts-long : (kept bytes : List ℕ) (from : ℕ) (ends : List ℕ) → length (lastsFrom kept bytes from ends) ≡ length ends
 lasts-long kept bytes from [] = refl
 lasts-long kept bytes from (e ∷ ends) = ap suc (lasts-long kept bytes (suc from) ends)
 
