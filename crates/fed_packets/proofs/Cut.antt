@@ -109,11 +109,11 @@ module _ (table : List ℕ) (p : Progress) (xs ys : List ℕ) where
 
 -- ---- no bytes, and many pieces
 
-none-whole : (bytes : List ℕ) → length bytes < packetBytes → packetsWhole bytes ≡ 0
+pub none-whole : (bytes : List ℕ) → length bytes < packetBytes → packetsWhole bytes ≡ 0
 none-whole bytes h = omega arith
 
 module _ (table : List ℕ) where
-  nothing-gone : (p : Progress) → length (p .part) < packetBytes → goneOn table p (p .part) ≡ p
+  pub nothing-gone : (p : Progress) → length (p .part) < packetBytes → goneOn table p (p .part) ≡ p
   nothing-gone p h =
       ap (λ (n : ℕ). record {
         part = drop (packetBytes * n) (p .part);
