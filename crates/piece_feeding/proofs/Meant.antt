@@ -9,6 +9,7 @@ use lib.Dec.{eqb}
 use lib.ListN.{length, take}
 use mathlib.Core.Bool.{Bool, cond}
 use Rattle.scanning.specs.declared.events.Event.the-variants.{Fault}
+use Rattle.unit_starts.specs.declared.Found.{Found}
 use Rattle.unit_starts.specs.Finding.{noted, foundIn}
 use Rattle.recording_rows.specs.Columns.{Columns}
 use Rattle.fed_packets.specs.Feeding.{Progress as Known, atFirst, fed, fedAll, endedBy, ended, joinedUp}
@@ -18,6 +19,9 @@ use Rattle.feeding.specs.Pieces.{knownBy, Ready, Feeds}
 use Rattle.piece_feeding.specs.Told.{startsWith, noEnds, HasBeenFed, foundAtEnd}
 
 -- before the first piece
+abbrev pub fromFound : Found → Progress
+fromFound found = record { part = 0; number = 0; found = found }
+
 pub fed-nothing-yet : (table part kept : List ℕ) → HasBeenFed table [] startsWith part kept noEnds
 fed-nothing-yet table part kept = refl
 
