@@ -1,18 +1,19 @@
 -- A piece that goes no further than the packet that is not whole yet: it is carried, or makes the packet whole.
 -- Assumes nothing.
-use Prim.Native.Nat.{ℕ, _+_, _*_, _/_, _≤_, _<_}
+use Prim.Native.Nat.{ℕ, _+_, _-_, _*_, _/_, _≤_, _<_}
 use mathlib.Core.Path.{_≡_, refl, sym, ap, subst, _∙_}
 use mathlib.Core.List.{List, [], _++_, append-assoc}
 use native.Mathlib.Omega.{arith}
 use lib.ListN.{length, take, drop, length-append, drop-of-length-le}
-use lib.Seq.{sets, sets-eq, take-at, take-length, length-sets, length-take-le}
+use lib.Seq.{sets, sets-eq, take-at, take-nil, take-length, length-sets, length-take-le}
 use Rattle.packets.specs.Reading.{packetBytes}
+use Rattle.scanning.specs.declared.events.Row.{Row}
 use Rattle.scanning.specs.Events.{packetsIn, lastsOf}
 use Rattle.unit_starts.specs.declared.Found.{Found}
 use Rattle.unit_starts.specs.Finding.{rowsFrom}
 use Rattle.unit_starts.proofs.Running.{rows-counted-from, rows-few}
 use Rattle.recording_rows.specs.Columns.{Columns}
-use Rattle.passing.specs.Passing.{storedFrom, Passed}
+use Rattle.passing.specs.Passing.{storedFrom, withRoom, Passed}
 use Rattle.fed_packets.specs.Feeding.{Progress as Known, packetsWhole, wholeOf, leftOf, goneOn}
 use Rattle.fed_packets.proofs.Cut.{packets-many, none-whole, nothing-gone}
 use Rattle.feeding.specs.declared.Progress.{Progress}
@@ -55,8 +56,8 @@ module _ (table bytes : List ℕ) (room : ℕ) (p : Progress) (part kept ends : 
         goes-on = ap (λ (l : List ℕ). record { part = l; number = p .number; lasts = lastsOf kept [] ends; found = p .found }) front
             ∙ sym (nothing-gone table (record { part = carried; number = p .number; lasts = lastsOf kept [] ends; found = p .found }) short);
         ready = record { long = new-long; short = h; held = ready .held; few = ready .few };
-        stored = λ r.
-            ap (λ (n : ℕ). storedFrom (p .found .rows) (rowsFrom table (p .number) (packetsIn (take (packetBytes * n) carried)) (lastsOf kept [] ends)) old)
+        stored = sym (ap (λ (rows : List Row). storedFrom (p .found .rows) rows old) (take-nil (room - p .found .rows)))
+            ∙ ap (λ (n : ℕ). storedFrom (p .found .rows) (withRoom room (p .found .rows) (rowsFrom table (p .number) (packetsIn (take (packetBytes * n) carried)) (lastsOf kept [] ends))) old)
             (sym (none-whole carried short));
       }
 

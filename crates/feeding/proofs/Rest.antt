@@ -14,7 +14,7 @@ use Rattle.unit_starts.specs.declared.Found.{Found}
 use Rattle.unit_starts.specs.Finding.{foundFrom, rowsFrom}
 use Rattle.unit_starts.proofs.Running.{rows-counted-from, rows-few}
 use Rattle.recording_rows.specs.Columns.{Columns}
-use Rattle.passing.specs.Passing.{Held, storedFrom, Passed}
+use Rattle.passing.specs.Passing.{Held, storedFrom, withRoom, Passed}
 use Rattle.fed_packets.specs.Feeding.{Progress as Known, packetsWhole, wholeOf, leftOf, goneOn, fed, rowsFed}
 use Rattle.fed_packets.proofs.Cut.{packets-many}
 use Rattle.feeding.specs.declared.Progress.{Progress}
@@ -73,6 +73,7 @@ module _ (table bytes : List ℕ) (room : ℕ) (p : Progress) (part kept ends : 
               held = passed .held;
               few = rows-here;
             };
-        stored = λ h. passed .stored h
-            ∙ ap (λ (l : List ℕ). storedFrom (p .found .rows) (rowsFrom table (p .number) (packetsIn (wholeOf l)) (lastsOf kept [] ends)) old) (sym nothing-carried);
+        stored = passed .stored
+            ∙ ap (λ (l : List ℕ). storedFrom (p .found .rows) (withRoom room (p .found .rows) (rowsFrom table (p .number) (packetsIn (wholeOf l)) (lastsOf kept [] ends))) old)
+            (sym nothing-carried);
       }

@@ -7,7 +7,7 @@ use lib.ListN.{length, take}
 use Rattle.packets.specs.Reading.{packetBytes}
 use Rattle.scanning.specs.Events.{lastsOf}
 use Rattle.recording_rows.specs.Columns.{Columns}
-use Rattle.passing.specs.Passing.{Held, storedFrom}
+use Rattle.passing.specs.Passing.{Held, storedFrom, withRoom}
 use Rattle.fed_packets.specs.Feeding.{Progress as Known, fed, rowsFed}
 use Rattle.feeding.specs.declared.Progress.{Progress}
 
@@ -22,8 +22,9 @@ pub record Ready (p : Progress) (part kept ends : List ℕ) : Type 0 where
   pub held : Held kept ends
   pub few : p .found .rows ≤ p .number
 
--- ONE PIECE MORE: what they stand for is what was known, gone on over the piece; and where there was room for all rows, those of the piece stand behind those before
+-- ONE PIECE MORE: what they stand for is what was known, gone on over the piece; and the rows of the piece stand behind those before, as far as there
+-- was room for them
 pub record Feeds (table bytes : List ℕ) (room : ℕ) (p : Progress) (part kept ends : List ℕ) (old : Columns) (q : Progress) (new-part new-kept new-ends : List ℕ) (new : Columns) : Type 0 where
   pub goes-on : knownBy q new-part new-kept new-ends ≡ fed table (knownBy p part kept ends) bytes
   pub ready : Ready q new-part new-kept new-ends
-  pub stored : q .found .rows ≤ room → new ≡ storedFrom (p .found .rows) (rowsFed table (knownBy p part kept ends) bytes) old
+  pub stored : new ≡ storedFrom (p .found .rows) (withRoom room (p .found .rows) (rowsFed table (knownBy p part kept ends) bytes)) old

@@ -8,8 +8,7 @@ use native.Mathlib.Decide.{decLt}
 use native.Mathlib.Nat.{le-trans, zero-add}
 use native.Mathlib.Omega.{arith}
 use lib.ListN.{length, getD, set, take, drop, length-set, length-map, length-take, List·getD-eq-default, take-append-drop}
-use lib.Seq.{sets, sets-eq, length-sets, take-at, drop-at, take-length, getD-take, length-take-le}
-use Rattle.buffers.proofs.Laws.{sets-append}
+use lib.Seq.{sets, sets-eq, length-sets, drop-at, take-nil, take-append-seam, take-set-lt, drop-set-lt, set-out, getD-take, length-take-le}
 use Rattle.framing.specs.Pieces.{Item, whole, broken}
 use Rattle.packets.specs.Reading.{packetBytes, packetOf}
 use Rattle.packets.specs.Judging.{lostSync}
@@ -23,8 +22,8 @@ use Rattle.recording_rows.specs.Again.{rowFrom, Inside, Starts}
 use Rattle.recording_rows.proofs.Again.{rows-again, rows-inside}
 use Rattle.recording_rows.proofs.Laying.{room-beside}
 use Rattle.kept_packets.specs.Keeping.{Kept}
-use Rattle.kept_packets.proofs.Settling.{take-sets, part-of, low-same, lasts-long}
-use Rattle.passing.specs.Passing.{Held, storedFrom, Passed}
+use Rattle.kept_packets.proofs.Settling.{low-same, lasts-long}
+use Rattle.passing.specs.Passing.{Held, storedFrom, withRoom, Passed}
 
 -- ---- the last packets, as they are kept between pieces
 
@@ -64,26 +63,38 @@ over-long table (i ∷ is) lasts = over-long table is (lastsAfter table i lasts)
 
 -- ---- what was noted
 
--- the first of a list that was stored from a place on, where there is room for them
-stored-part : (l vs : List ℕ) (at m : ℕ) → at + m ≤ length l → m ≤ length vs → take m (drop at (sets l at vs)) ≡ take m vs
-stored-part l vs at m h k =
-    ap (λ (x : List ℕ). take m (drop at (sets l at x))) (sym (take-append-drop m vs))
-    ∙ ap (λ (x : List ℕ). take m (drop at x)) (sym (sets-append l at (take m vs) (drop m vs)))
-    ∙ part-of at m (sets first-part (at + length (take m vs)) (drop m vs))
-    ∙ ap (drop at) (take-sets (at + m) first-part (at + length (take m vs)) (drop m vs) (omega (arith, size)))
-    ∙ sym (part-of at m first-part)
-    ∙ ap (λ (x : List ℕ). take m (drop at x)) (sets-eq (take m vs) l at (omega (arith, size)) ∙ append-assoc (take at l) (take m vs) rest)
-    ∙ ap (take m) (drop-at (take at l) (take m vs ++ rest) at (length-take-le at l (omega arith)))
-    ∙ take-at (take m vs) rest m size
+-- a list stored into the front of another is stored there as far as the front goes
+front-sets : (l vs : List ℕ) (at room : ℕ) → sets (take room l) at vs ++ drop room l ≡ sets l at (take (room - at) vs)
+front-sets l [] at room = take-append-drop room l ∙ sym (ap (sets l at) (take-nil (room - at)))
+front-sets l (v ∷ vs) at room = go (decLt at room) (λ x. front-sets x vs (suc at) room)
   where
-    first-part : List ℕ
-    first-part = sets l at (take m vs)
+    go : Dec (at < room) → ((x : List ℕ) → sets (take room x) (suc at) vs ++ drop room x ≡ sets x (suc at) (take (room - suc at) vs))
+        → sets (set (take room l) at v) (suc at) vs ++ drop room l ≡ sets l at (take (room - at) (v ∷ vs))
+    go (yes h) others =
+        let one : room - at ≡ suc (room - suc at) = omega arith in
+        ap₂ (λ (x y : List ℕ). sets x (suc at) vs ++ y) (sym (take-set-lt room l at v h)) (sym (drop-set-lt room l at v h))
+        ∙ others (set l at v)
+        ∙ sym (ap (λ (n : ℕ). sets l at (take n (v ∷ vs))) one)
+    go (no h) others =
+        let none : room - at ≡ 0 = omega arith in
+        let none-then : room - suc at ≡ 0 = omega arith in
+        let out : length (take room l) ≤ at = omega (arith, length-take room l) in
+        ap (λ (x : List ℕ). sets x (suc at) vs ++ drop room l) (set-out (take room l) at v out)
+        ∙ others l
+        ∙ ap (λ (n : ℕ). sets l (suc at) (take n vs)) none-then
+        ∙ sym (ap (λ (n : ℕ). sets l at (take n (v ∷ vs))) none)
 
-    rest : List ℕ
-    rest = drop (at + length (take m vs)) l
+-- a list that was stored from a place on, where there is room for it
+stored-part : (l vs : List ℕ) (at : ℕ) → at + length vs ≤ length l → take (length vs) (drop at (sets l at vs)) ≡ vs
+stored-part l vs at h =
+    ap (λ (x : List ℕ). take (length vs) (drop at x)) (sets-eq vs l at h ∙ append-assoc (take at l) vs (drop (at + length vs) l))
+    ∙ ap (take (length vs)) (drop-at (take at l) (vs ++ drop (at + length vs) l) at (length-take-le at l (omega arith)))
+    ∙ take-append-seam vs (drop (at + length vs) l)
 
-    size : length (take m vs) ≡ m
-    size = length-take-le m vs k
+map-take : {A B : Type 0} (f : A → B) (n : ℕ) (l : List A) → map f (take n l) ≡ take n (map f l)
+map-take f zero l = refl
+map-take f (suc n) [] = refl
+map-take {B = B} f (suc n) (x ∷ l) = ap (λ (xs : List B). f x ∷ xs) (map-take f n l)
 
 prefix-inside : (bytes : List ℕ) (first m : ℕ) (l : List ℕ) → Starts bytes first l → Starts bytes first (take m l)
 prefix-inside bytes first m l inside i h =
@@ -92,7 +103,7 @@ prefix-inside bytes first m l inside i h =
 -- ---- places: rows before, rows after, the room, and what is laid
 
 module _ (before after more room from to : ℕ) (f : from ≡ min before room) (t : to ≡ min after room) (c : after ≡ before + more) where
-  none-fits : room < before → to - from ≡ 0
+  none-fits : room < before → room - before ≡ 0
   none-fits h = omega arith
 
   from-before : before ≤ room → from ≡ before
@@ -101,11 +112,11 @@ module _ (before after more room from to : ℕ) (f : from ≡ min before room) (
   order-is : from ≤ to
   order-is = omega arith
 
-  few-fit : before ≤ room → to - from ≤ more
-  few-fit h = omega arith
+  many-fit : to - from ≡ min (room - before) more
+  many-fit = omega arith
 
-  all-fit : after ≤ room → to - from ≡ more
-  all-fit h = omega arith
+few-fit : (before room more : ℕ) → before ≤ room → before + min (room - before) more ≤ room
+few-fit before room more h = omega arith
 
 up-to : (from to n : ℕ) → from ≤ to → n ≤ to - from → from + n ≤ to
 up-to from to n o h = omega arith
@@ -116,25 +127,33 @@ take-most n l = omega (arith, length-take n l)
 not-lt-le : {a b : ℕ} → (a < b → ⊥) → b ≤ a
 not-lt-le f = omega arith
 
-fewer : (before after more room : ℕ) → after ≡ before + more → after ≤ room → before ≤ room
-fewer before after more room c h = omega arith
+-- the room of all columns is that of each
+le-five : (n a b c d e : ℕ) → n ≤ min a (min b (min c (min d e))) → n ≤ e
+le-five n a b c d e h = omega arith
 
-up-to-end : (from to long : ℕ) → from ≤ to → to ≤ long → from + (to - from) ≤ long
-up-to-end from to long o h = omega arith
+pub room-each : (room : ℕ) (old : Columns) → room ≤ roomIn old → room ≤ length (old .packets)
+room-each room old enough = le-five room (length (old .indices)) (length (old .decodings)) (length (old .matches)) (length (old .trefs)) (length (old .packets)) enough
 
 -- ---- the piece
 
 module _ (table bytes : List ℕ) (first : ℕ) (found : Found) (room : ℕ) (kept ends : List ℕ) (old : Columns) (held : Held kept ends)
-    (enough : room ≤ roomIn old) {new-ends numbers : List ℕ} {after : Found}
-    (w : Walks table kept bytes first found ends (old .packets) new-ends numbers after) where
+    (enough : room ≤ roomIn old) {new-ends noted : List ℕ} {after : Found}
+    (w : Walks table kept bytes first found ends (take room (old .packets)) new-ends noted after) where
   abbrev before : List (List ℕ)
   before = lastsOf kept bytes ends
 
   abbrev rows : List Row
   rows = rowsFrom table first (packetsIn bytes) before
 
+  -- those that there is room for, and the packets in which they start
+  abbrev fitting : List Row
+  fitting = withRoom room (found .rows) rows
+
   abbrev starts : List ℕ
-  starts = map packetIn rows
+  starts = map packetIn fitting
+
+  abbrev numbers : List ℕ
+  numbers = noted ++ drop room (old .packets)
 
   same-lasts : lastsOf kept [] ends ≡ lastsOf kept bytes ends
   same-lasts = few-same kept bytes 0 ends (held .few)
@@ -142,20 +161,20 @@ module _ (table bytes : List ℕ) (first : ℕ) (found : Found) (room : ℕ) (ke
   counted : after .rows ≡ found .rows + length rows
   counted = ap (λ (f : Found). f .rows) (w .finds) ∙ rows-counted-from table first (packetsIn bytes) before found
 
-  starts-long : length starts ≡ length rows
-  starts-long = length-map rows packetIn
+  starts-long : length starts ≡ min (room - found .rows) (length rows)
+  starts-long = length-map fitting packetIn ∙ length-take (room - found .rows) rows
+
+  numbers-are : numbers ≡ sets (old .packets) (found .rows) starts
+  numbers-are =
+      ap (λ (l : List ℕ). l ++ drop room (old .packets)) (w .notes)
+      ∙ front-sets (old .packets) (map packetIn rows) (found .rows) room
+      ∙ ap (sets (old .packets) (found .rows)) (sym (map-take packetIn (room - found .rows) rows))
 
   numbers-long : length numbers ≡ length (old .packets)
-  numbers-long = ap length (w .notes) ∙ length-sets (old .packets) (found .rows) starts
+  numbers-long = ap length numbers-are ∙ length-sets (old .packets) (found .rows) starts
 
-  -- the room of all columns is that of each
-  le-five : (n a b c d e : ℕ) → n ≤ min a (min b (min c (min d e))) → n ≤ e
-  le-five n a b c d e h = omega arith
-
-  room-numbers : room ≤ length numbers
-  room-numbers =
-      subst (λ (n : ℕ). room ≤ n) (sym numbers-long)
-      (le-five room (length (old .indices)) (length (old .decodings)) (length (old .matches)) (length (old .trefs)) (length (old .packets)) enough)
+  room-packets : room ≤ length (old .packets)
+  room-packets = room-each room old enough
 
   pub ends-long : length new-ends ≡ layers
   ends-long =
@@ -172,35 +191,40 @@ module _ (table bytes : List ℕ) (first : ℕ) (found : Found) (room : ℕ) (ke
     to-room : to ≤ room
     to-room = omega (arith, t)
 
-    to-numbers : to ≤ length numbers
-    to-numbers = le-trans to-room room-numbers
-
     pub to-old : to ≤ length (old .packets)
-    to-old = subst (λ (n : ℕ). to ≤ n) numbers-long to-numbers
+    to-old = le-trans to-room room-packets
+
+    pub to-numbers : to ≤ length numbers
+    to-numbers = subst (λ (n : ℕ). to ≤ n) (sym numbers-long) to-old
 
     abbrev part : List ℕ
     part = take (to - from) (drop from numbers)
 
-    -- the packets of the first of its rows, or nothing where there was no room before
-    part-is : part ≡ take (to - from) starts
+    many : to - from ≡ length starts
+    many = many-fit (found .rows) (after .rows) (length rows) room from to f t counted ∙ sym starts-long
+
+    -- the packets of the rows that there is room for, or nothing where there was none before
+    part-is : part ≡ starts
     part-is = go (decLt room (found .rows))
       where
-        go : Dec (room < found .rows) → part ≡ take (to - from) starts
+        go : Dec (room < found .rows) → part ≡ starts
         go (yes h) =
-            let none : to - from ≡ 0 = none-fits (found .rows) (after .rows) (length rows) room from to f t counted h in
-            ap (λ (n : ℕ). take n (drop from numbers)) none ∙ sym (ap (λ (n : ℕ). take n starts) none)
+            let none : room - found .rows ≡ 0 = none-fits (found .rows) (after .rows) (length rows) room from to f t counted h in
+            let nothing : starts ≡ [] = ap (λ (n : ℕ). map packetIn (take n rows)) none in
+            ap (λ (n : ℕ). take n (drop from numbers)) (many ∙ ap length nothing) ∙ sym nothing
         go (no h) =
             let before-room : found .rows ≤ room = not-lt-le h in
             let here : from ≡ found .rows = from-before (found .rows) (after .rows) (length rows) room from to f t counted before-room in
-            let fits : from + (to - from) ≤ length (old .packets) =
-            up-to-end from to (length (old .packets)) in-order to-old in
-            let short : to - from ≤ length starts =
-            subst (λ (n : ℕ). to - from ≤ n) (sym starts-long) (few-fit (found .rows) (after .rows) (length rows) room from to f t counted before-room) in
-            ap (λ (l : List ℕ). take (to - from) (drop from l)) (w .notes ∙ ap (λ (n : ℕ). sets (old .packets) n starts) (sym here))
-            ∙ stored-part (old .packets) starts from (to - from) fits short
+            let fits : found .rows + length starts ≤ length (old .packets) =
+            le-trans (subst (λ (n : ℕ). found .rows + n ≤ room) (sym starts-long) (few-fit (found .rows) room (length rows) before-room)) room-packets in
+            ap₂ (λ (n at : ℕ). take n (drop at numbers)) many here
+            ∙ ap (λ (l : List ℕ). take (length starts) (drop (found .rows) l)) numbers-are
+            ∙ stored-part (old .packets) starts (found .rows) fits
 
     pub part-inside : Starts bytes first part
-    part-inside = subst (Starts bytes first) (sym part-is) (prefix-inside bytes first (to - from) starts (rows-inside bytes first table before))
+    part-inside =
+        subst (Starts bytes first) (sym (part-is ∙ map-take packetIn (room - found .rows) rows))
+        (prefix-inside bytes first (room - found .rows) (map packetIn rows) (rows-inside bytes first table before))
 
     pub part-room : from + length part ≤ roomBeside (beside (old .indices) (old .decodings) (old .matches) (old .trefs))
     part-room =
@@ -211,20 +235,32 @@ module _ (table bytes : List ℕ) (first : ℕ) (found : Found) (room : ℕ) (ke
         small : from + length part ≤ to
         small = up-to from to (length part) in-order (take-most (to - from) (drop from numbers))
 
-    -- where there was room for all rows, they are laid
+    -- the rows that there is room for are laid
+    again : map (rowFrom table bytes first) part ≡ fitting
+    again =
+        ap (map (rowFrom table bytes first)) (part-is ∙ map-take packetIn (room - found .rows) rows)
+        ∙ map-take (rowFrom table bytes first) (room - found .rows) (map packetIn rows)
+        ∙ ap (take (room - found .rows)) (rows-again bytes first table before)
+
+    -- where none has room, nothing is laid at whatever place
+    same-place : (c : Beside) → storedBeside from fitting c ≡ storedBeside (found .rows) fitting c
+    same-place c = go (decLt room (found .rows))
+      where
+        go : Dec (room < found .rows) → storedBeside from fitting c ≡ storedBeside (found .rows) fitting c
+        go (yes h) =
+            let none : room - found .rows ≡ 0 = none-fits (found .rows) (after .rows) (length rows) room from to f t counted h in
+            ap (λ (n : ℕ). storedBeside from (take n rows) c) none ∙ sym (ap (λ (n : ℕ). storedBeside (found .rows) (take n rows) c) none)
+        go (no h) = ap (λ (n : ℕ). storedBeside n fitting c) (from-before (found .rows) (after .rows) (length rows) room from to f t counted (not-lt-le h))
+
     module _ {new : Beside} (laid : new ≡ storedBeside from (map (rowFrom table bytes first) part) (beside (old .indices) (old .decodings) (old .matches) (old .trefs))) where
-      all-laid : after .rows ≤ room
-          → columns (new .indices) (new .decodings) (new .matches) (new .trefs) numbers ≡ storedFrom (found .rows) (rowsFrom table first (packetsIn bytes) (lastsOf kept [] ends)) old
-      all-laid h =
-          let here : from ≡ found .rows =
-          from-before (found .rows) (after .rows) (length rows) room from to f t counted (fewer (found .rows) (after .rows) (length rows) room counted h) in
-          let many : to - from ≡ length starts = all-fit (found .rows) (after .rows) (length rows) room from to f t counted h ∙ sym starts-long in
-          let all : part ≡ starts = part-is ∙ ap (λ (n : ℕ). take n starts) many ∙ take-length starts in
-          let again : map (rowFrom table bytes first) part ≡ rows = ap (map (rowFrom table bytes first)) all ∙ rows-again bytes first table before in
+      all-laid : columns (new .indices) (new .decodings) (new .matches) (new .trefs) numbers
+          ≡ storedFrom (found .rows) (withRoom room (found .rows) (rowsFrom table first (packetsIn bytes) (lastsOf kept [] ends))) old
+      all-laid =
           ap₂ (λ (b : Beside) (l : List ℕ). columns (b .indices) (b .decodings) (b .matches) (b .trefs) l)
-          (laid ∙ ap₂ (λ (n : ℕ) (r : List Row). storedBeside n r (beside (old .indices) (old .decodings) (old .matches) (old .trefs))) here again)
-          (w .notes)
-          ∙ ap (λ (l : List (List ℕ)). storedFrom (found .rows) (rowsFrom table first (packetsIn bytes) l) old) (sym same-lasts)
+          (laid ∙ ap (λ (r : List Row). storedBeside from r (beside (old .indices) (old .decodings) (old .matches) (old .trefs))) again
+          ∙ same-place (beside (old .indices) (old .decodings) (old .matches) (old .trefs)))
+          numbers-are
+          ∙ ap (λ (l : List (List ℕ)). storedFrom (found .rows) (withRoom room (found .rows) (rowsFrom table first (packetsIn bytes) l)) old) (sym same-lasts)
 
       pub passed-all : {new-kept last-ends : List ℕ} → Kept kept bytes new-ends new-kept last-ends
           → Passed table bytes first found room kept ends old new-kept last-ends (columns (new .indices) (new .decodings) (new .matches) (new .trefs) numbers) after

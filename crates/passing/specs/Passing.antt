@@ -1,9 +1,9 @@
 -- One piece of whole packets passed: what is found, where the rows stand, and that the last packets are kept.
 -- Assumes nothing.
-use Prim.Native.Nat.{ℕ, _*_, _≤_}
+use Prim.Native.Nat.{ℕ, _-_, _*_, _≤_}
 use mathlib.Core.Path.{_≡_}
 use mathlib.Core.List.{List, [], map}
-use lib.ListN.{length, getD}
+use lib.ListN.{length, getD, take}
 use lib.Seq.{sets}
 use Rattle.packets.specs.Reading.{packetBytes}
 use Rattle.scanning.specs.declared.events.Row.{Row}
@@ -24,8 +24,12 @@ storedFrom at rows c =
     columns (sets (c .indices) at (map indexIn rows)) (sets (c .decodings) at (map decodingIn rows)) (sets (c .matches) at (map matchIn rows))
     (sets (c .trefs) at (map trefIn rows)) (sets (c .packets) at (map packetIn rows))
 
+-- of rows that come behind so many, those that there is room for: the others are passed over
+abbrev pub withRoom : ℕ → ℕ → List Row → List Row
+withRoom room at rows = take (room - at) rows
+
 pub record Passed (table bytes : List ℕ) (first : ℕ) (found : Found) (room : ℕ) (kept ends : List ℕ) (old : Columns) (new-kept new-ends : List ℕ) (new : Columns) (answer : Found) : Type 0 where
   pub finds : answer ≡ foundFrom table first (packetsIn bytes) (lastsOf kept [] ends) found
   pub lasts : lastsOf new-kept [] new-ends ≡ lastsOver table (packetsIn bytes) (lastsOf kept [] ends)
   pub held : Held new-kept new-ends
-  pub stored : answer .rows ≤ room → new ≡ storedFrom (found .rows) (rowsFrom table first (packetsIn bytes) (lastsOf kept [] ends)) old
+  pub stored : new ≡ storedFrom (found .rows) (withRoom room (found .rows) (rowsFrom table first (packetsIn bytes) (lastsOf kept [] ends))) old

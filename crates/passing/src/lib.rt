@@ -9,8 +9,8 @@ ghost use Rattle.passing.specs.Passing.{Held, Passed};
 use combinators::lesser;
 use unit_starts::Found;
 
-// THE PIECE. The first of its packets has a number in the recording, and so much was found before it. Rows are laid as far as there is room for them; whether there
-// was is to be seen from the number of rows.
+// THE PIECE. The first of its packets has a number in the recording, and so much was found before it. Rows are laid as far as there is room for them, and the
+// others are passed over; whether there was room is to be seen from the number of rows.
 pub fn pass(
     table: &[u8; 8192],
     bytes: &[u8],
@@ -32,7 +32,7 @@ pub fn pass(
         (now (kept .exit)) (now (ends .exit))
         (columns (now (indices .exit)) (now (decodings .exit)) (now (matches .exit)) (now (trefs .exit)) (now (numbers .exit))) r ⌝ }
 {
-    let after = unit_starts::walk(table, kept, bytes, first, found, ends, numbers);
+    let after = unit_starts::walk(table, kept, bytes, first, found, ends, &mut numbers[..room]);
     let from = lesser(found.rows, room);
     let to = lesser(after.rows, room);
     recording_rows::lay(

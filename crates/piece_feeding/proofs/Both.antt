@@ -1,13 +1,12 @@
 -- One half of a piece after the other: what is known goes on over both, and their rows stand one after another.
 -- Assumes nothing.
-use Prim.Native.Nat.{ℕ, _+_, _-_, _*_, _/_, _≤_, _<_, min}
+use Prim.Native.Nat.{ℕ, zero, suc, _+_, _-_, _*_, _/_, _≤_, _<_, min}
 use mathlib.Core.Path.{_≡_, refl, sym, ap, ap₂, subst, _∙_}
-use mathlib.Core.List.{List, [], _++_, map}
+use mathlib.Core.List.{List, [], _∷_, _++_, map, append-nil}
 use native.Mathlib.Decide.{decLt}
-use native.Mathlib.Nat.{le-trans}
 use native.Mathlib.Omega.{arith}
 use lib.ListN.{length, take, drop, length-map, length-append, length-drop, take-append-drop}
-use lib.Seq.{sets, take-length, length-take-le}
+use lib.Seq.{sets, take-all, take-length, length-take-le}
 use Rattle.buffers.proofs.Laws.{sets-append}
 use Rattle.combinators.specs.Lists.{part-to-end}
 use Rattle.packets.specs.Reading.{packetBytes}
@@ -18,7 +17,7 @@ use Rattle.unit_starts.specs.Finding.{packetIn}
 use Rattle.unit_starts.proofs.Running.{rows-counted-from}
 use Rattle.unit_starts.proofs.Walking.{map-append}
 use Rattle.recording_rows.specs.Columns.{Columns, columns, roomIn, indexIn, decodingIn, matchIn, trefIn}
-use Rattle.passing.specs.Passing.{storedFrom}
+use Rattle.passing.specs.Passing.{storedFrom, withRoom}
 use Rattle.fed_packets.specs.Feeding.{Progress as Known, packetsWhole, wholeOf, fed, rowsFed}
 use Rattle.fed_packets.proofs.Cut.{fed-then, rows-fed-then}
 use Rattle.feeding.specs.declared.Progress.{Progress}
@@ -40,6 +39,41 @@ stored-then old at done piece e =
     λ i. columns (column-then indexIn (old .indices) at done piece e i) (column-then decodingIn (old .decodings) at done piece e i)
     (column-then matchIn (old .matches) at done piece e i) (column-then trefIn (old .trefs) at done piece e i) (column-then packetIn (old .packets) at done piece e i)
 
+-- the first of two lists one after the other
+take-both : {A : Type 0} (n : ℕ) (xs ys : List A) → take n (xs ++ ys) ≡ take n xs ++ take (n - length xs) ys
+take-both zero xs ys =
+    let none : 0 - length xs ≡ 0 = omega arith in
+    sym (ap (λ (k : ℕ). take k ys) none)
+take-both (suc n) [] ys =
+    let all : suc n - 0 ≡ suc n = omega arith in
+    sym (ap (λ (k : ℕ). take k ys) all)
+take-both {A = A} (suc n) (x ∷ xs) ys =
+    let one : suc n - suc (length xs) ≡ n - length xs = omega arith in
+    ap (λ (l : List A). x ∷ l) (take-both n xs ys) ∙ sym (ap (λ (k : ℕ). x ∷ take n xs ++ take k ys) one)
+
+-- rows that there is room for, and those behind them that there is still room for
+pub fitting-then : (old : Columns) (room at : ℕ) (done piece : List Row) {place : ℕ} → place ≡ at + length done
+    → storedFrom place (withRoom room place piece) (storedFrom at (withRoom room at done) old) ≡ storedFrom at (withRoom room at (done ++ piece)) old
+fitting-then old room at done piece {place} e = go (decLt (room - at) (length done))
+  where
+    left : room - place ≡ room - at - length done
+    left = omega arith
+
+    both : withRoom room at (done ++ piece) ≡ withRoom room at done ++ withRoom room place piece
+    both = take-both (room - at) done piece ∙ ap (λ (n : ℕ). take (room - at) done ++ take n piece) (sym left)
+
+    go : Dec (room - at < length done)
+        → storedFrom place (withRoom room place piece) (storedFrom at (withRoom room at done) old) ≡ storedFrom at (withRoom room at (done ++ piece)) old
+    go (yes h) =
+        let full : room - place ≡ 0 = omega arith in
+        let nothing : withRoom room place piece ≡ [] = ap (λ (n : ℕ). take n piece) full in
+        ap (λ (rows : List Row). storedFrom place rows (storedFrom at (withRoom room at done) old)) nothing
+        ∙ sym (ap (λ (rows : List Row). storedFrom at rows old) (both ∙ ap (λ (rows : List Row). withRoom room at done ++ rows) nothing ∙ append-nil (withRoom room at done)))
+    go (no h) =
+        let all : withRoom room at done ≡ done = take-all (room - at) done (omega arith) in
+        stored-then old at (withRoom room at done) (withRoom room place piece) (e ∙ ap (λ (rows : List Row). at + length rows) (sym all))
+        ∙ sym (ap (λ (rows : List Row). storedFrom at rows old) both)
+
 -- ---- two pieces
 
 module _ (table first second : List ℕ) (room : ℕ) {p q r : Progress} {part part′ part″ kept kept′ kept″ ends ends′ ends″ : List ℕ} {old mid new : Columns}
@@ -51,21 +85,13 @@ module _ (table first second : List ℕ) (room : ℕ) {p q r : Progress} {part p
   counted : q .found .rows ≡ p .found .rows + length (rowsFed table known first)
   counted = ap (λ (k : Known). k .found .rows) (one .goes-on) ∙ rows-counted-from table (p .number) (packetsIn (wholeOf (known .part ++ first))) (known .lasts) (p .found)
 
-  counted-on : r .found .rows ≡ q .found .rows + length (rowsFed table (knownBy q part′ kept′ ends′) second)
-  counted-on =
-      ap (λ (k : Known). k .found .rows) (two .goes-on)
-      ∙ rows-counted-from table (q .number) (packetsIn (wholeOf (knownBy q part′ kept′ ends′ .part ++ second))) (knownBy q part′ kept′ ends′ .lasts) (q .found)
-
-  all-stored : r .found .rows ≤ room → new ≡ storedFrom (p .found .rows) (rowsFed table known (first ++ second)) old
-  all-stored h =
-      two .stored h
-      ∙ ap (storedFrom (q .found .rows) (rowsFed table (knownBy q part′ kept′ ends′) second)) (one .stored (le-trans (more (q .found .rows) (r .found .rows) _ counted-on) h))
-      ∙ stored-then old (p .found .rows) (rowsFed table known first) (rowsFed table (knownBy q part′ kept′ ends′) second) counted
-      ∙ ap (λ (rows : List Row). storedFrom (p .found .rows) rows old)
+  all-stored : new ≡ storedFrom (p .found .rows) (withRoom room (p .found .rows) (rowsFed table known (first ++ second))) old
+  all-stored =
+      two .stored
+      ∙ ap (storedFrom (q .found .rows) (withRoom room (q .found .rows) (rowsFed table (knownBy q part′ kept′ ends′) second))) (one .stored)
+      ∙ fitting-then old room (p .found .rows) (rowsFed table known first) (rowsFed table (knownBy q part′ kept′ ends′) second) counted
+      ∙ ap (λ (rows : List Row). storedFrom (p .found .rows) (withRoom room (p .found .rows) rows) old)
       (ap (λ (k : Known). rowsFed table known first ++ rowsFed table k second) (one .goes-on) ∙ rows-fed-then table known first second)
-    where
-      more : (a b n : ℕ) → b ≡ a + n → a ≤ b
-      more a b n e = omega arith
 
   pub both-fed : Feeds table (first ++ second) room p part kept ends old r part″ kept″ ends″ new
   both-fed =

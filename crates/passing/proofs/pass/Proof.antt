@@ -2,10 +2,21 @@
 use borrow.Author.Needs.{needs}
 use native.Mathlib.Omega.{arith}
 use denote.Ref.{now}
+use mathlib.Core.Path.{sym}
+use lib.Seq.{length-take-le}
 use Rattle.recording_rows.specs.Columns.{columns}
-use Rattle.passing.proofs.Passes.{held-within, ends-long, in-order, to-old, part-inside, part-room, passed-all}
+use Rattle.passing.proofs.Passes.{held-within, room-each, ends-long, in-order, to-old, part-inside, part-room, passed-all}
 use Rattle.passing.proofs.pass.Statement.{statement}
 use Rattle.passing.proofs.pass.Tie as tie
+
+slice-relend-prefix-walk : tie.Need-slice-relend-prefix-walk
+slice-relend-prefix-walk c = search needs
+
+slice-aggregate-walk : tie.Need-slice-aggregate-walk
+slice-aggregate-walk c =
+    let a = c .before .before .before .before .before .before .before .before .before .before .args in
+    let old = columns (now (a .indices)) (now (a .decodings)) (now (a .matches)) (now (a .trefs)) (now (a .numbers)) in
+    sym (length-take-le (a .room) (now (a .numbers)) (room-each (a .room) old (c .before .before .before .before .before .before .before .before .before .before .pre .3)))
 
 walk-requires : tie.Need-walk-requires
 walk-requires c κs = (c .before .before .before .before .before .before .before .before .before .before .pre .0, c .before .before .before .before .before .before .before .before .before .before .pre .1, c .before .before .before .before .before .before .before .before .before .before .pre .2, held-within (c .before .before .before .before .before .before .before .before .before .before .pre .4) (now (c .before .before .before .before .before .before .before .before .before .before .args .bytes)))
@@ -85,6 +96,8 @@ pub pass-spec : {M : Type 1} → statement M
 pass-spec =
     tie.close
     (tie.spec
+    slice-relend-prefix-walk
+    slice-aggregate-walk
     walk-requires
     lesser-requires
     lesser-requires-2
