@@ -1,4 +1,5 @@
 pub mod Comparing
 pub mod Steps
+pub mod Ordinary
 pub mod Copies
 pub mod Meant

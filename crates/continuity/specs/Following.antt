@@ -4,7 +4,7 @@
 use Prim.Native.Nat.{ℕ, _+_, _%_}
 use mathlib.Core.Bool.{Bool, cond, not, _&&_}
 use mathlib.Core.List.{List}
-use lib.Dec.{eqb}
+use lib.Dec.{eqb, ltb}
 use lib.ListN.{length, getD, take, drop}
 use Rattle.combinators.specs.Below.{count}
 use Rattle.packets.specs.declared.Packet.{Packet}
@@ -63,3 +63,8 @@ abbrev pub stepOf : List ℕ → List ℕ → Step
 stepOf before packet =
     cond (isSkipped (packetOf packet)) Skipped
     (cond (isThere before) (afterOf (packetOf packet) packet (packetOf before) before) (aloneOf (packetOf packet) packet))
+
+-- An ordinary packet after another, by its second and fourth byte and the fourth byte of the one before it: no error bit and no unit start; not scrambled, a
+-- payload and no adaptation field, and the next counter. Its step is that it continues (proofs/Ordinary.antt).
+abbrev pub ordinaryAfter : ℕ → ℕ → ℕ → Bool
+ordinaryAfter second fourth before = ltb second 64 && eqb fourth (16 + (before % 16 + 1) % 16)

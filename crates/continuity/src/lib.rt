@@ -4,7 +4,7 @@ ghost use mathlib.Core.Path.{_≡_};
 ghost use Prim.Native.Nat.{_+_, _%_, _≤_};
 ghost use lib.ListN.{length};
 ghost use Rattle.packets.specs.Reading.{packetBytes};
-ghost use Rattle.continuity.specs.Following.{differenceOf, sameBytes, repeats, isCopy, nextCounter, isGap, aloneOf, stepOf};
+ghost use Rattle.continuity.specs.Following.{differenceOf, sameBytes, repeats, isCopy, nextCounter, isGap, aloneOf, stepOf, ordinaryAfter};
 use packets::PACKET_BYTES;
 use packets::Packet;
 
@@ -130,4 +130,15 @@ pub fn follow(before: &[u8], packet: &[u8]) -> Step
         return Step::Faulty(31);
     }
     alone(fields, packet)
+}
+
+// Whether a packet is an ordinary one after the packet before it, by the second and fourth byte of the one and the fourth of the other: most packets are, and
+// nothing else of them need be looked at.
+pub fn ordinary_after(second: u8, fourth: u8, before: u8) -> bool
+    ensures { λ r. ⌜ r ≡ ordinaryAfter second fourth before ⌝ }
+{
+    if 64 <= second {
+        return false;
+    }
+    fourth == 16 + (before % 16 + 1) % 16
 }

@@ -22,9 +22,10 @@ use Rattle.packets.proofs.FieldLaws.{packet-of-bytes}
 use Rattle.packets.proofs.JudgingLaws.{payload-within}
 use Rattle.continuity.specs.declared.Step.{Step}
 use Rattle.continuity.specs.declared.Step.the-variants.{Skipped, Copy, Faulty, Starts, Continues}
-use Rattle.continuity.specs.Following.{isCopy, isGap, aloneOf, afterOf, isThere, stepOf}
+use Rattle.continuity.specs.Following.{isCopy, isGap, aloneOf, afterOf, isThere, stepOf, ordinaryAfter}
+use Rattle.continuity.proofs.Ordinary.{ordinary-continues}
 use Rattle.scanning.specs.declared.events.Event.the-variants.{Nothing, Fault}
-use Rattle.scanning.specs.Events.{lastBy, startIn, stepEvent, stepIn, packetEvent, packetLasts, layerOf, onLayer, isQuiet, packetAt, endingAt, keptAt, lastAt, lastsFrom, lastsOf, LastWithin, EndsWithin, quietBy, Passes}
+use Rattle.scanning.specs.Events.{lastBy, startIn, stepEvent, stepIn, packetEvent, packetLasts, layerOf, onLayer, packetAt, endingAt, keptAt, lastAt, lastsFrom, lastsOf, LastWithin, EndsWithin, PassedOver, none-yet, one-more, Passes}
 
 -- ---- a header starts within its packet
 
@@ -72,13 +73,6 @@ packet-bytes bytes k are = take-bytes packetBytes (drop (packetBytes * k) bytes)
 pub byte-at : (bytes : List ℕ) (k i : ℕ) → i < packetBytes → getD (packetAt bytes k) i 0 ≡ getD bytes (packetBytes * k + i) 0
 byte-at bytes k i h = getD-take packetBytes (drop (packetBytes * k) bytes) i 0 h ∙ getD-drop (packetBytes * k) bytes i 0
 
-not-below : (n : ℕ) → not (ltb n 64) ≡ ltb 63 n
-not-below n = go (ltb n 64) refl
-  where
-    go : (t : Bool) → ltb n 64 ≡ t → not t ≡ ltb 63 n
-    go true e = sym (le-ltb 63 n (omega (arith, ltb-true n 64 e)))
-    go false e = sym (lt-ltb 63 n (omega (arith, ltb-false n 64 e)))
-
 module _ (table packet : List ℕ) (bytes : AreBytes packet) where
   sync-of-bytes : inHeader "sync_byte" packet ≡ getD packet 0 0
   sync-of-bytes = ap (λ (p : Packet). p .«sync_byte») (packet-of-bytes packet bytes)
@@ -91,17 +85,6 @@ module _ (table packet : List ℕ) (bytes : AreBytes packet) where
 
   pub layer-of-bytes : layerOf table packet ≡ getD table (getD packet 1 0 % 32 * 256 + getD packet 2 0) 0
   layer-of-bytes = ap (λ (n : ℕ). getD table n 0) pid-of-bytes
-
-  pub quiet-of-bytes : quietBy table (getD packet 0 0) (getD packet 1 0) (getD packet 2 0) ≡ isQuiet table packet
-  quiet-of-bytes =
-      sym
-      (ap₂ _&&_
-      (ap not lost-of-bytes ∙ not-not (eqb (getD packet 0 0) 0x47))
-      (not-below (layerOf table packet) ∙ ap (ltb 63) layer-of-bytes))
-    where
-      not-not : (t : Bool) → not (not t) ≡ t
-      not-not true = refl
-      not-not false = refl
 
 -- ---- the last packets as the places at which they end
 
@@ -263,28 +246,90 @@ module _ (table kept bytes ends : List ℕ) (k number : ℕ) (packet : List ℕ)
               ∙ ap (λ (p : List ℕ). packetLasts table p lasts) is-packet,
         )
 
+    -- an ordinary packet gives nothing, and is the last one now
+    looked-ordinary : layer ≤ 63 → stepHere ≡ Continues
+        → (Nothing ≡ packetEvent table number (packetAt bytes k) lasts)
+        × (lastsOf kept bytes (set ends layer (packetBytes * k + packetBytes)) ≡ packetLasts table (packetAt bytes k) lasts)
+    looked-ordinary h e =
+        let both = looked-on h in (
+          ap (stepEvent layer number packet) (sym e) ∙ both .0,
+          ap (λ (s : Step). lastsOf kept bytes (set ends layer (lastBy s (getD ends layer 0) (packetBytes * k + packetBytes)))) (sym e) ∙ both .1,
+        )
+
+-- ---- the packet that ends at a place of the bytes
+
+module _ (kept bytes : List ℕ) (slot end : ℕ) (whole : packetBytes ≤ end) (inside : end ≤ length bytes) where
+  last-ends : lastAt kept bytes slot end ≡ take packetBytes (drop (end - packetBytes) bytes)
+  last-ends =
+      let size : end - (end - packetBytes) ≡ packetBytes = omega arith in
+      ap (λ (t : Bool). cond t (keptAt kept slot) (endingAt bytes end)) (ne-eqb end 1 (λ e. omega arith))
+      ∙ ap (λ (n : ℕ). take n (drop (end - packetBytes) bytes)) size
+
+  last-long : length (lastAt kept bytes slot end) ≡ packetBytes
+  last-long =
+      ap length last-ends ∙ length-take-le packetBytes (drop (end - packetBytes) bytes) (omega (arith, length-drop (end - packetBytes) bytes))
+
+  last-bytes : AreBytes bytes → AreBytes (lastAt kept bytes slot end)
+  last-bytes are = subst AreBytes (sym last-ends) (take-bytes packetBytes (drop (end - packetBytes) bytes) (drop-bytes (end - packetBytes) bytes are))
+
+  last-fourth : getD (lastAt kept bytes slot end) 3 0 ≡ getD bytes (end - 185) 0
+  last-fourth =
+      let place : end - packetBytes + 3 ≡ end - 185 = omega arith in
+      ap (λ (l : List ℕ). getD l 3 0) last-ends
+      ∙ getD-take packetBytes (drop (end - packetBytes) bytes) 3 0 (omega arith)
+      ∙ getD-drop (end - packetBytes) bytes 3 0
+      ∙ ap (λ (n : ℕ). getD bytes n 0) place
+
+  -- an ordinary packet after it continues
+  ordinary-here : AreBytes bytes → (packet : List ℕ) → AreBytes packet → ordinaryAfter (getD packet 1 0) (getD packet 3 0) (getD bytes (end - 185) 0) ≡ true
+      → stepOf (lastAt kept bytes slot end) packet ≡ Continues
+  ordinary-here all packet are ordinary =
+      ordinary-continues (lastAt kept bytes slot end) packet (last-bytes all) are last-long
+      (ap (ordinaryAfter (getD packet 1 0) (getD packet 3 0)) last-fourth ∙ ordinary)
+
 -- ---- packets passed over
 
-module _ (table bytes : List ℕ) (are : AreBytes bytes) (from packets : ℕ) where
-  pub passes-start : from ≤ packets → Passes table bytes from packets from
-  passes-start h = record { onward = omega arith; within = h; quiet = λ k l m. absurd (omega arith) }
+passed-then : {table bytes : List ℕ} {from k next : ℕ} {lasts before after : List (List ℕ)} → PassedOver table bytes from lasts k before → PassedOver table bytes k before next after
+    → PassedOver table bytes from lasts next after
+passed-then p none-yet = p
+passed-then p (one-more q nothing later) = one-more (passed-then p q) nothing later
 
-  pub passes-next : (k : ℕ) → Passes table bytes from packets k → k < packets
-      → quietBy table (getD bytes (packetBytes * k) 0) (getD bytes (packetBytes * k + 1) 0) (getD bytes (packetBytes * k + 2) 0) ≡ true
-      → Passes table bytes from packets (k + 1)
-  passes-next k p h q =
-      record {
-        onward = omega (arith, p .onward);
-        within = omega arith;
-        quiet = λ j l m. ⊎-elim (λ (e : j ≡ k). rw e here) (λ (s : j < k). p .quiet j l s) (eq-or-lt-of-le (omega arith));
-      }
+module _ (table kept bytes ends : List ℕ) (from packets : ℕ) where
+  pub passes-none : EndsWithin kept bytes ends → from ≤ packets → Passes table kept bytes ends from packets from ends
+  passes-none within h = record { onward = omega arith; inside = h; within = within; passed = none-yet }
+
+  -- after some packets, one more or none
+  module _ {k : ℕ} {middle later : List ℕ} (p : Passes table kept bytes ends from packets k middle) (more : k < packets) where
+    passes-then : {next : ℕ} → Passes table kept bytes middle k (k + 1) next later → Passes table kept bytes ends from packets next later
+    passes-then q =
+        record { onward = omega (arith, p .onward, q .onward); inside = omega (arith, q .inside); within = q .within; passed = passed-then (p .passed) (q .passed) }
+
+    pub passes-by : {one : Bool} (t : Bool) → one ≡ t → Passes table kept bytes middle k (k + 1) (cond one (k + 1) k) later
+        → Passes table kept bytes ends from packets (cond t (k + 1) k) later
+    passes-by t e q = passes-then (subst (λ (b : Bool). Passes table kept bytes middle k (k + 1) (cond b (k + 1) k) later) e q)
+
+passes-one : {table kept bytes ends new-ends : List ℕ} {k : ℕ} → ((number : ℕ) → Nothing ≡ packetEvent table number (packetAt bytes k) (lastsOf kept bytes ends))
+    → lastsOf kept bytes new-ends ≡ packetLasts table (packetAt bytes k) (lastsOf kept bytes ends) → EndsWithin kept bytes new-ends
+    → Passes table kept bytes ends k (k + 1) (k + 1) new-ends
+passes-one {table} {kept} {bytes} {ends} {new-ends} {k} nothing later within =
+    record { onward = omega arith; inside = omega arith; within = within; passed = one-more none-yet (λ number. sym (nothing number)) later }
+
+module _ (table kept bytes ends : List ℕ) (within : EndsWithin kept bytes ends) (k : ℕ) (packet : List ℕ) (is-packet : packet ≡ packetAt bytes k) (are : AreBytes packet)
+    (sync : getD packet 0 0 ≡ 0x47) (layer : ℕ) (is-layer : layer ≡ getD table (getD packet 1 0 % 32 * 256 + getD packet 2 0) 0) where
+  -- one on no layer's PID
+  pub passes-other : 63 < layer → Passes table kept bytes ends k (k + 1) (k + 1) ends
+  passes-other h =
+      passes-one (λ number. looked-other table kept bytes ends k number packet is-packet are sync layer is-layer h .0)
+      (looked-other table kept bytes ends k 0 packet is-packet are sync layer is-layer h .1) within
+
+  -- an ordinary one of a layer
+  pub passes-ordinary : layer ≤ 63 → packetBytes * k + packetBytes ≤ length bytes → AreBytes bytes → packetBytes ≤ getD ends layer 0
+      → ordinaryAfter (getD packet 1 0) (getD packet 3 0) (getD bytes (getD ends layer 0 - 185) 0) ≡ true
+      → Passes table kept bytes ends k (k + 1) (k + 1) (set ends layer (packetBytes * k + packetBytes))
+  passes-ordinary h room all whole ordinary =
+      passes-one (λ number. looked-ordinary table kept bytes ends k number packet is-packet are sync layer is-layer h step .0)
+      (looked-ordinary table kept bytes ends k 0 packet is-packet are sync layer is-layer h step .1)
+      (ends-set kept bytes ends layer (packetBytes * k + packetBytes) (next-within kept bytes layer k room) within)
     where
-      first : getD (packetAt bytes k) 0 0 ≡ getD bytes (packetBytes * k) 0
-      first = byte-at bytes k 0 (omega arith) ∙ ap (λ (n : ℕ). getD bytes n 0) (add-zero (packetBytes * k))
-
-      here : isQuiet table (packetAt bytes k) ≡ true
-      here =
-          sym (quiet-of-bytes table (packetAt bytes k) (packet-bytes bytes k are))
-          ∙ ap (λ (n : ℕ). quietBy table n (getD (packetAt bytes k) 1 0) (getD (packetAt bytes k) 2 0)) first
-          ∙ ap₂ (quietBy table (getD bytes (packetBytes * k) 0)) (byte-at bytes k 1 (omega arith)) (byte-at bytes k 2 (omega arith))
-          ∙ q
+      step : stepOf (lastAt kept bytes layer (getD ends layer 0)) packet ≡ Continues
+      step = ordinary-here kept bytes layer (getD ends layer 0) whole (place-inside (within layer) (λ e. omega arith)) all packet are ordinary

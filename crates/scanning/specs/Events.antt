@@ -1,8 +1,8 @@
 -- What each packet of a recording gives, given for each layer the last packet before it on that layer's PID.
 -- Assumes nothing.
-use Prim.Native.Nat.{ℕ, suc, _+_, _-_, _*_, _%_, _≤_, _<_}
+use Prim.Native.Nat.{ℕ, suc, _+_, _-_, _*_, _≤_, _<_}
 use mathlib.Core.Path.{_≡_}
-use mathlib.Core.Bool.{Bool, true, cond, not, _&&_}
+use mathlib.Core.Bool.{Bool, cond}
 use mathlib.Core.List.{List, [], _∷_}
 use lib.Dec.{eqb, ltb}
 use lib.ListN.{length, getD, set, take, drop, replicate}
@@ -99,10 +99,6 @@ module _ (table : List ℕ) where
   lastsAfter (whole packet rest) lasts = packetLasts packet lasts
   lastsAfter broken lasts = lasts
 
-  -- a packet that is in sync and on no layer's PID gives nothing, whatever was before it
-  abbrev pub isQuiet : List ℕ → Bool
-  isQuiet packet = not (lostSync (packetOf packet)) && not (onLayer table packet)
-
 -- a packet of a recording by its number
 abbrev pub packetAt : List ℕ → ℕ → List ℕ
 packetAt bytes k = take packetBytes (drop (packetBytes * k) bytes)
@@ -135,12 +131,17 @@ pub record LastWithin (kept bytes : List ℕ) (slot end : ℕ) : Type 0 where
 abbrev pub EndsWithin : List ℕ → List ℕ → List ℕ → Type 0
 EndsWithin kept bytes ends = (i : ℕ) → LastWithin kept bytes i (getD ends i 0)
 
--- a quiet packet by its first three bytes
-abbrev pub quietBy : List ℕ → ℕ → ℕ → ℕ → Bool
-quietBy table first second third = eqb first 0x47 && ltb 63 (getD table (second % 32 * 256 + third) 0)
+-- packets passed over, from one on, where the last packets are known: each gives nothing, whatever its number, and leaves the last packets as they are after it
+pub data PassedOver (table bytes : List ℕ) (from : ℕ) (lasts : List (List ℕ)) : ℕ → List (List ℕ) → Type 0 where
+  none-yet : PassedOver table bytes from lasts from lasts
+  one-more : {k : ℕ} {before after : List (List ℕ)} → PassedOver table bytes from lasts k before
+      → ((number : ℕ) → packetEvent table number (packetAt bytes k) before ≡ Nothing)
+      → after ≡ packetLasts table (packetAt bytes k) before
+      → PassedOver table bytes from lasts (k + 1) after
 
--- packets passed over, each of them quiet
-pub record Passes (table bytes : List ℕ) (from packets next : ℕ) : Type 0 where
+-- the same with the last packets as places
+pub record Passes (table kept bytes ends : List ℕ) (from packets next : ℕ) (new-ends : List ℕ) : Type 0 where
   pub onward : from ≤ next
-  pub within : next ≤ packets
-  pub quiet : (k : ℕ) → from ≤ k → k < next → isQuiet table (packetAt bytes k) ≡ true
+  pub inside : next ≤ packets
+  pub within : EndsWithin kept bytes new-ends
+  pub passed : PassedOver table bytes from (lastsOf kept bytes ends) next (lastsOf kept bytes new-ends)

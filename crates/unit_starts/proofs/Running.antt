@@ -17,7 +17,7 @@ use Rattle.packets.specs.Judging.{lostSync}
 use Rattle.scanning.specs.declared.events.Row.{Row}
 use Rattle.scanning.specs.declared.events.Event.{Event}
 use Rattle.scanning.specs.declared.events.Event.the-variants.{Nothing, Fault, NotRead, Unit}
-use Rattle.scanning.specs.Events.{packetsIn, noneYet, lastBy, onLayer, stepEvent, layerOf, stepIn, packetEvent, eventOf, packetLasts, lastsAfter, isQuiet, packetAt, Passes}
+use Rattle.scanning.specs.Events.{packetsIn, noneYet, lastBy, onLayer, stepEvent, layerOf, stepIn, packetEvent, eventOf, packetLasts, lastsAfter, packetAt, PassedOver, none-yet, one-more}
 use Rattle.unit_starts.specs.declared.Found.{Found}
 use Rattle.unit_starts.specs.Finding.{nothingFound, noted, rowIn, foundFrom, rowsFrom, lastsOver, foundIn, rowsIn}
 
@@ -79,19 +79,6 @@ parted (suc n) front rest e =
     }
 
 module _ (table : List ℕ) where
-  -- a quiet packet gives nothing and leaves the last packets as they are
-  quiet-event : (packet : List ℕ) → isQuiet table packet ≡ true → (k : ℕ) (lasts : List (List ℕ)) → packetEvent table k packet lasts ≡ Nothing
-  quiet-event packet q k lasts =
-      ap₂ (λ (s l : Bool). cond s (Fault 30) (cond l (stepEvent (layerOf table packet) k packet (stepIn table lasts packet)) Nothing))
-      (not-true (lostSync (packetOf packet)) (both-left (not (lostSync (packetOf packet))) (not (onLayer table packet)) q))
-      (not-true (onLayer table packet) (both-right (not (lostSync (packetOf packet))) (not (onLayer table packet)) q))
-
-  quiet-lasts : (packet : List ℕ) → isQuiet table packet ≡ true → (lasts : List (List ℕ)) → packetLasts table packet lasts ≡ lasts
-  quiet-lasts packet q lasts =
-      ap₂ (λ (s l : Bool). cond s lasts (cond l (set lasts (layerOf table packet) (lastBy (stepIn table lasts packet) (getD lasts (layerOf table packet) []) packet)) lasts))
-      (not-true (lostSync (packetOf packet)) (both-left (not (lostSync (packetOf packet))) (not (onLayer table packet)) q))
-      (not-true (onLayer table packet) (both-right (not (lostSync (packetOf packet))) (not (onLayer table packet)) q))
-
   -- what is found, which rows, and which last packets, from a step on, where the first packet of all has a number
   module _ (bytes : List ℕ) (first : ℕ) where
     abbrev pub found-from : ℕ → List (List ℕ) → Found → Found
@@ -127,51 +114,34 @@ module _ (table : List ℕ) where
     pub lasts-next : (k : ℕ) (lasts : List (List ℕ)) → packetBytes * k + packetBytes ≤ length bytes → lasts-from k lasts ≡ lasts-from (k + 1) (after k lasts)
     lasts-next k lasts h = ap (λ (is : List Item). lastsOver table is lasts) (next-packet bytes k h)
 
-    -- what is left from one step on is what is left from another
-    pub record Same (lasts : List (List ℕ)) (k m : ℕ) : Type 0 where
-      pub found : (f : Found) → found-from k lasts f ≡ found-from m lasts f
-      pub rows : rows-from k lasts ≡ rows-from m lasts
-      pub over : lasts-from k lasts ≡ lasts-from m lasts
+    -- what is left from one step on is what is left from another, with the last packets of each
+    pub record Same (k : ℕ) (lasts : List (List ℕ)) (m : ℕ) (later : List (List ℕ)) : Type 0 where
+      pub found : (f : Found) → found-from k lasts f ≡ found-from m later f
+      pub rows : rows-from k lasts ≡ rows-from m later
+      pub over : lasts-from k lasts ≡ lasts-from m later
 
-    -- a quiet packet is passed over
-    quiet-same : (k : ℕ) (lasts : List (List ℕ)) → packetBytes * k + packetBytes ≤ length bytes → isQuiet table (packetAt bytes k) ≡ true → Same lasts k (k + 1)
-    quiet-same k lasts h q =
+    -- a packet that gives nothing is passed over
+    nothing-same : (k : ℕ) (lasts : List (List ℕ)) {later : List (List ℕ)} → packetBytes * k + packetBytes ≤ length bytes → ((number : ℕ) → packetEvent table number (packetAt bytes k) lasts ≡ Nothing)
+        → later ≡ after k lasts → Same k lasts (k + 1) later
+    nothing-same k lasts h nothing is =
         record {
           found = λ f. found-next k lasts f h
-              ∙ ap₂ (λ (l : List (List ℕ)) (e : Event). found-from (k + 1) l (noted (first + k) e f)) (quiet-lasts (packetAt bytes k) q lasts) (quiet-event (packetAt bytes k) q (first + k) lasts);
-          rows = rows-next k lasts h
-              ∙ ap₂ (λ (l : List (List ℕ)) (e : Event). rowIn e ++ rows-from (k + 1) l) (quiet-lasts (packetAt bytes k) q lasts) (quiet-event (packetAt bytes k) q (first + k) lasts);
-          over = lasts-next k lasts h ∙ ap (lasts-from (k + 1)) (quiet-lasts (packetAt bytes k) q lasts);
+              ∙ ap₂ (λ (l : List (List ℕ)) (e : Event). found-from (k + 1) l (noted (first + k) e f)) (sym is) (nothing (first + k));
+          rows = rows-next k lasts h ∙ ap₂ (λ (l : List (List ℕ)) (e : Event). rowIn e ++ rows-from (k + 1) l) (sym is) (nothing (first + k));
+          over = lasts-next k lasts h ∙ ap (lasts-from (k + 1)) (sym is);
         }
 
     -- and so are several
-    module _ (k packets : ℕ) (room : packetBytes * packets ≤ length bytes) (lasts : List (List ℕ)) where
-      passed-by : (n : ℕ) → k + n ≤ packets → ((j : ℕ) → k ≤ j → j < k + n → isQuiet table (packetAt bytes j) ≡ true) → Same lasts k (k + n)
-      passed-by zero h q =
-          record {
-            found = λ f. ap (λ (m : ℕ). found-from m lasts f) (sym (add-zero k));
-            rows = ap (λ (m : ℕ). rows-from m lasts) (sym (add-zero k));
-            over = ap (λ (m : ℕ). lasts-from m lasts) (sym (add-zero k));
-          }
-      passed-by (suc n) h q =
-          let before = passed-by n (omega arith) (λ j l m. q j l (omega arith)) in
-          let next = quiet-same (k + n) lasts (omega arith) (q (k + n) (omega arith) (omega arith)) in
-          let on : k + n + 1 ≡ k + suc n = omega arith in
-          record {
-            found = λ f. before .found f ∙ next .found f ∙ ap (λ (m : ℕ). found-from m lasts f) on;
-            rows = before .rows ∙ next .rows ∙ ap (λ (m : ℕ). rows-from m lasts) on;
-            over = before .over ∙ next .over ∙ ap (λ (m : ℕ). lasts-from m lasts) on;
-          }
-
-      pub passed : (next : ℕ) → Passes table bytes k packets next → Same lasts k next
-      passed next p =
-          let on : k + (next - k) ≡ next = omega (arith, p .onward) in
-          let all = passed-by (next - k) (omega (arith, p .onward, p .within)) (λ j l m. p .quiet j l (omega arith)) in
-          record {
-            found = λ f. all .found f ∙ ap (λ (m : ℕ). found-from m lasts f) on;
-            rows = all .rows ∙ ap (λ (m : ℕ). rows-from m lasts) on;
-            over = all .over ∙ ap (λ (m : ℕ). lasts-from m lasts) on;
-          }
+    pub passed : {from k : ℕ} {lasts later : List (List ℕ)} → PassedOver table bytes from lasts k later → packetBytes * k ≤ length bytes → Same from lasts k later
+    passed none-yet room = record { found = λ f. refl; rows = refl; over = refl }
+    passed (one-more {k} {before} p nothing is) room =
+        let earlier = passed p (omega arith) in
+        let next = nothing-same k before (omega arith) nothing is in
+        record {
+          found = λ f. earlier .found f ∙ next .found f;
+          rows = earlier .rows ∙ next .rows;
+          over = earlier .over ∙ next .over;
+        }
 
   -- ---- one part after another
 

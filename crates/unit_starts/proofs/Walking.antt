@@ -47,51 +47,66 @@ module _ (table kept bytes : List ℕ) (first packets : ℕ) (found₀ : Found) 
     pub content : starts ≡ sets starts₀ (found₀ .rows) (map packetIn done)
     pub rows-on : done ++ rows-from table bytes first step (lastsOf kept bytes ends) ≡ rows-from table bytes first 0 lasts₀
 
+  -- before the first packet
+  pub walking-start : EndsWithin kept bytes ends₀ → found₀ .rows ≤ first → Walking ends₀ starts₀ found₀ 0
+  walking-start within few =
+      record {
+        ends-within = within;
+        inside = omega arith;
+        rows-few = omega arith;
+        goes-on = refl;
+        lasts-on = refl;
+        done = [];
+        counted = sym (add-zero (found₀ .rows));
+        content = refl;
+        rows-on = refl;
+      }
+
   module _ (room : packetBytes * packets ≤ length bytes) where
-    pub walking-start : {step : ℕ} → EndsWithin kept bytes ends₀ → found₀ .rows ≤ first → Passes table bytes 0 packets step → Walking ends₀ starts₀ found₀ step
-    walking-start {step} within few p =
-        let same = passed table bytes first 0 packets room lasts₀ step p in
+    -- packets passed over
+    pub walking-past : {ends starts : List ℕ} {found : Found} {step next : ℕ} (next-ends : List ℕ) → Walking ends starts found step → Passes table kept bytes ends step packets next next-ends
+        → Walking next-ends starts found next
+    walking-past {ends} {starts} {found} {step} {next} next-ends w p =
+        let same = passed table bytes first (p .passed) (omega (arith, p .inside)) in
         record {
-          ends-within = within;
-          inside = p .within;
-          rows-few = omega arith;
-          goes-on = sym (same .found found₀);
-          lasts-on = sym (same .over);
-          done = [];
-          counted = sym (add-zero (found₀ .rows));
-          content = refl;
-          rows-on = sym (same .rows);
+          ends-within = p .within;
+          inside = p .inside;
+          rows-few = omega (arith, w .rows-few, p .onward);
+          goes-on = sym (same .found found) ∙ w .goes-on;
+          lasts-on = sym (same .over) ∙ w .lasts-on;
+          done = w .done;
+          counted = w .counted;
+          content = w .content;
+          rows-on = ap (λ (l : List Row). w .done ++ l) (sym (same .rows)) ∙ w .rows-on;
         }
 
-    pub walking-turn : {ends starts next-starts : List ℕ} {found next-found : Found} {step next : ℕ} (next-ends : List ℕ) (event : Event)
+    -- and one that was looked at
+    pub walking-turn : {ends starts next-starts : List ℕ} {found next-found : Found} {step : ℕ} (next-ends : List ℕ) (event : Event)
         → Walking ends starts found step → step < packets
         → event ≡ packetEvent table (first + step) (packetAt bytes step) (lastsOf kept bytes ends)
         → lastsOf kept bytes next-ends ≡ packetLasts table (packetAt bytes step) (lastsOf kept bytes ends)
         → EndsWithin kept bytes next-ends
         → next-starts ≡ sets starts (found .rows) (map packetIn (rowIn event))
         → next-found ≡ noted (first + step) event found
-        → Passes table bytes (step + 1) packets next
-        → Walking next-ends next-starts next-found next
-    walking-turn {ends} {starts} {next-starts} {found} {next-found} {step} {next} next-ends event w h is lasts within noting finding p =
-        let same = passed table bytes first (step + 1) packets room (lastsOf kept bytes next-ends) next p in
+        → Walking next-ends next-starts next-found (step + 1)
+    walking-turn {ends} {starts} {next-starts} {found} {next-found} {step} next-ends event w h is lasts within noting finding =
         let lasts-now : List (List ℕ) = lastsOf kept bytes ends in
         let more : next-found .rows ≡ found .rows + length (rowIn event) = ap (λ (f : Found). f .rows) finding ∙ rows-noted (first + step) event found in
         record {
           ends-within = within;
-          inside = p .within;
-          rows-few = omega (arith, more, one-row event, w .rows-few, p .onward);
-          goes-on = sym (same .found next-found)
-              ∙ ap₂ (found-from table bytes first (step + 1)) lasts (finding ∙ ap (λ (e : Event). noted (first + step) e found) is)
+          inside = omega arith;
+          rows-few = omega (arith, more, one-row event, w .rows-few);
+          goes-on = ap₂ (found-from table bytes first (step + 1)) lasts (finding ∙ ap (λ (e : Event). noted (first + step) e found) is)
               ∙ sym (found-next table bytes first step lasts-now found (omega arith))
               ∙ w .goes-on;
-          lasts-on = sym (same .over) ∙ ap (lasts-from table bytes first (step + 1)) lasts ∙ sym (lasts-next table bytes first step lasts-now (omega arith)) ∙ w .lasts-on;
+          lasts-on = ap (lasts-from table bytes first (step + 1)) lasts ∙ sym (lasts-next table bytes first step lasts-now (omega arith)) ∙ w .lasts-on;
           done = w .done ++ rowIn event;
           counted = omega (arith, more, w .counted, length-append (w .done) (rowIn event));
           content = noting
               ∙ ap (λ (l : List ℕ). sets l (found .rows) (map packetIn (rowIn event))) (w .content)
               ∙ noted-then starts₀ (found₀ .rows) (w .done) (rowIn event) (found .rows) (w .counted);
-          rows-on = append-assoc (w .done) (rowIn event) (rows-from table bytes first next (lastsOf kept bytes next-ends))
-              ∙ ap (λ (l : List Row). w .done ++ (rowIn event ++ l)) (sym (same .rows) ∙ ap (rows-from table bytes first (step + 1)) lasts)
+          rows-on = append-assoc (w .done) (rowIn event) (rows-from table bytes first (step + 1) (lastsOf kept bytes next-ends))
+              ∙ ap (λ (l : List Row). w .done ++ (rowIn event ++ l)) (ap (rows-from table bytes first (step + 1)) lasts)
               ∙ ap (λ (e : Event). w .done ++ (rowIn e ++ rows-from table bytes first (step + 1) (after table bytes first step lasts-now))) is
               ∙ ap (λ (l : List Row). w .done ++ l) (sym (rows-next table bytes first step lasts-now (omega arith)))
               ∙ w .rows-on;

@@ -113,13 +113,17 @@ pub fn walk(
 {
     let packets = bytes.len() / PACKET_BYTES;
     let mut so_far = found;
-    let mut step = scanning::skip(table, bytes, 0, packets);
+    let mut step = 0;
     while step < packets {
-        let number = first + step;
-        let given = scanning::look_at(table, kept, bytes, step, number, ends);
+        let at = scanning::skip(table, kept, bytes, step, packets, ends);
+        if packets <= at {
+            return so_far;
+        }
+        let number = first + at;
+        let given = scanning::look_at(table, kept, bytes, at, number, ends);
         note_start(given, so_far.rows, starts);
         so_far = note(number, given, so_far);
-        step = scanning::skip(table, bytes, step + 1, packets);
+        step = at + 1;
     }
     so_far
 }
