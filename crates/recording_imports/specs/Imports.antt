@@ -17,9 +17,10 @@ use Rattle.es_loop.specs.declared.reader.Outcome.{Outcome}
 use Rattle.es_loop.specs.declared.reader.Outcome.the-variants.{Accepted, Refused as LoopRefused}
 use Rattle.loop_layers.specs.Closures.{closureFor}
 use Rattle.scanning.specs.declared.events.Row.{Row}
-use Rattle.recording_rows.specs.Columns.{Columns, indexIn, decodingIn, matchIn}
+use Rattle.unit_starts.specs.Finding.{foundIn}
+use Rattle.recording_rows.specs.Columns.{Columns, roomIn, indexIn, decodingIn, matchIn}
 use Rattle.recordings.specs.declared.Recording.{Recording}
-use Rattle.recordings.specs.Reading.{recordingOf}
+use Rattle.recordings.specs.Reading.{answerOf}
 use Rattle.rows.specs.Table.{Table, table}
 use Rattle.unit_lists.specs.Sequence.{Lists}
 use Rattle.join_answers.specs.declared.answer.Joined.{Joined}
@@ -67,18 +68,24 @@ importedBy (HeaderNotRead refusal packet) joined = NotRead refusal packet
 abbrev pub tableOf : List Row → Table
 tableOf rows = table (map indexIn rows) (map decodingIn rows) (map matchIn rows)
 
--- OF A RECORDING IN ONE PIECE, where columns and work space have room for `most` rows beside what the columns hold
-abbrev pub importRows : ℕ → List ℕ → ℕ → List ℕ → Columns → RowsRead
-importRows most bytes target packets before = rowsAsked bytes target (recordingOf (pidTable bytes) packets most before)
+-- OF A RECORDING IN ONE PIECE, where there are places for so many rows
+abbrev pub recordingWith : ℕ → List ℕ → List ℕ → Recording
+recordingWith places bytes packets = answerOf (foundIn (pidTable bytes) packets) places
 
-abbrev pub importOf : ℕ → List ℕ → ℕ → List ℕ → Columns → Room → Imported
-importOf most bytes target packets before room =
-    importedBy (importRows most bytes target packets before)
-    (joinedOf most (layersOfLoop bytes) target (tableOf (rowsOf bytes packets)) room)
+abbrev pub importRows : ℕ → List ℕ → ℕ → List ℕ → RowsRead
+importRows places bytes target packets = rowsAsked bytes target (recordingWith places bytes packets)
+
+abbrev pub importOf : ℕ → List ℕ → ℕ → List ℕ → Room → Imported
+importOf places bytes target packets room =
+    importedBy (importRows places bytes target packets) (joinedOf places (layersOfLoop bytes) target (tableOf (rowsOf bytes packets)) room)
+
+-- the places that a work space for `most` rows and the columns have together
+abbrev pub placesFor : ℕ → Columns → ℕ
+placesFor most before = min most (roomIn before)
 
 -- The columns hold the rows as soon as these are accepted, whatever joining says of them: 'a refusal 14 to 18 names a row'.
 abbrev pub importColumns : ℕ → List ℕ → ℕ → List ℕ → Columns → Columns
-importColumns most bytes target packets before = columnsWith (rowsOf bytes packets) (importRows most bytes target packets before) before
+importColumns places bytes target packets before = columnsWith (rowsOf bytes packets) (importRows places bytes target packets) before
 
 -- What the lists hold: the units, and after them what stood there; after a refusal all is as it was.
 abbrev pub listsWith : Layers → Table → Imported → Lists → Lists
