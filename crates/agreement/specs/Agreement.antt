@@ -80,13 +80,13 @@ module _ {reading : Reading} {bytes : List ℕ} {entries : List Entry} {layers :
   is-read : accepted (a .streams) ≡ loopRead reading bytes
   is-read = answer-only reading bytes (a .answer)
 
-  outcome-is : IsAccepted reading bytes
+  pub outcome-is : IsAccepted reading bytes
   outcome-is = sym (ap (λ (r : LoopRead). r .outcome) is-read)
 
-  same-entries : entries ≡ entriesIn reading bytes
+  pub same-entries : entries ≡ entriesIn reading bytes
   same-entries = sym (a .entries-are) ∙ sym (entries-read (a .streams)) ∙ ap entriesRead is-read
 
-  same-layers : layers ≡ layersIn reading bytes
+  pub same-layers : layers ≡ layersIn reading bytes
   same-layers = layers-only entries (a .layers-are) ∙ ap (λ (l : List Entry). layersOf l) same-entries
 
 -- ---- THE STATEMENT

@@ -26,7 +26,7 @@ use Rattle.join_answers.specs.declared.answer.Joined.{Joined}
 use Rattle.join_answers.specs.declared.answer.Joined.the-variants.{Refused}
 use Rattle.rows.specs.Table.{Table, mostRows}
 use Rattle.unit_lists.specs.Sequence.{Lists}
-use Rattle.join_answers.specs.Joining.{roomOf, joinedIn, joinedOf, listsAfter}
+use Rattle.join_answers.specs.Joining.{Room, roomOf, joinedIn, joinedOf, listsAfter}
 use Rattle.importing.specs.Importing.{importFor, importOf, importedLists}
 use Rattle.agreement.specs.Meaning.{Every2009, Otherwise, another-type, no-complete-set, Answer, answerOf, NoSet}
 use Rattle.agreement.specs.Entries.{IsAccepted, entriesIn, accepted-in-2009}
@@ -93,29 +93,36 @@ module _ (bytes : List ℕ) (is-accepted : IsAccepted Edition2015 bytes) (target
       layers-in-2009 bytes is-accepted j .1
       (record { place = l .layer .place; entry = l .entry; layer = at-place; type = every .has-type (l .layer .place) j (l .entry) r at-place })
 
-  alike : Every2009 (entriesIn Edition2015 bytes) all target → (t : Table) (before : Lists) → inLayers few target t before ≡ inLayers all target t before
-  alike every t before =
-      same-answer closures (joined-alike few all target closures same own t (roomOf before))
-      (lists-alike few all target closures same own t (roomOf before) before)
-    where
-      closures : closureOf few target ≡ closureOf all target
-      closures = same-closure few all part target (kept every)
+  -- joining in the one and in the other, where every layer that the target rests on is in both
+  module _ (every : Every2009 (entriesIn Edition2015 bytes) all target) where
+    closures : closureOf few target ≡ closureOf all target
+    closures = same-closure few all part target (kept every)
 
-      same : (closure : ℕ) → closureOf all target ≡ Complete closure
-          → (i : ℕ) → has closure i ≡ true → getD (few .embedded) i 0 ≡ getD (all .embedded) i 0
-      same closure e i h =
-          let w = given-complete all target closure .0 e .1 in
-          let r = w .members i .0 h in
-          same-embedded bytes is-accepted i (kept every i r (w .in-loop i r))
+    same : (closure : ℕ) → closureOf all target ≡ Complete closure → (i : ℕ) → has closure i ≡ true → getD (few .embedded) i 0 ≡ getD (all .embedded) i 0
+    same closure e i h =
+        let w = given-complete all target closure .0 e .1 in
+        let r = w .members i .0 h in
+        same-embedded bytes is-accepted i (kept every i r (w .in-loop i r))
 
-      same-own : {a b : ℕ} → Complete a ≡ Complete b → a ≡ b
-      same-own e = cc
+    same-own : {a b : ℕ} → Complete a ≡ Complete b → a ≡ b
+    same-own e = cc
 
-      own : (closure : ℕ) → closureOf all target ≡ Complete closure → (i : ℕ) → has closure i ≡ true → restedOn few i ≡ restedOn all i
-      own closure e i h =
-          let r = given-complete all target closure .0 e .1 .members i .0 h in
-          let same-set = same-closure few all part i (λ j s. kept every j (rests-further all target i j r s)) in
-          same-own (sym (own-complete few target closure (closures ∙ e) i h) ∙ same-set ∙ own-complete all target closure e i h)
+    own : (closure : ℕ) → closureOf all target ≡ Complete closure → (i : ℕ) → has closure i ≡ true → restedOn few i ≡ restedOn all i
+    own closure e i h =
+        let r = given-complete all target closure .0 e .1 .members i .0 h in
+        let same-set = same-closure few all part i (λ j s. kept every j (rests-further all target i j r s)) in
+        same-own (sym (own-complete few target closure (closures ∙ e) i h) ∙ same-set ∙ own-complete all target closure e i h)
+
+    -- for tables of any length
+    pub same-joined : (most : ℕ) (t : Table) (room : Room) → joinedOf most few target t room ≡ joinedOf most all target t room
+    same-joined most t room = joined-alike few all target closures same own most t room
+
+    pub same-lists : (most : ℕ) (t : Table) (before : Lists) → listsAfter few t (joinedOf most few target t (roomOf before)) before
+        ≡ listsAfter all t (joinedOf most all target t (roomOf before)) before
+    same-lists most t before = lists-alike few all target closures same own most t (roomOf before) before
+
+    alike : (t : Table) (before : Lists) → inLayers few target t before ≡ inLayers all target t before
+    alike t before = same-answer closures (same-joined mostRows t (roomOf before)) (same-lists mostRows t before)
 
   -- where the 2009 reading finds no closure, it refuses, whatever the row table and the lists hold
   refused : (refusal : Refusal) → NoSet refusal → closureOf few target ≡ NoClosure refusal → AlwaysRefused bytes target
@@ -152,13 +159,16 @@ module _ (bytes : List ℕ) (is-accepted : IsAccepted Edition2015 bytes) (target
       ∙ alike every t before
       ∙ sym (in-layers Edition2015 bytes is-accepted target t before)
 
-  -- or 11 or 12.
-  pub always-refused : Otherwise (entriesIn Edition2015 bytes) all target → AlwaysRefused bytes target
-  always-refused = go (find few target)
+  -- or 11 or 12, since the 2009 reading finds no closure.
+  pub no-closure : Otherwise (entriesIn Edition2015 bytes) all target → (refusal : Refusal) × NoSet refusal × (closureOf few target ≡ NoClosure refusal)
+  no-closure = go (find few target)
     where
-      go : Found few target → Otherwise (entriesIn Edition2015 bytes) all target → AlwaysRefused bytes target
+      go : Found few target → Otherwise (entriesIn Edition2015 bytes) all target → (refusal : Refusal) × NoSet refusal × (closureOf few target ≡ NoClosure refusal)
       go (found set e) other = absurd (not-otherwise set e other)
-      go (not-found refusal is e) other = refused refusal is e
+      go (not-found refusal is e) other = (refusal, is, e)
+
+  pub always-refused : Otherwise (entriesIn Edition2015 bytes) all target → AlwaysRefused bytes target
+  always-refused other = let c = no-closure other in refused (c .0) (c .1) (c .2)
 
   -- One or the other is so.
   pub either-way : Every2009 (entriesIn Edition2015 bytes) all target ⊎ Otherwise (entriesIn Edition2015 bytes) all target

@@ -1,5 +1,5 @@
 -- JOINING LOOKS AT THE LAYERS OF THE CLOSURE ALONE. Two sets of layers that give a target the same closure, in which each layer has the same
--- embedded layers and rests on the same, give it the same answer of joining and leave the same in the lists, for every row table and every output room.
+-- embedded layers and rests on the same, give it the same answer of joining and leave the same in the lists, for every row table, however long it may be, and every output room.
 -- Assumes nothing.
 use Prim.Native.Nat.{ℕ, zero, suc}
 use mathlib.Core.Path.{_≡_, refl, sym, _∙_, ap, ap₂, fun-ext}
@@ -16,7 +16,7 @@ use Rattle.closure.specs.declared.Layers.{Layers}
 use Rattle.closure.specs.declared.Closure.{Closure}
 use Rattle.closure.specs.declared.Closure.the-variants.{Complete, Refused as NoClosure}
 use Rattle.closure.specs.Closures.{namedBy, restedOn, closureOf}
-use Rattle.rows.specs.Table.{Table, rowsIn, layerOf, decodingOf, matchOf, mostRows}
+use Rattle.rows.specs.Table.{Table, rowsIn, layerOf, decodingOf, matchOf}
 use Rattle.rows.specs.Verdicts.{verdictOf}
 use Rattle.assembling.specs.Assemblies.{upperOf, lowerOf, isEdge, edgesOf}
 use Rattle.claims.specs.Claims.{embeds, claimed}
@@ -81,32 +81,32 @@ module _ (few all : Layers) (target : ℕ) (same-closure : closureOf few target 
     (same : (closure : ℕ) → closureOf all target ≡ Complete closure
     → (i : ℕ) → has closure i ≡ true → getD (few .embedded) i 0 ≡ getD (all .embedded) i 0)
     (own : (closure : ℕ) → closureOf all target ≡ Complete closure → (i : ℕ) → has closure i ≡ true → restedOn few i ≡ restedOn all i)
-    (t : Table) (room : Room) where
-  in-closure : (c : Closure) → closureOf all target ≡ c → joinedIn mostRows few t room c ≡ joinedIn mostRows all t room c
+    (most : ℕ) (t : Table) (room : Room) where
+  in-closure : (c : Closure) → closureOf all target ≡ c → joinedIn most few t room c ≡ joinedIn most all t room c
   in-closure (Complete closure) e =
-      ap (λ (f : Frame). joinedBy (unitsJoined t f room) (verdictOf mostRows t closure)) (frames-alike few all closure (same closure e) (own closure e) t)
+      ap (λ (f : Frame). joinedBy (unitsJoined t f room) (verdictOf most t closure)) (frames-alike few all closure (same closure e) (own closure e) t)
   in-closure (NoClosure refusal) e = refl
 
   -- THE SAME ANSWER,
-  pub joined-alike : joinedOf mostRows few target t room ≡ joinedOf mostRows all target t room
-  joined-alike = ap (joinedIn mostRows few t room) same-closure ∙ in-closure (closureOf all target) refl
+  pub joined-alike : joinedOf most few target t room ≡ joinedOf most all target t room
+  joined-alike = ap (joinedIn most few t room) same-closure ∙ in-closure (closureOf all target) refl
 
   -- what holds of every refusal, and of units over the closure, holds of the answer
   of-answer : (P : Joined → Type 0) → ((closure units rows : ℕ) → closureOf all target ≡ Complete closure → P (Units closure units rows))
-      → ((refusal : Refusal) → P (Refused refusal)) → P (joinedOf mostRows all target t room)
+      → ((refusal : Refusal) → P (Refused refusal)) → P (joinedOf most all target t room)
   of-answer P with-units with-refusal = go (closureOf all target) refl
     where
       from-over : (closure : ℕ) → closureOf all target ≡ Complete closure → {j : Joined} → IsOver closure j → P j
       from-over closure e (units-over {units} {rows}) = with-units closure units rows e
       from-over closure e (refused {refusal}) = with-refusal refusal
 
-      go : (c : Closure) → closureOf all target ≡ c → P (joinedIn mostRows all t room c)
-      go (Complete closure) e = from-over closure e (is-over mostRows all t closure room)
+      go : (c : Closure) → closureOf all target ≡ c → P (joinedIn most all t room c)
+      go (Complete closure) e = from-over closure e (is-over most all t closure room)
       go (NoClosure refusal) e = with-refusal refusal
 
   -- and the same in the lists.
-  pub lists-alike : (before : Lists) → listsAfter few t (joinedOf mostRows few target t room) before
-      ≡ listsAfter all t (joinedOf mostRows all target t room) before
+  pub lists-alike : (before : Lists) → listsAfter few t (joinedOf most few target t room) before
+      ≡ listsAfter all t (joinedOf most all target t room) before
   lists-alike before =
       ap (λ (j : Joined). listsAfter few t j before) joined-alike
       ∙ of-answer (λ j. listsAfter few t j before ≡ listsAfter all t j before)
