@@ -8,15 +8,18 @@ ghost use Rattle.es_loop.specs.Reading.{judged, verdictOf};
 use loop_entries::MOST_BYTES;
 use loop_entries::entry_size;
 use loop_faults::NO_FAULT;
-use loop_faults::judge_next;
+use loop_faults::judge_entry;
+use loop_faults::lower;
 use loop_faults::no_fault;
 use loop_faults::no_indices;
 use loop_faults::no_pids;
 use loop_faults::refusal_of;
-use loop_outlines::read_outline;
 use loop_views::implied_pair;
 use vocabulary::Reading;
 use vocabulary::Refusal;
+
+// The number of an entry that does not fit, or one of whose descriptors does not: behind it there is nothing to judge.
+const DOES_NOT_FIT: u8 = 2;
 
 // How many entries an accepted loop has, and whether it has the two views without a hierarchy descriptor; or the refusal.
 pub enum Verdict {
@@ -40,12 +43,11 @@ fn judge_entries(reading: Reading, pair: bool, bytes: &[u8]) -> Verdict
         if left.len() < size {
             return Verdict::Refused(Refusal::DoesNotFit(count));
         }
-        let outline = read_outline(reading, pair, &left[..size]);
-        if !outline.fits {
+        let number = judge_entry(&mut pids, &mut indices, reading, pair, &left[..size]);
+        if number == DOES_NOT_FIT {
             return Verdict::Refused(Refusal::DoesNotFit(count));
         }
-        let given = implied::gives(pair, outline.stream_type);
-        fault = judge_next(&mut pids, &mut indices, fault, given, outline, count);
+        fault = lower(fault, number, count);
         count += 1;
         at += size;
     }

@@ -3,6 +3,7 @@
 -- Assumes nothing.
 use Prim.Native.Nat.{ℕ, _+_, _≤_, _<_}
 use mathlib.Core.Path.{_≡_, refl, sym, _∙_, ap, subst}
+use mathlib.Core.Logic.{_≢_}
 use mathlib.Core.Bool.{Bool, true, false}
 use mathlib.Core.List.{List}
 use native.Mathlib.Omega.{arith}
@@ -85,3 +86,19 @@ module _ (all : List Stream) where
         go : Dec (number < fault .number) → 3 ≤ (lowerOf fault number count) .number
         go (yes h) = rw (lt-ltb number (fault .number) h) three
         go (no h) = rw (le-ltb number (fault .number) (omega arith)) above
+
+-- 2 is the number of an entry that does not fit, and of no other
+module _ (isGiven : Bool) (pids indices : List Bool) (s : Stream) where
+  pub two-unfit : faultAt isGiven pids indices s ≡ 2 → s .fits ≡ false
+  two-unfit two = go (s .fits) refl
+    where
+      go : (b : Bool) → s .fits ≡ b → s .fits ≡ false
+      go true is-fit = (let more : 3 ≤ faultAt isGiven pids indices s = rw is-fit (omega arith) in absurd (omega arith))
+      go false is-fit = is-fit
+
+  pub no-two-fits : faultAt isGiven pids indices s ≢ 2 → s .fits ≡ true
+  no-two-fits other = go (s .fits) refl
+    where
+      go : (b : Bool) → s .fits ≡ b → s .fits ≡ true
+      go true is-fit = is-fit
+      go false is-fit = absurd (other (rw is-fit))

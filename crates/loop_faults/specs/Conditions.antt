@@ -4,9 +4,11 @@ use Prim.Native.Nat.{ℕ}
 use mathlib.Core.Bool.{Bool, false, cond, not, _&&_}
 use mathlib.Core.List.{List, [], _∷_}
 use lib.Dec.{eqb, ltb}
-use lib.ListN.{getD}
+use lib.ListN.{getD, take, drop}
 use Rattle.combinators.specs.Below.{some}
 use Rattle.combinators.specs.Lists.{firstTrue}
+use Rattle.framing.specs.Pieces.{whole}
+use Rattle.vocabulary.specs.declared.stream_types.Reading.{Reading}
 use Rattle.vocabulary.specs.declared.refusal.Refusal.{Refusal}
 use Rattle.vocabulary.specs.declared.refusal.Refusal.the-variants.{LoopTooLong, DoesNotFit, RepeatedPid, WrongLength, SecondRecord, TypeNotAllowed, WrongFlags, RepeatedLayerIndex, WrongEmbeddedIndex}
 use Rattle.records.specs.declared.Record.{Record}
@@ -16,7 +18,7 @@ use Rattle.implied.specs.Rule.{given}
 use Rattle.judging.specs.Judging.{sameIndex, typeNotAllowed, wrongFlags, wrongEmbedded}
 use Rattle.loop_entries.specs.declared.Stream.{Stream}
 use Rattle.loop_faults.specs.declared.Fault.{Fault}
-use Rattle.loop_entries.specs.Entries.{noStream, pairOf}
+use Rattle.loop_entries.specs.Entries.{noStream, pairOf, streamOf, markedStream}
 
 module _ (streams : List Stream) where
   abbrev pub streamAt : ℕ → Stream
@@ -80,6 +82,10 @@ faultAt isGiven pids indices s =
     firstTrue
     (conditions isGiven (getD pids (s .pid) false)
     (isLayer (s .seen .«record») && getD indices (slotOf (s .«stream_type») (s .seen .«record»)) false) s)
+
+-- a whole entry of a loop that has the two views without a hierarchy descriptor or has not, with its mark
+abbrev pub streamIn : Reading → Bool → List ℕ → Stream
+streamIn reading pair entry = markedStream pair (streamOf reading (whole (take 5 entry) (drop 5 entry)))
 
 -- the refusals by number, each with its place; 0 is no refusal's number
 abbrev pub refusals : List (ℕ → Refusal)

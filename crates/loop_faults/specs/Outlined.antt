@@ -36,3 +36,19 @@ faultOn isGiven pids indices o =
     firstTrue
     (tests isGiven (getD pids (o .pid) false)
     (isLayer (o .«record») && getD indices (slotOf (o .«stream_type») (o .«record»)) false) o)
+
+-- the same of a stream without a record, to which 3 and 6 alone can apply
+abbrev pub faultWithout : Bool → Bool → ℕ
+faultWithout isGiven pidSeen =
+    firstTrue
+    (false
+    ∷ false
+    ∷ false
+    ∷ pidSeen
+    ∷ false
+    ∷ false
+    ∷ isGiven
+    ∷ false
+    ∷ false
+    ∷ false
+    ∷ [])

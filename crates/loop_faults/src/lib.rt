@@ -2,19 +2,26 @@
 // an entry more.
 ghost use mathlib.Core.Path.{_≡_};
 ghost use mathlib.Core.Bool.{true, false};
-ghost use Prim.Native.Nat.{_+_, _<_};
-ghost use lib.ListN.{replicate, set};
+ghost use Prim.Native.Nat.{_+_, _≤_, _<_};
+ghost use lib.ListN.{length, getD, replicate, set};
 ghost use Rattle.combinators.specs.Lists.{firstTrue};
 ghost use Rattle.records.specs.Records.{indexOf};
-ghost use Rattle.loop_faults.specs.Conditions.{lowerOf, refusalOf, slotOf};
-ghost use Rattle.loop_faults.specs.Outlined.{recordTests, tests, faultOn};
+ghost use Rattle.implied.specs.Rule.{given};
+ghost use Rattle.loop_faults.specs.Conditions.{lowerOf, refusalOf, slotOf, faultAt, streamIn};
+ghost use Rattle.loop_faults.specs.Outlined.{recordTests, tests, faultOn, faultWithout};
 use descriptors::Record;
+use loop_entries::elementary_pid;
 use loop_entries::wide;
 use loop_outlines::Outline;
+use loop_outlines::read_outline;
+use vocabulary::Reading;
 use vocabulary::Refusal;
 
 // Past all numbers that are judged at an entry.
 pub const NO_FAULT: u8 = 10;
+
+// Where the mark of streams that are no layer stands, past all values of an index's byte.
+const RECORDLESS: usize = 256;
 
 // A number that applies, and the entry at which it does.
 pub struct Fault {
@@ -70,7 +77,7 @@ pub fn slot_of(stream_type: u8, record: Record) -> usize
     if descriptors::is_layer(record) {
         return wide(index.0);
     }
-    256
+    RECORDLESS
 }
 
 // The lower of two faults, the earlier where their numbers are the same.
@@ -124,17 +131,16 @@ pub fn no_fault() -> Fault
     }
 }
 
-// One stream more, and whether it is given the implied mark: the lowest fault so far or this stream's, and the marks with its PID and its layer index.
-pub fn judge_next(
+// One stream more, and whether it is given the implied mark: its lowest number, and the marks with its PID and its layer index. The number goes from hand to
+// hand and not the lowest fault so far, which stays with whoever walks.
+pub fn mark_next(
     pids: &mut [bool; 8192],
     indices: &mut [bool; 257],
-    so_far: Fault,
     given: bool,
     outline: Outline,
-    place: usize,
-) -> Fault
+) -> u8
     requires { ⌜ outline .pid < 8192 ⌝ }
-    ensures { λ r. ⌜ (r ≡ lowerOf «so_far» (faultOn given (now (pids .entry)) (now (indices .entry)) outline) place) × (indexOf (outline .«stream_type») (outline .«record») < 256) ⌝ }
+    ensures { λ r. ⌜ (r ≡ faultOn given (now (pids .entry)) (now (indices .entry)) outline) × (indexOf (outline .«stream_type») (outline .«record») < 256) ⌝ }
     ensures { λ r. ⌜ (now (pids .exit) ≡ set (now (pids .entry)) (outline .pid) true) × (now (indices .exit) ≡ set (now (indices .entry)) (slotOf (outline .«stream_type») (outline .«record»)) true) ⌝ }
 {
     let record = outline.record;
@@ -144,5 +150,52 @@ pub fn judge_next(
     let number = lowest_fault(given, pids[pid], index_held, outline);
     pids[pid] = true;
     indices[slot] = true;
-    lower(so_far, number, place)
+    number
+}
+
+// The same of a stream without a record, which needs no outline.
+pub fn mark_recordless(
+    pids: &mut [bool; 8192],
+    indices: &mut [bool; 257],
+    given: bool,
+    pid: u16,
+) -> u8
+    requires { ⌜ pid < 8192 ⌝ }
+    ensures { λ r. ⌜ r ≡ faultWithout given (getD (now (pids .entry)) pid false) ⌝ }
+    ensures { λ r. ⌜ (now (pids .exit) ≡ set (now (pids .entry)) pid true) × (now (indices .exit) ≡ set (now (indices .entry)) 256 true) ⌝ }
+{
+    let place = pid as usize;
+    let seen = pids[place];
+    pids[place] = true;
+    indices[RECORDLESS] = true;
+    if seen {
+        return 3;
+    }
+    if given {
+        return 6;
+    }
+    NO_FAULT
+}
+
+// One whole entry more of a loop that has the two views without a hierarchy descriptor or has not. Where the reading does not know its type there is nothing
+// to look for in its descriptors, and no outline is taken.
+pub fn judge_entry(
+    pids: &mut [bool; 8192],
+    indices: &mut [bool; 257],
+    reading: Reading,
+    pair: bool,
+    entry: &[u8],
+) -> u8
+    requires { ⌜ 5 ≤ length (now entry) ⌝ }
+    ensures { λ r. ⌜ (r ≡ faultAt (given pair (streamIn reading pair (now (entry .entry)) .«stream_type»)) (now (pids .entry)) (now (indices .entry)) (streamIn reading pair (now (entry .entry)))) × (indexOf (streamIn reading pair (now (entry .entry)) .«stream_type») (streamIn reading pair (now (entry .entry)) .seen .«record») < 256) ⌝ }
+    ensures { λ r. ⌜ (now (pids .exit) ≡ set (now (pids .entry)) (streamIn reading pair (now (entry .entry)) .pid) true) × (now (indices .exit) ≡ set (now (indices .entry)) (slotOf (streamIn reading pair (now (entry .entry)) .«stream_type») (streamIn reading pair (now (entry .entry)) .seen .«record»)) true) ⌝ }
+{
+    let stream_type = entry[0];
+    if vocabulary::knows(reading, stream_type) {
+        let outline = read_outline(reading, pair, entry);
+        let given = implied::gives(pair, outline.stream_type);
+        return mark_next(pids, indices, given, outline);
+    }
+    let pid = elementary_pid(entry[1], entry[2]);
+    mark_recordless(pids, indices, false, pid)
 }

@@ -13,7 +13,8 @@ ghost use Rattle.loop_writer.specs.Weighing.{nothingWeighed, weighedNext
 use super::entry::entry_size;
 use es_loop::Entry;
 use es_loop::Fault;
-use es_loop::judge_next;
+use es_loop::lower;
+use es_loop::mark_next;
 use es_loop::no_fault;
 use loop_outlines::Outline;
 
@@ -64,13 +65,9 @@ pub fn weigh_next(
     ensures { λ r. ⌜ (now (pids .exit) ≡ set (now (pids .entry)) (entry .pid) true) × (now (indices .exit) ≡ set (now (indices .entry)) (slotOf (entry .«stream_type») (entry .«record»)) true) ⌝ }
 {
     let size = so_far.size + entry_size(entry);
-    let fault = judge_next(
-        pids,
-        indices,
-        so_far.fault,
-        given,
-        outline_for(entry),
-        place,
-    );
-    Weighed { size, fault }
+    let number = mark_next(pids, indices, given, outline_for(entry));
+    Weighed {
+        size,
+        fault: lower(so_far.fault, number, place),
+    }
 }

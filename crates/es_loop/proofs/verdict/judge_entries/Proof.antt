@@ -4,23 +4,20 @@
 use Prim.Native.Nat.{ℕ, _-_, _≤_, _<_}
 use borrow.Author.Needs.{needs}
 use native.Mathlib.Omega.{arith}
-use borrow.Author.Tests.{not-true, not-false}
-use mathlib.Core.Path.{_≡_, refl, _∙_, ap, sym, subst}
-use mathlib.Core.Bool.{true}
+use mathlib.Core.Path.{_≡_, refl, _∙_, ap, sym}
+use mathlib.Core.Logic.{_≢_}
+use mathlib.Core.Bool.{Bool}
 use mathlib.Core.List.{List}
-use lib.ListN.{length, set, take, drop}
+use lib.ListN.{length, take}
 use lib.Seq.{length-take-le}
 use Rattle.vocabulary.specs.declared.refusal.Refusal.{Refusal}
 use Rattle.loop_entries.specs.declared.Stream.{Stream}
 use Rattle.es_loop.specs.declared.verdict.Verdict.the-variants.{Refused as Refuses}
-use Rattle.framing.specs.Pieces.{whole}
 use Rattle.records.specs.Records.{indexOf}
 use Rattle.implied.specs.Rule.{given}
-use Rattle.loop_outlines.specs.declared.Outline.{Outline}
-use Rattle.loop_faults.specs.Conditions.{faultAt, slotOf, lowerOf}
-use Rattle.loop_faults.specs.Outlined.{faultOn}
-use Rattle.loop_entries.specs.Entries.{streamOf, markedStream, streamsOf}
-use Rattle.loop_faults.proofs.Passing.{Passed, passed-start, passed-next, stays-above}
+use Rattle.loop_faults.specs.Conditions.{faultAt, lowerOf, streamIn}
+use Rattle.loop_entries.specs.Entries.{streamsOf}
+use Rattle.loop_faults.proofs.Passing.{Passed, passed-start, passed-next, stays-above, two-unfit, no-two-fits}
 use Rattle.loop_entries.proofs.Front.{leftAt, left-long}
 use Rattle.es_loop.proofs.Walk.{Cursor, cursor-start, size-5, no-entry, stands-here, given-here, inside-here, pid-here, next-here, does-not-fit, end-refused, end-accepted}
 use Rattle.es_loop.proofs.verdict.judge_entries.Statement.{statement}
@@ -75,164 +72,143 @@ returns c =
     does-not-fit (streamsOf (a .reading) bytes) (loop .fault .number) (loop .fault .place) (loop .count) (unfit .0) (unfit .1) (loop .inv .2)
     (loop .inv .1 .lowest)
 
-slice-aggregate-read-outline : tie.Need-slice-aggregate-read-outline Inv-loop μ-loop
-slice-aggregate-read-outline c =
-    let a = c .before .before .before .before .before .before .before .before .before .before .args in
+slice-aggregate-judge-entry : tie.Need-slice-aggregate-judge-entry Inv-loop μ-loop
+slice-aggregate-judge-entry c =
+    let start = c .before .before .before .before .before .before .before .before .before .before .before .before in
+    let a = start .args in
     let bytes = a .bytes .now in
-    let loop = c .before .before .before .before .before .loop in
+    let loop = c .before .before .before .before .before .before .before .loop in
     let cursor = loop .inv .0 in
-    let more = c .before .before .before .before .loop-test .taken in
-    let size = c .before .before .entry-size .result in
-    let is-size = c .before .before .entry-size .ensures in
+    let more = c .before .before .before .before .before .before .loop-test .taken in
+    let size = c .before .before .before .before .entry-size .result in
+    let is-size = c .before .before .before .before .entry-size .ensures in
     let long = left-long (a .reading) bytes (loop .at) in
     let large : 5 ≤ size = size-5 (a .reading) bytes (loop .count) (loop .at) cursor more size is-size in
-    let room : size ≤ length (leftAt (a .reading) bytes (loop .at)) = c .before .if1 .left in
+    let room : size ≤ length (leftAt (a .reading) bytes (loop .at)) = c .before .before .before .if1 .left in
     sym (length-take-le size (leftAt (a .reading) bytes (loop .at)) room)
 
-read-outline-requires : tie.Need-read-outline-requires Inv-loop μ-loop
-read-outline-requires c κs =
-    let a = c .before .before .before .before .before .before .before .before .before .before .args in
+judge-entry-requires : tie.Need-judge-entry-requires Inv-loop μ-loop
+judge-entry-requires c κs =
+    let start = c .before .before .before .before .before .before .before .before .before .before .before .before in
+    let a = start .args in
     let bytes = a .bytes .now in
-    let loop = c .before .before .before .before .before .loop in
+    let loop = c .before .before .before .before .before .before .before .loop in
     let cursor = loop .inv .0 in
-    let more = c .before .before .before .before .loop-test .taken in
-    let size = c .before .before .entry-size .result in
-    let is-size = c .before .before .entry-size .ensures in
+    let more = c .before .before .before .before .before .before .loop-test .taken in
+    let size = c .before .before .before .before .entry-size .result in
+    let is-size = c .before .before .before .before .entry-size .ensures in
     let long = left-long (a .reading) bytes (loop .at) in
     let large : 5 ≤ size = size-5 (a .reading) bytes (loop .count) (loop .at) cursor more size is-size in
-    let room : size ≤ length (leftAt (a .reading) bytes (loop .at)) = c .before .if1 .left in
+    let room : size ≤ length (leftAt (a .reading) bytes (loop .at)) = c .before .before .before .if1 .left in
     rw (length-take-le size (leftAt (a .reading) bytes (loop .at)) room) large
 
 returns-2 : tie.Need-returns-2 Inv-loop μ-loop
 returns-2 c =
-    let start = c .before .before .before .before .before .before .before .before .before .before .before .before .before in
+    let start = c .before .before .before .before .before .before .before .before .before .before .before .before .before .before in
     let a = start .args in
     let bytes = a .bytes .now in
-    let loop = c .before .before .before .before .before .before .before .before .loop in
+    let loop = c .before .before .before .before .before .before .before .before .before .loop in
     let cursor = loop .inv .0 in
-    let more = c .before .before .before .before .before .before .before .loop-test .taken in
-    let size = c .before .before .before .before .before .entry-size .result in
-    let is-size = c .before .before .before .before .before .entry-size .ensures in
+    let more = c .before .before .before .before .before .before .before .before .loop-test .taken in
+    let size = c .before .before .before .before .before .before .entry-size .result in
+    let is-size = c .before .before .before .before .before .before .entry-size .ensures in
     let long = left-long (a .reading) bytes (loop .at) in
     let large : 5 ≤ size = size-5 (a .reading) bytes (loop .count) (loop .at) cursor more size is-size in
-    let room : size ≤ length (leftAt (a .reading) bytes (loop .at)) = c .before .before .before .before .if1 .left in
-    let outline = c .before .before .read-outline .result in
-    let is-outline = c .before .before .read-outline .ensures in
+    let room : size ≤ length (leftAt (a .reading) bytes (loop .at)) = c .before .before .before .before .before .if1 .left in
     let part : List ℕ = take size (leftAt (a .reading) bytes (loop .at)) in
-    let stream : Stream = markedStream (a .pair) (streamOf (a .reading) (whole (take 5 part) (drop 5 part))) in
+    let stream : Stream = streamIn (a .reading) (a .pair) part in
     let is-stream : stream ≡ stream = refl in
     let here = stands-here (a .reading) bytes (loop .count) (loop .at) cursor more size is-size room (a .pair) (start .pre .1) stream is-stream in
+    let judged = c .before .judge-entry in
     does-not-fit (streamsOf (a .reading) bytes) (loop .fault .number) (loop .fault .place) (loop .count)
     (inside-here (a .reading) bytes (loop .count) (loop .at) cursor more size is-size room (a .pair) (start .pre .1) stream is-stream)
-    (ap (λ (s : Stream). s .fits) here ∙ sym (ap (λ (o : Outline). o .fits) is-outline) ∙ not-true (outline .fits) (c .if2 .taken)) (loop .inv .2) (loop .inv .1 .lowest)
+    (ap (λ (s : Stream). s .fits) here ∙ two-unfit (given (a .pair) (stream .«stream_type»)) (loop .pids) (loop .indices) stream (sym (judged .ensures .0 .0) ∙ c .if2 .taken))
+    (loop .inv .2) (loop .inv .1 .lowest)
 
-gives-requires : tie.Need-gives-requires Inv-loop μ-loop
-gives-requires c κs = search needs
-
-judge-next-requires : tie.Need-judge-next-requires Inv-loop μ-loop
-judge-next-requires c κs =
-    let start = c .before .before .before .before .before .before .before .before .before .before .before .before .before .before .before .before in
-    let a = start .args in
-    let bytes = a .bytes .now in
-    let loop = c .before .before .before .before .before .before .before .before .before .before .before .loop in
-    let cursor = loop .inv .0 in
-    let more = c .before .before .before .before .before .before .before .before .before .before .loop-test .taken in
-    let size = c .before .before .before .before .before .before .before .before .entry-size .result in
-    let is-size = c .before .before .before .before .before .before .before .before .entry-size .ensures in
-    let long = left-long (a .reading) bytes (loop .at) in
-    let large : 5 ≤ size = size-5 (a .reading) bytes (loop .count) (loop .at) cursor more size is-size in
-    let room : size ≤ length (leftAt (a .reading) bytes (loop .at)) = c .before .before .before .before .before .before .before .if1 .left in
-    let outline = c .before .before .before .before .before .read-outline .result in
-    let is-outline = c .before .before .before .before .before .read-outline .ensures in
-    let part : List ℕ = take size (leftAt (a .reading) bytes (loop .at)) in
-    let stream : Stream = markedStream (a .pair) (streamOf (a .reading) (whole (take 5 part) (drop 5 part))) in
-    let is-stream : stream ≡ stream = refl in
-    subst (λ (o : Outline). o .pid < 8192) (sym is-outline)
-    (pid-here (a .reading) bytes (loop .count) (loop .at) cursor more size is-size room (a .pair) (start .pre .1) stream is-stream)
+lower-requires : tie.Need-lower-requires Inv-loop μ-loop
+lower-requires c κs = search needs
 
 add-count : tie.Need-add-count Inv-loop μ-loop
 add-count c =
-    let start = c .before .before .before .before .before .before .before .before .before .before .before .before .before .before .before .before .before in
+    let start = c .before .before .before .before .before .before .before .before .before .before .before .before .before .before .before in
     let a = start .args in
     let within = start .pre .0 in
     let bytes = a .bytes .now in
-    let loop = c .before .before .before .before .before .before .before .before .before .before .before .before .loop in
+    let loop = c .before .before .before .before .before .before .before .before .before .before .loop in
     let cursor = loop .inv .0 in
-    let more = c .before .before .before .before .before .before .before .before .before .before .before .loop-test .taken in
-    let size = c .before .before .before .before .before .before .before .before .before .entry-size .result in
-    let is-size = c .before .before .before .before .before .before .before .before .before .entry-size .ensures in
+    let more = c .before .before .before .before .before .before .before .before .before .loop-test .taken in
+    let size = c .before .before .before .before .before .before .before .entry-size .result in
+    let is-size = c .before .before .before .before .before .before .before .entry-size .ensures in
     let long = left-long (a .reading) bytes (loop .at) in
     let large : 5 ≤ size = size-5 (a .reading) bytes (loop .count) (loop .at) cursor more size is-size in
-    let room : size ≤ length (leftAt (a .reading) bytes (loop .at)) = c .before .before .before .before .before .before .before .before .if1 .left in
+    let room : size ≤ length (leftAt (a .reading) bytes (loop .at)) = c .before .before .before .before .before .before .if1 .left in
     let short = cursor .spaced in
     omega arith
 
 add-at : tie.Need-add-at Inv-loop μ-loop
 add-at c =
-    let start = c .before .before .before .before .before .before .before .before .before .before .before .before .before .before .before .before .before in
+    let start = c .before .before .before .before .before .before .before .before .before .before .before .before .before .before .before in
     let a = start .args in
     let within = start .pre .0 in
     let bytes = a .bytes .now in
-    let loop = c .before .before .before .before .before .before .before .before .before .before .before .before .loop in
+    let loop = c .before .before .before .before .before .before .before .before .before .before .loop in
     let cursor = loop .inv .0 in
-    let more = c .before .before .before .before .before .before .before .before .before .before .before .loop-test .taken in
-    let size = c .before .before .before .before .before .before .before .before .before .entry-size .result in
-    let is-size = c .before .before .before .before .before .before .before .before .before .entry-size .ensures in
+    let more = c .before .before .before .before .before .before .before .before .before .loop-test .taken in
+    let size = c .before .before .before .before .before .before .before .entry-size .result in
+    let is-size = c .before .before .before .before .before .before .before .entry-size .ensures in
     let long = left-long (a .reading) bytes (loop .at) in
     let large : 5 ≤ size = size-5 (a .reading) bytes (loop .count) (loop .at) cursor more size is-size in
-    let room : size ≤ length (leftAt (a .reading) bytes (loop .at)) = c .before .before .before .before .before .before .before .before .if1 .left in
+    let room : size ≤ length (leftAt (a .reading) bytes (loop .at)) = c .before .before .before .before .before .before .if1 .left in
     omega arith
 
 loop-less : tie.Need-loop-less Inv-loop μ-loop
 loop-less c =
-    let start = c .before .before .before .before .before .before .before .before .before .before .before .before .before .before .before .before .before in
+    let start = c .before .before .before .before .before .before .before .before .before .before .before .before .before .before .before in
     let a = start .args in
     let within = start .pre .0 in
     let bytes = a .bytes .now in
-    let loop = c .before .before .before .before .before .before .before .before .before .before .before .before .loop in
+    let loop = c .before .before .before .before .before .before .before .before .before .before .loop in
     let cursor = loop .inv .0 in
-    let more = c .before .before .before .before .before .before .before .before .before .before .before .loop-test .taken in
-    let size = c .before .before .before .before .before .before .before .before .before .entry-size .result in
-    let is-size = c .before .before .before .before .before .before .before .before .before .entry-size .ensures in
+    let more = c .before .before .before .before .before .before .before .before .before .loop-test .taken in
+    let size = c .before .before .before .before .before .before .before .entry-size .result in
+    let is-size = c .before .before .before .before .before .before .before .entry-size .ensures in
     let long = left-long (a .reading) bytes (loop .at) in
     let large : 5 ≤ size = size-5 (a .reading) bytes (loop .count) (loop .at) cursor more size is-size in
-    let room : size ≤ length (leftAt (a .reading) bytes (loop .at)) = c .before .before .before .before .before .before .before .before .if1 .left in
+    let room : size ≤ length (leftAt (a .reading) bytes (loop .at)) = c .before .before .before .before .before .before .if1 .left in
     omega arith
 
 loop-again : tie.Need-loop-again Inv-loop μ-loop
 loop-again c =
-    let start = c .before .before .before .before .before .before .before .before .before .before .before .before .before .before .before .before .before in
+    let start = c .before .before .before .before .before .before .before .before .before .before .before .before .before .before .before in
     let a = start .args in
     let bytes = a .bytes .now in
-    let loop = c .before .before .before .before .before .before .before .before .before .before .before .before .loop in
+    let loop = c .before .before .before .before .before .before .before .before .before .before .loop in
     let cursor = loop .inv .0 in
-    let more = c .before .before .before .before .before .before .before .before .before .before .before .loop-test .taken in
-    let size = c .before .before .before .before .before .before .before .before .before .entry-size .result in
-    let is-size = c .before .before .before .before .before .before .before .before .before .entry-size .ensures in
+    let more = c .before .before .before .before .before .before .before .before .before .loop-test .taken in
+    let size = c .before .before .before .before .before .before .before .entry-size .result in
+    let is-size = c .before .before .before .before .before .before .before .entry-size .ensures in
     let long = left-long (a .reading) bytes (loop .at) in
     let large : 5 ≤ size = size-5 (a .reading) bytes (loop .count) (loop .at) cursor more size is-size in
-    let room : size ≤ length (leftAt (a .reading) bytes (loop .at)) = c .before .before .before .before .before .before .before .before .if1 .left in
-    let outline = c .before .before .before .before .before .before .read-outline .result in
-    let is-outline = c .before .before .before .before .before .before .read-outline .ensures in
+    let room : size ≤ length (leftAt (a .reading) bytes (loop .at)) = c .before .before .before .before .before .before .if1 .left in
     let part : List ℕ = take size (leftAt (a .reading) bytes (loop .at)) in
-    let stream : Stream = markedStream (a .pair) (streamOf (a .reading) (whole (take 5 part) (drop 5 part))) in
+    let stream : Stream = streamIn (a .reading) (a .pair) part in
     let is-stream : stream ≡ stream = refl in
-    let next = c .judge-next in
-    let all = streamsOf (a .reading) bytes in
     let here = stands-here (a .reading) bytes (loop .count) (loop .at) cursor more size is-size room (a .pair) (start .pre .1) stream is-stream in
+    let judged = c .before .before .judge-entry in
+    let next = c .lower in
+    let all = streamsOf (a .reading) bytes in
     let small = pid-here (a .reading) bytes (loop .count) (loop .at) cursor more size is-size room (a .pair) (start .pre .1) stream is-stream in
-    let gives = c .before .before .before .gives in
-    let is-given = gives .ensures ∙ ap (λ (o : Outline). given (a .pair) (o .«stream_type»)) is-outline ∙ given-here (a .reading) bytes (loop .count) (loop .at) cursor more size is-size room (a .pair) (start .pre .1) stream is-stream in
-    let index : indexOf (stream .«stream_type») (stream .seen .«record») < 256 =
-    subst (λ (o : Outline). indexOf (o .«stream_type») (o .«record») < 256) is-outline (next .ensures .0 .1) in
-    let told : next .result ≡ lowerOf (loop .fault) (faultAt (gives .result) (loop .pids) (loop .indices) stream) (loop .count) =
-    next .ensures .0 .0 ∙ ap (λ (o : Outline). lowerOf (loop .fault) (faultOn (gives .result) (loop .pids) (loop .indices) o) (loop .count)) is-outline in (
+    let gives : Bool = given (a .pair) (stream .«stream_type») in
+    let is-given = given-here (a .reading) bytes (loop .count) (loop .at) cursor more size is-size room (a .pair) (start .pre .1) stream is-stream in
+    let index : indexOf (stream .«stream_type») (stream .seen .«record») < 256 = judged .ensures .0 .1 in
+    let told : next .result ≡ lowerOf (loop .fault) (faultAt gives (loop .pids) (loop .indices) stream) (loop .count) =
+    next .ensures ∙ ap (λ (n : ℕ). lowerOf (loop .fault) n (loop .count)) (judged .ensures .0 .0) in
+    let other : faultAt gives (loop .pids) (loop .indices) stream ≢ 2 = λ two. c .before .if2 .left (judged .ensures .0 .0 ∙ two) in (
       next-here (a .reading) bytes (loop .count) (loop .at) cursor more size is-size room (a .pair) (start .pre .1) stream is-stream,
-      passed-next all (loop .pids) (loop .indices) (loop .fault) (loop .count) (loop .inv .1) (gives .result) stream here is-given small index (next .result) _ _
-          told (next .ensures .1 .0 ∙ ap (λ (o : Outline). set (loop .pids) (o .pid) true) is-outline)
-          (next .ensures .1 .1 ∙ ap (λ (o : Outline). set (loop .indices) (slotOf (o .«stream_type») (o .«record»)) true) is-outline),
-      stays-above all (loop .pids) (loop .indices) (loop .fault) (loop .count) (loop .inv .1) (gives .result) stream here is-given small index
-          (sym (ap (λ (o : Outline). o .fits) is-outline) ∙ not-false (outline .fits) (c .before .before .before .before .if2 .left)) (loop .inv .2) (next .result) told,
+      passed-next all (loop .pids) (loop .indices) (loop .fault) (loop .count) (loop .inv .1) gives stream here is-given small index (next .result) _ _
+          told (judged .ensures .1 .0) (judged .ensures .1 .1),
+      stays-above all (loop .pids) (loop .indices) (loop .fault) (loop .count) (loop .inv .1) gives stream here is-given small index
+          (no-two-fits gives (loop .pids) (loop .indices) stream other) (loop .inv .2) (next .result) told,
     )
 
 refusal-of-requires : tie.Need-refusal-of-requires Inv-loop μ-loop
@@ -267,11 +243,10 @@ judge-entries-spec =
     part-left-end
     entry-size-requires
     returns
-    slice-aggregate-read-outline
-    read-outline-requires
+    slice-aggregate-judge-entry
+    judge-entry-requires
     returns-2
-    gives-requires
-    judge-next-requires
+    lower-requires
     add-count
     add-at
     loop-less

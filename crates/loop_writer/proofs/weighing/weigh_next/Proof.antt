@@ -24,19 +24,23 @@ add-size c = search needs
 outline-for-requires : tie.Need-outline-for-requires
 outline-for-requires c κs = search needs
 
-judge-next-requires : tie.Need-judge-next-requires
-judge-next-requires c κs =
+mark-next-requires : tie.Need-mark-next-requires
+mark-next-requires c κs =
     let start = c .before .before .before .before .before in
     let small : (c .outline-for .result) .pid < 8192 = rw (c .outline-for .ensures) (pid-small (start .args .entry) (start .pre .0)) in
     small
 
+lower-requires : tie.Need-lower-requires
+lower-requires c κs = search needs
+
 returns : tie.Need-returns
 returns c =
-    let a = c .before .before .before .before .before .before .args in
-    let size = c .before .before .before .before .before .entry-size in
-    let outline = c .before .outline-for in
-    let next = c .judge-next in
-    let fault = next .ensures .0 .0 ∙ ap (λ (o : Outline). lowerOf (a .so-far .fault) (faultOn (a .given) (a .pids .now) (a .indices .now) o) (a .place)) (outline .ensures) in
+    let a = c .before .before .before .before .before .before .before .args in
+    let size = c .before .before .before .before .before .before .entry-size in
+    let outline = c .before .before .outline-for in
+    let next = c .before .mark-next in
+    let number = next .ensures .0 .0 ∙ ap (faultOn (a .given) (a .pids .now) (a .indices .now)) (outline .ensures) in
+    let fault = c .lower .ensures ∙ ap (λ (n : ℕ). lowerOf (a .so-far .fault) n (a .place)) number in
     let index : indexOf (a .entry .«stream_type») (a .entry .«record») < 256 =
     subst (λ (o : Outline). indexOf (o .«stream_type») (o .«record») < 256) (outline .ensures) (next .ensures .0 .1) in (
       (ap₂ (λ (n : ℕ) (f : Fault). record { size = a .so-far .size + n; fault = f }) (size .ensures .0) fault, omega (arith, size .ensures .1), index),
@@ -46,4 +50,4 @@ returns c =
 pub weigh-next-spec : {M : Type 1} → statement M
 weigh-next-spec =
     tie.close
-    (tie.spec entry-size-requires add-size outline-for-requires judge-next-requires returns)
+    (tie.spec entry-size-requires add-size outline-for-requires mark-next-requires lower-requires returns)

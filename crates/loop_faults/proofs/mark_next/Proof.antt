@@ -1,4 +1,4 @@
--- `loop_faults::judge_next` meets its contract: the marks are read and set at the entry's PID and at its record's slot.
+-- `loop_faults::mark_next` meets its contract: the marks are read and set at the entry's PID and at its record's slot.
 -- Assumes nothing.
 use mathlib.Core.Path.{_≡_, refl, sym, _∙_, ap}
 use Prim.Native.Nat.{ℕ}
@@ -6,13 +6,13 @@ use mathlib.Core.Bool.{Bool, true, false, _&&_}
 use mathlib.Core.List.{List}
 use lib.ListN.{getD, set}
 use Rattle.combinators.specs.Lists.{firstTrue}
-use Rattle.loop_faults.specs.Conditions.{slotOf, lowerOf}
+use Rattle.loop_faults.specs.Conditions.{slotOf}
 use Rattle.loop_faults.specs.Outlined.{tests}
 use native.Mathlib.Omega.{arith}
 use Rattle.loop_faults.proofs.Marked.{slot-below}
 use borrow.Author.Needs.{needs}
-use Rattle.loop_faults.proofs.judge_next.Statement.{statement}
-use Rattle.loop_faults.proofs.judge_next.Tie as tie
+use Rattle.loop_faults.proofs.mark_next.Statement.{statement}
+use Rattle.loop_faults.proofs.mark_next.Tie as tie
 
 cast-pid : tie.Need-cast-pid
 cast-pid c = search needs
@@ -42,23 +42,20 @@ element-write-indices c =
     let s = c .before .before .before .before .before .before .args .outline in
     rw (c .before .before .before .before .slot-of .ensures .0) (slot-below (s .«stream_type») (s .«record») (c .before .before .before .before .slot-of .ensures .1))
 
-lower-requires : tie.Need-lower-requires
-lower-requires c κs = search needs
-
 returns : tie.Need-returns
 returns c =
-    let a = c .before .before .before .before .before .before .before .args in
-    let slot = c .before .before .before .before .before .slot-of in
-    let layer = c .before .before .before .before .is-layer in
+    let a = c .before .before .before .before .before .before .args in
+    let slot = c .before .before .before .before .slot-of in
+    let layer = c .before .before .before .is-layer in
     let pids : List Bool = a .pids .now in
     let indices : List Bool = a .indices .now in
-    let number = c .before .lowest-fault .ensures
+    let number = c .lowest-fault .ensures
     ∙ ap (λ (i : ℕ). firstTrue (tests (a .given) (getD pids (a .outline .pid) false) (layer .result && getD indices i false) (a .outline))) (slot .ensures .0)
     ∙ ap (λ (b : Bool). firstTrue (tests (a .given) (getD pids (a .outline .pid) false) (b && getD indices (slotOf (a .outline .«stream_type») (a .outline .«record»)) false) (a .outline))) (layer .ensures) in
-    ((c .lower .ensures ∙ ap (λ (n : ℕ). lowerOf (a .so-far) n (a .place)) number, slot .ensures .1), (refl, ap (λ (i : ℕ). set indices i true) (slot .ensures .0)))
+    ((number, slot .ensures .1), (refl, ap (λ (i : ℕ). set indices i true) (slot .ensures .0)))
 
-pub judge-next-spec : {M : Type 1} → statement M
-judge-next-spec =
+pub mark-next-spec : {M : Type 1} → statement M
+mark-next-spec =
     tie.close
     (tie.spec
     cast-pid
@@ -69,5 +66,4 @@ judge-next-spec =
     lowest-fault-requires
     element-write-pids
     element-write-indices
-    lower-requires
     returns)
