@@ -1,5 +1,6 @@
 // From a loop's bytes to rows: each entry's numbers are stored straight into the row that the caller lends, and no entry is made.
 ghost use mathlib.Core.Path.{_≡_};
+ghost use mathlib.Core.Bool.{true};
 ghost use mathlib.Core.List.{_++_, map};
 ghost use Prim.Native.Nat.{_*_, _≤_, min};
 ghost use lib.ListN.{length, take, drop, replicate};
@@ -7,6 +8,7 @@ ghost use Rattle.combinators.specs.Padding.{padTo};
 ghost use Rattle.buffers.specs.Buffers.{over};
 ghost use Rattle.framing.specs.Pieces.{whole};
 ghost use Rattle.extension.specs.Extension.{noLayer, layersOf};
+ghost use Rattle.descriptors.specs.Looking.{seenOf, nothingSeen};
 ghost use Rattle.descriptors.specs.Finding.{listBefore, Within};
 ghost use Rattle.loop_entries.specs.Entries.{streamOf, markedStream, streamsOf, entryOf};
 ghost use Rattle.es_loop.specs.Reading.{verdictOf};
@@ -16,7 +18,6 @@ use descriptors::Record;
 use es_loop::Entry;
 use es_loop::Verdict;
 use loop_entries::elementary_pid;
-use loop_outlines::find_in;
 use row_heads::head_of;
 use row_heads::wide;
 use vocabulary::LayerIndex;
@@ -122,20 +123,40 @@ fn lay_found(row: &mut [u16], record: Record, end: usize, info: &[u8])
     }
 }
 
-// The row of a whole entry of a loop's bytes, with its mark where the loop has the two views. The embedded layers go from byte to number, and no list is
-// made of them.
+// The row of a stream that the reading knows, from its descriptors. The embedded layers go from byte to number, and no list is made of them.
+fn lay_known(row: &mut [u16], reading: Reading, pair: bool, stream_type: u8, pid: u16, info: &[u8])
+    requires { ⌜ length (now row) ≡ 80 ⌝ }
+    ensures { λ r. ⌜ now (row .exit) ≡ rowOf (entryOf (markedStream pair (record { fits = true; «stream_type» = «stream_type»; pid = pid; seen = seenOf reading (now (info .entry)) }))) ⌝ }
+{
+    let found = descriptors::find_records(reading, info);
+    let record = found.record;
+    let head = head_of(stream_type, pid, implied::mark(pair, stream_type, record));
+    lay_head(row, head);
+    lay_found(row, record, found.end, info);
+}
+
+// The row of a stream without a record.
+fn lay_recordless(row: &mut [u16], stream_type: u8, pid: u16)
+    requires { ⌜ length (now row) ≡ 80 ⌝ }
+    ensures { λ r. ⌜ now (row .exit) ≡ rowOf (entryOf (record { fits = true; «stream_type» = «stream_type»; pid = pid; seen = nothingSeen })) ⌝ }
+{
+    let head = head_of(stream_type, pid, Record::NoRecord);
+    lay_head(row, head);
+    clear_tail(row);
+}
+
+// The row of a whole entry of a loop's bytes, with its mark where the loop has the two views.
 fn lay_entry(row: &mut [u16], reading: Reading, pair: bool, entry: &[u8])
     requires { ⌜ (length (now row) ≡ 80) × (5 ≤ length (now entry)) ⌝ }
     ensures { λ r. ⌜ now (row .exit) ≡ rowOf (entryOf (markedStream pair (streamOf reading (whole (take 5 (now (entry .entry))) (drop 5 (now (entry .entry))))))) ⌝ }
 {
     let stream_type = entry[0];
     let pid = elementary_pid(entry[1], entry[2]);
-    let info = &entry[5..];
-    let found = find_in(reading, stream_type, info);
-    let record = found.record;
-    let head = head_of(stream_type, pid, implied::mark(pair, stream_type, record));
-    lay_head(row, head);
-    lay_found(row, record, found.end, info);
+    if vocabulary::knows(reading, stream_type) {
+        lay_known(row, reading, pair, stream_type, pid, &entry[5..]);
+        return;
+    }
+    lay_recordless(row, stream_type, pid);
 }
 
 // The rows of a loop that was judged and accepted, from the front of a buffer on that has room for them.
