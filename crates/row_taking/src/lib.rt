@@ -24,7 +24,7 @@ use vocabulary::LayerIndex;
 use vocabulary::NuhLayerId;
 use vocabulary::TemporalId;
 
-fn hierarchy_in(row: &[u16]) -> HierarchyRecord
+pub fn hierarchy_in(row: &[u16]) -> HierarchyRecord
     requires { ⌜ (80 ≤ length (now row)) × (tooWideFor (hierarchyDescriptor Edition2015) (now row) ≡ false) ⌝ }
     ensures { λ r. ⌜ r ≡ hierarchyFrom (byNames (hierarchyDescriptor Edition2015) (fieldsIn (hierarchyDescriptor Edition2015) (now (row .entry)))) ⌝ }
 {
@@ -41,7 +41,7 @@ fn hierarchy_in(row: &[u16]) -> HierarchyRecord
     }
 }
 
-fn extension_in(row: &[u16]) -> ExtensionRecord
+pub fn extension_in(row: &[u16]) -> ExtensionRecord
     requires { ⌜ (80 ≤ length (now row)) × (tooWideFor extensionHead (now row) ≡ false) ⌝ }
     ensures { λ r. ⌜ r ≡ extensionFrom (byNames extensionHead (fieldsIn extensionHead (now (row .entry)))) ⌝ }
 {

@@ -1,4 +1,4 @@
-// A loop written from rows: the rows are weighed and then laid into the buffer, each as one entry that is made of it and not kept.
+// A loop written from rows: they are weighed by their numbers, and then laid into the buffer, each as one entry that is made of it and not kept.
 ghost use mathlib.Core.Path.{_≡_};
 ghost use mathlib.Core.Bool.{false};
 ghost use Prim.Native.Nat.{_≤_};
@@ -15,9 +15,9 @@ use es_loop::no_pids;
 use loop_writer::Weighed;
 use loop_writer::Written;
 use loop_writer::nothing_weighed;
-use loop_writer::weigh_next;
 use row_taking::entry_in;
 use row_taking::view_in;
+use row_weighing::weigh_row;
 use vocabulary::Refusal;
 
 // Whether the rows have the two views without a hierarchy descriptor, which are to be implied layers.
@@ -50,9 +50,14 @@ pub fn weigh_rows(pair: bool, numbers: &[u16]) -> Weighed
     while i < count {
         let start = i * 80;
         let end = start + 80;
-        let entry = entry_in(&numbers[start..end]);
-        let given = implied::gives(pair, entry.stream_type);
-        weighed = weigh_next(&mut pids, &mut indices, weighed, given, entry, i);
+        weighed = weigh_row(
+            &mut pids,
+            &mut indices,
+            weighed,
+            pair,
+            &numbers[start..end],
+            i,
+        );
         i += 1;
     }
     weighed

@@ -1,15 +1,17 @@
 -- `row_writer::weigh_rows` meets its contract. The invariant is what is known of the entries weighed.
 -- Assumes nothing.
 use Prim.Native.Nat.{ℕ, _-_, _≤_, _<_}
-use mathlib.Core.Path.{_≡_, refl, sym, _∙_, ap}
-use mathlib.Core.Bool.{Bool}
+use mathlib.Core.Path.{_∙_, ap, subst}
+use mathlib.Core.Bool.{Bool, true}
 use mathlib.Core.List.{List}
 use native.Mathlib.Omega.{arith}
-use lib.ListN.{length, take, length-take, length-drop}
+use lib.ListN.{length, set, length-take, length-drop}
+use Rattle.records.specs.Records.{indexOf}
 use Rattle.loop_entries.specs.declared.Entry.{Entry}
 use Rattle.loop_entries.specs.Entries.{blankEntry}
-use Rattle.loop_writer.specs.Layout.{tooWide}
+use Rattle.loop_faults.specs.Conditions.{slotOf}
 use Rattle.loop_writer.specs.Verdict.{givenTo}
+use Rattle.loop_writer.specs.Weighing.{weighedNext}
 use Rattle.loop_writer.proofs.Weights.{Weighing, weighing-start, weighing-next, weighing-end}
 use Rattle.entry_rows.specs.Rows.{rowTooWide, rowCount, rowAt, entryIn, entriesBelow}
 use Rattle.entry_rows.proofs.Judged.{row-part, length-entries}
@@ -44,35 +46,29 @@ mul-start c = search needs
 add-end : tie.Need-add-end Inv-loop μ-loop
 add-end c = search needs
 
-mul-entry-in : tie.Need-mul-entry-in Inv-loop μ-loop
-mul-entry-in c = search needs
+mul-weigh-row : tie.Need-mul-weigh-row Inv-loop μ-loop
+mul-weigh-row c = search needs
 
-sub-entry-in : tie.Need-sub-entry-in Inv-loop μ-loop
-sub-entry-in c = search needs
+sub-weigh-row : tie.Need-sub-weigh-row Inv-loop μ-loop
+sub-weigh-row c = search needs
 
-part-entry-in-start : tie.Need-part-entry-in-start Inv-loop μ-loop
-part-entry-in-start c = search needs
+part-weigh-row-start : tie.Need-part-weigh-row-start Inv-loop μ-loop
+part-weigh-row-start c = search needs
 
-part-entry-in-end : tie.Need-part-entry-in-end Inv-loop μ-loop
-part-entry-in-end c = search needs
+part-weigh-row-end : tie.Need-part-weigh-row-end Inv-loop μ-loop
+part-weigh-row-end c = search needs
 
-entry-in-requires : tie.Need-entry-in-requires Inv-loop μ-loop
-entry-in-requires c κs =
-    let start = c .before .before .before .before .before .before .before in
+weigh-row-requires : tie.Need-weigh-row-requires Inv-loop μ-loop
+weigh-row-requires c κs =
+    let start = c .before .before .before .before .before .before .before .before .before in
     let numbers = start .args .numbers .now in
-    let i = c .before .before .loop .i in
-    (simp (length-take, length-drop) (omega arith), ap rowTooWide (row-part numbers i) ∙ row-fine numbers (start .pre .1) i (omega arith))
-
-gives-requires : tie.Need-gives-requires Inv-loop μ-loop
-gives-requires c κs = search needs
-
-weigh-next-requires : tie.Need-weigh-next-requires Inv-loop μ-loop
-weigh-next-requires c κs =
-    let start = c .before .before .before .before .before .before .before .before .before .before .before in
-    let numbers = start .args .numbers .now in
-    let loop = c .before .before .before .before .before .before .loop in
-    let made = c .before .before .before .entry-in .ensures ∙ ap entryIn (row-part numbers (loop .i)) in
-    (ap tooWide made ∙ entry-fine numbers (start .pre .1) (loop .i) (omega arith), loop .inv .small, omega arith)
+    let loop = c .before .before .before .before .loop in
+    let i = loop .i in (
+      simp (length-take, length-drop) (omega arith),
+      ap rowTooWide (row-part numbers i) ∙ row-fine numbers (start .pre .1) i (omega arith),
+      loop .inv .small,
+      omega arith,
+    )
 
 add-i : tie.Need-add-i Inv-loop μ-loop
 add-i c = search needs
@@ -82,19 +78,25 @@ loop-less c = search needs
 
 loop-again : tie.Need-loop-again Inv-loop μ-loop
 loop-again c =
-    let start = c .before .before .before .before .before .before .before .before .before .before .before .before in
-    let numbers = start .args .numbers .now in
+    let start = c .before .before .before .before .before .before .before .before .before .before in
+    let a = start .args in
+    let numbers = a .numbers .now in
     let count : ℕ = rowCount numbers in
-    let loop = c .before .before .before .before .before .before .before .loop in
-    let entry = c .before .before .before .before .entry-in in
-    let given = c .before .before .before .gives in
-    let made = entry .ensures ∙ ap entryIn (row-part numbers (loop .i)) in
+    let loop = c .before .before .before .before .before .loop in
+    let i = loop .i in
+    let part = row-part numbers i in
+    let entry : Entry = entryIn (rowAt numbers i) in
     let long = length-entries numbers count in
-    let next = c .weigh-next in
-    weighing-next (entriesBelow numbers count) (loop .pids) (loop .indices) (loop .weighed) (loop .i) (loop .inv) (omega arith) blankEntry (entry .result)
-    (entry-at numbers count (loop .i) (omega arith) ∙ sym made) (ap tooWide made ∙ entry-fine numbers (start .pre .1) (loop .i) (omega arith))
-    (given .result) (given .ensures ∙ ap (λ (pair : Bool). givenTo pair (entry .result)) (start .pre .2)) (next .ensures .0 .2)
-    (next .result) _ _ (next .ensures .0 .0) (next .ensures .0 .1) (next .ensures .1 .0) (next .ensures .1 .1)
+    let next = c .weigh-row in
+    weighing-next (entriesBelow numbers count) (loop .pids) (loop .indices) (loop .weighed) i (loop .inv) (omega arith) blankEntry entry
+    (entry-at numbers count i (omega arith)) (entry-fine numbers (start .pre .1) i (omega arith))
+    (givenTo (a .pair) entry) (ap (λ (pair : Bool). givenTo pair entry) (start .pre .2))
+    (subst (λ (row : List ℕ). indexOf ((entryIn row) .«stream_type») ((entryIn row) .«record») < 256) part (next .ensures .0 .2))
+    (next .result) _ _
+    (next .ensures .0 .0 ∙ ap (λ (row : List ℕ). weighedNext (givenTo (a .pair) (entryIn row)) (loop .pids) (loop .indices) (loop .weighed) (entryIn row) i) part)
+    (next .ensures .0 .1)
+    (next .ensures .1 .0 ∙ ap (λ (row : List ℕ). set (loop .pids) ((entryIn row) .pid) true) part)
+    (next .ensures .1 .1 ∙ ap (λ (row : List ℕ). set (loop .indices) (slotOf ((entryIn row) .«stream_type») ((entryIn row) .«record»)) true) part)
 
 returns : tie.Need-returns Inv-loop μ-loop
 returns c =
@@ -115,13 +117,11 @@ weigh-rows-spec =
     loop-holds
     mul-start
     add-end
-    mul-entry-in
-    sub-entry-in
-    part-entry-in-start
-    part-entry-in-end
-    entry-in-requires
-    gives-requires
-    weigh-next-requires
+    mul-weigh-row
+    sub-weigh-row
+    part-weigh-row-start
+    part-weigh-row-end
+    weigh-row-requires
     add-i
     loop-less
     loop-again
