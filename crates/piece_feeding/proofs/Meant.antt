@@ -26,7 +26,7 @@ pub fed-nothing-yet : (table part kept : List ℕ) → HasBeenFed table [] start
 fed-nothing-yet table part kept = refl
 
 -- one piece more
-fed-last : (table : List ℕ) (known : Known) (pieces : List (List ℕ)) (piece : List ℕ) → fedAll table known (pieces ++ piece ∷ []) ≡ fed table (fedAll table known pieces) piece
+pub fed-last : (table : List ℕ) (known : Known) (pieces : List (List ℕ)) (piece : List ℕ) → fedAll table known (pieces ++ piece ∷ []) ≡ fed table (fedAll table known pieces) piece
 fed-last table known [] piece = refl
 fed-last table known (first ∷ pieces) piece = fed-last table (fed table known first) pieces piece
 

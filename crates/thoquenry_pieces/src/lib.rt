@@ -127,7 +127,7 @@ fn room_told(no_room: u64, rows: usize) -> usize
 }
 
 // What the recording is if it ends here.
-fn told(state: &[u8], counts: &[u64]) -> Recording
+pub fn told(state: &[u8], counts: &[u64]) -> Recording
     requires { ⌜ isState (now state) (now counts) ≡ true ⌝ }
     ensures { λ r. ⌜ r ≡ toldBy (now (counts .entry)) ⌝ }
 {
