@@ -307,7 +307,7 @@ module _ (table : List ℕ) (packets : List Item) (size : (k : ℕ) (packet rest
 -- ---- THE ANSWER
 
 module _ (table bytes : List ℕ) (room : ℕ) where
-  cuts : Cuts packetBytes (λ head. 0) bytes (packetsIn bytes)
+  pub cuts : Cuts packetBytes (λ head. 0) bytes (packetsIn bytes)
   cuts = cut-cuts packetBytes (λ head. 0) (omega arith) (λ head rest e. refl) bytes
 
   only-cut : {packets : List Item} → Cuts packetBytes (λ head. 0) bytes packets → packets ≡ packetsIn bytes
@@ -319,8 +319,14 @@ module _ (table bytes : List ℕ) (room : ℕ) where
   low : Low table (packetsIn bytes) (length (packetsIn bytes)) found
   low = low-found table bytes
 
-  all-rows-meant : RowsFrom table (packetsIn bytes) 0 (rowsIn table bytes)
+  -- the rows that are computed, and no others, are those of the packets
+  pub all-rows-meant : RowsFrom table (packetsIn bytes) 0 (rowsIn table bytes)
   all-rows-meant = rows-meant table (packetsIn bytes) (sized cuts) (packetsIn bytes) 0 (omega arith) refl
+
+  pub all-rows-only : {packets : List Item} {rows : List Row} → Cuts packetBytes (λ head. 0) bytes packets → RowsFrom table packets 0 rows
+      → rows ≡ rowsIn table bytes
+  all-rows-only {packets} {rows} c r =
+      rows-only table (packetsIn bytes) (sized cuts) (subst (λ (is : List Item). RowsFrom table is 0 rows) (only-cut c) r) (packetsIn bytes) refl
 
   -- what is computed has the meaning
   pub answer-meant : Answers table bytes room (answerOf (foundIn table bytes) room)
