@@ -44,7 +44,8 @@ use Rattle.recording_imports.specs.declared.Imported.{Imported}
 use Rattle.recording_imports.specs.declared.Imported.the-variants as Imported
 use Rattle.recording_imports.specs.declared.RowsRead.{RowsRead}
 use Rattle.recording_imports.specs.Rows.{pidTable, rowsTold, rowsFor}
-use Rattle.recording_imports.specs.Imports.{layersOfLoop, outcomeOf, outcomeFor, outcomeAsked, importedOf, importedBy, recordingWith, importOf, listsWith, importLists}
+use Rattle.recording_imports.specs.Imports.{layersOfLoop, outcomeOf, outcomeFor, outcomeAsked, importedOf, importedBy, recordingWith, importOf}
+use Rattle.recording_meaning.proofs.Meant.{lists-same, import-meant, import-only}
 use Rattle.recording_demands.specs.Agreement.{ImportsRows, loop-refused, loop-accepted, Of512Rows, filled, GivesRows, Imports, Refuses2009, Agrees, OfEveryRecording}
 
 pub of-512-rows : Of512Rows
@@ -114,10 +115,6 @@ same-imported {a} {b} e = sym (back a) ∙ ap joinedFrom e ∙ back b
     back (Units closure units rows) = refl
     back (Refused refusal) = refl
 
-lists-same : (layers : Layers) (t : Table) (j : Joined) (before : Lists) → listsWith layers t (importedOf j) before ≡ listsAfter layers t j before
-lists-same layers t (Units closure units rows) before = refl
-lists-same layers t (Refused refusal) before = refl
-
 -- a target that is refused is refused by joining too
 after-target : (most : ℕ) (layers : Layers) (target : ℕ) (t : Table) (room : Room) (rows : RowsRead) (recording : Recording) → rowsTold recording ≡ rows
     → ((j : Joined) → importedBy rows j ≡ importedOf j)
@@ -157,16 +154,18 @@ module _ (places : ℕ) (bytes : List ℕ) (is-accepted : IsAccepted Edition2015
     pub to-recording : {answer : Joined} {after : Lists} → answer ≡ joinedBoth all before → after ≡ listsAfter all rows (joinedBoth all before) before
         → Imports places bytes target packets before (importedOf answer) after
     to-recording {answer} e f =
-        record {
+        import-meant places bytes target packets before
+        (record {
           is-answer = ap importedOf e ∙ sym (imported places bytes is-accepted target packets r (roomOf before));
           is-after = f ∙ ap (λ (j : Joined). listsAfter all rows j before) (sym e) ∙ sym (lists-same all rows answer before);
-        }
+        })
 
     pub of-recording : {answer : Joined} {after : Lists} → Imports places bytes target packets before (importedOf answer) after
         → (answer ≡ joinedBoth all before) × (after ≡ listsAfter all rows (joinedBoth all before) before)
     of-recording {answer} i =
-        let e : answer ≡ joinedBoth all before = same-imported (i .is-answer ∙ imported places bytes is-accepted target packets r (roomOf before)) in
-        (e, i .is-after ∙ lists-same all rows answer before ∙ ap (λ (j : Joined). listsAfter all rows j before) e)
+        let c = import-only places bytes target packets before i in
+        let e : answer ≡ joinedBoth all before = same-imported (c .is-answer ∙ imported places bytes is-accepted target packets r (roomOf before)) in
+        (e, c .is-after ∙ lists-same all rows answer before ∙ ap (λ (j : Joined). listsAfter all rows j before) e)
 
   computed : Agrees places bytes target packets (entriesIn Edition2015 bytes) all
   computed =

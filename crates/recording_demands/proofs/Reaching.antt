@@ -49,6 +49,7 @@ use Rattle.recordings.proofs.AnswerMeant as recordings
 use Rattle.recording_imports.specs.declared.Imported.{Imported}
 use Rattle.recording_imports.specs.Rows.{pidTable, rowsTold, rowsFor}
 use Rattle.recording_imports.specs.Imports.{layersOfLoop, outcomeOf, outcomeFor, importedBy, recordingWith, importedOf}
+use Rattle.recording_meaning.proofs.Meant.{import-only}
 use Rattle.recording_demands.specs.Agreement.{filled, GivesRows, Imports}
 use Rattle.recording_demands.specs.Reaching.{ToJoining, OfJoining, Reached}
 use Rattle.recording_demands.proofs.Agreement.{to-recording, of-recording}
@@ -147,7 +148,7 @@ module _ (places : ℕ) (bytes : List ℕ) (target : ℕ) (packets : List ℕ) w
       → ToJoining places bytes target packets
   reaches before answer after i o =
       by-loop (joinedOf places (layersOfLoop bytes) target (filled places bytes target packets) (roomOf before)) ((loopRead Edition2015 bytes) .outcome) refl
-      (loop-number (answer-meant Edition2015 bytes)) (subst OfJoining (i .is-answer) o)
+      (loop-number (answer-meant Edition2015 bytes)) (subst OfJoining (import-only places bytes target packets before i .is-answer) o)
 
   -- ---- and the other way: joining over the rows, in the layers of the loop
 

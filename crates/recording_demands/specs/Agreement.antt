@@ -6,7 +6,6 @@
 use Prim.Native.Nat.{ℕ}
 use mathlib.Core.List.{List, map}
 use mathlib.Core.Logic.{_↔_}
-use mathlib.Core.Path.{_≡_}
 use Rattle.vocabulary.specs.declared.stream_types.Reading.{Reading}
 use Rattle.vocabulary.specs.declared.stream_types.Reading.the-variants.{Edition2009, Edition2015}
 use Rattle.vocabulary.specs.declared.refusal.Refusal.{Refusal}
@@ -21,7 +20,6 @@ use Rattle.rows.specs.Table.{Table, mostRows}
 use Rattle.unit_lists.specs.Sequence.{Lists}
 use Rattle.join_answers.specs.declared.answer.Joined.{Joined}
 use Rattle.join_answers.specs.declared.answer.Joined.the-variants.{Refused}
-use Rattle.join_answers.specs.Joining.{roomOf}
 use Rattle.join_answers.specs.Meaning as Joining
 use Rattle.importing.specs.Meaning as Import
 use Rattle.agreement.specs.Meaning.{Accepts, Every2009, Otherwise, NoSet}
@@ -29,7 +27,8 @@ use Rattle.recordings.specs.declared.Recording.the-variants.{Rows}
 use Rattle.recordings.specs.Meaning as Recordings
 use Rattle.recording_imports.specs.declared.Imported.{Imported}
 use Rattle.recording_imports.specs.Rows.{pidTable, rowsOf}
-use Rattle.recording_imports.specs.Imports.{importedOf, tableOf, importOf, importLists}
+use Rattle.recording_imports.specs.Imports.{importedOf, tableOf}
+use Rattle.recording_meaning.specs.Meaning as Recording
 
 -- THE IMPORT OF ROWS by a reading, where a table may have so many: as `importing` has it of 512 (`of-512-rows`).
 pub data ImportsRows (most : ℕ) (reading : Reading) (bytes : List ℕ) (target : ℕ) (t : Table) (before : Lists) : Joined → Lists → Type 0 where
@@ -54,9 +53,8 @@ module _ (places : ℕ) (bytes : List ℕ) (target : ℕ) (packets : List ℕ) w
     pub rows : Recordings.Answers (pidTable bytes) packets places (Rows count)
 
   -- the import of the recording: its answer, and what the three lists then hold
-  pub record Imports (before : Lists) (answer : Imported) (after : Lists) : Type 0 where
-    pub is-answer : answer ≡ importOf places bytes target packets (roomOf before)
-    pub is-after : after ≡ importLists bytes packets answer before
+  abbrev pub Imports : Lists → Imported → Lists → Type 0
+  Imports before answer after = Recording.Answers places bytes target packets before answer after
 
   -- 'the 2009 reading refuses with "no such layer" or "embedded layer absent"', with one refusal for every room
   pub record Refuses2009 : Type 0 where
