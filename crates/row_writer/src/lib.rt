@@ -1,4 +1,4 @@
-// A loop written from rows: they are weighed by their numbers, and then laid into the buffer, each as one entry that is made of it and not kept.
+// A loop written from rows: they are weighed by their numbers, and then their bytes laid into the buffer. No entry is made of them.
 ghost use mathlib.Core.Path.{_≡_};
 ghost use mathlib.Core.Bool.{false};
 ghost use Prim.Native.Nat.{_≤_};
@@ -15,7 +15,7 @@ use es_loop::no_pids;
 use loop_writer::Weighed;
 use loop_writer::Written;
 use loop_writer::nothing_weighed;
-use row_taking::entry_in;
+use row_bytes::put_row;
 use row_taking::view_in;
 use row_weighing::weigh_row;
 use vocabulary::Refusal;
@@ -63,9 +63,9 @@ pub fn weigh_rows(pair: bool, numbers: &[u16]) -> Weighed
     weighed
 }
 
-// The bytes of the entries of the rows, from the front of the buffer on.
-fn put_entries(out: &mut [u8], numbers: &[u16]) -> usize
-    requires { ⌜ someTooWide (now numbers) ≡ false ⌝ }
+// The bytes of the entries of the rows, from the front of the buffer on, where there is room for all of them.
+fn put_rows(out: &mut [u8], numbers: &[u16]) -> usize
+    requires { ⌜ (someTooWide (now numbers) ≡ false) × (length (loopBytes (entriesBelow (now numbers) (rowCount (now numbers)))) ≤ length (now out)) ⌝ }
     ensures { λ r. ⌜ Laid (now (out .entry)) 0 (loopBytes (entriesBelow (now (numbers .entry)) (rowCount (now (numbers .entry))))) r (now (out .exit)) ⌝ }
 {
     let count = numbers.len() / 80;
@@ -74,8 +74,7 @@ fn put_entries(out: &mut [u8], numbers: &[u16]) -> usize
     while i < count {
         let start = i * 80;
         let end = start + 80;
-        let entry = entry_in(&numbers[start..end]);
-        place = loop_writer::put_entry(out, place, entry);
+        place = put_row(out, place, &numbers[start..end]);
         i += 1;
     }
     place
@@ -94,7 +93,7 @@ pub fn write_rows(numbers: &[u16], out: &mut [u8]) -> Written
     match answer {
         Written::Refused(refusal) => Written::Refused(refusal),
         Written::Bytes(size) => {
-            put_entries(out, numbers);
+            put_rows(out, numbers);
             Written::Bytes(size)
         }
     }
