@@ -14,7 +14,7 @@ use Rattle.packets.specs.declared.Packet.{Packet}
 use Rattle.packets.specs.Reading.{packetBytes, adaptationOf, packetOf}
 use Rattle.packets.specs.Judging.{isSkipped, withPayload, adaptationOutside, startsClear, headerWithin, payloadAt, headerOutside, isOutside, isScrambled}
 use Rattle.packets.proofs.FieldLaws.{packetBy, packet-of-bytes}
-use Rattle.continuity.specs.Following.{repeats, isCopy, isGap, aloneOf, isThere, stepOf, ordinaryAfter}
+use Rattle.continuity.specs.Following.{repeats, isCopy, isGap, aloneOf, isThere, stepOf, ordinaryFourth, ordinaryAfter}
 use Rattle.continuity.specs.declared.Step.the-variants.{Continues}
 use Rattle.continuity.proofs.Steps.{alone-by, step-by}
 
@@ -28,11 +28,11 @@ module _ (before packet : List ℕ) (bytes-before : AreBytes before) (bytes : Ar
   q = packetBy (getD before 0 0) (getD before 1 0) (getD before 1 0 % 32 * 256 + getD before 2 0) (getD before 3 0) (adaptationOf before)
 
   low : getD packet 1 0 < 64
-  low = ltb-true (getD packet 1 0) 64 (both-left (ltb (getD packet 1 0) 64) (eqb (getD packet 3 0) (16 + (getD before 3 0 % 16 + 1) % 16)) ordinary)
+  low = ltb-true (getD packet 1 0) 64 (both-left (ltb (getD packet 1 0) 64) (eqb (getD packet 3 0) (ordinaryFourth (getD before 3 0))) ordinary)
 
-  next : getD packet 3 0 ≡ 16 + (getD before 3 0 % 16 + 1) % 16
-  next = eqb-true (getD packet 3 0) (16 + (getD before 3 0 % 16 + 1) % 16)
-      (both-right (ltb (getD packet 1 0) 64) (eqb (getD packet 3 0) (16 + (getD before 3 0 % 16 + 1) % 16)) ordinary)
+  next : getD packet 3 0 ≡ ordinaryFourth (getD before 3 0)
+  next = eqb-true (getD packet 3 0) (ordinaryFourth (getD before 3 0))
+      (both-right (ltb (getD packet 1 0) 64) (eqb (getD packet 3 0) (ordinaryFourth (getD before 3 0))) ordinary)
 
   -- what the two bytes say
   control : getD packet 3 0 / 16 % 4 ≡ 1

@@ -64,7 +64,11 @@ stepOf before packet =
     cond (isSkipped (packetOf packet)) Skipped
     (cond (isThere before) (afterOf (packetOf packet) packet (packetOf before) before) (aloneOf (packetOf packet) packet))
 
--- An ordinary packet after another, by its second and fourth byte and the fourth byte of the one before it: no error bit and no unit start; not scrambled, a
--- payload and no adaptation field, and the next counter. Its step is that it continues (proofs/Ordinary.antt).
+-- The fourth byte of an ordinary packet after one with a fourth byte: not scrambled, a payload and no adaptation field, and the next counter.
+abbrev pub ordinaryFourth : ℕ → ℕ
+ordinaryFourth before = 16 + (before % 16 + 1) % 16
+
+-- An ordinary packet after another, by its second and fourth byte and the fourth byte of the one before it: it has no error bit and no unit start either. Its step is
+-- that it continues (proofs/Ordinary.antt).
 abbrev pub ordinaryAfter : ℕ → ℕ → ℕ → Bool
-ordinaryAfter second fourth before = ltb second 64 && eqb fourth (16 + (before % 16 + 1) % 16)
+ordinaryAfter second fourth before = ltb second 64 && eqb fourth (ordinaryFourth before)

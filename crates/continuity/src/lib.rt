@@ -4,7 +4,7 @@ ghost use mathlib.Core.Path.{_≡_};
 ghost use Prim.Native.Nat.{_+_, _%_, _≤_};
 ghost use lib.ListN.{length};
 ghost use Rattle.packets.specs.Reading.{packetBytes};
-ghost use Rattle.continuity.specs.Following.{differenceOf, sameBytes, repeats, isCopy, nextCounter, isGap, aloneOf, stepOf, ordinaryAfter};
+ghost use Rattle.continuity.specs.Following.{differenceOf, sameBytes, repeats, isCopy, nextCounter, isGap, aloneOf, stepOf, ordinaryFourth, ordinaryAfter};
 use packets::PACKET_BYTES;
 use packets::Packet;
 
@@ -132,6 +132,13 @@ pub fn follow(before: &[u8], packet: &[u8]) -> Step
     alone(fields, packet)
 }
 
+// The fourth byte of an ordinary packet after one with this fourth byte: not scrambled, a payload and no adaptation field, and the next counter.
+pub fn ordinary_fourth(before: u8) -> u8
+    ensures { λ r. ⌜ r ≡ ordinaryFourth before ⌝ }
+{
+    16 + (before % 16 + 1) % 16
+}
+
 // Whether a packet is an ordinary one after the packet before it, by the second and fourth byte of the one and the fourth of the other: most packets are, and
 // nothing else of them need be looked at.
 pub fn ordinary_after(second: u8, fourth: u8, before: u8) -> bool
@@ -140,5 +147,5 @@ pub fn ordinary_after(second: u8, fourth: u8, before: u8) -> bool
     if 64 <= second {
         return false;
     }
-    fourth == 16 + (before % 16 + 1) % 16
+    fourth == ordinary_fourth(before)
 }

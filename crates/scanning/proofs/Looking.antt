@@ -8,11 +8,11 @@ use mathlib.Core.Logic.{⊎-elim}
 use native.Mathlib.Decide.{decLt}
 use native.Mathlib.Nat.{add-zero, zero-add, add-suc, suc-add, eq-or-lt-of-le}
 use native.Mathlib.Omega.{arith}
-use borrow.Author.Tests.{ltb-true, ltb-false, lt-ltb, le-ltb, eq-eqb, ne-eqb}
+use borrow.Author.Tests.{eqb-true, lt-ltb, le-ltb, eq-eqb, ne-eqb}
 use lib.Dec.{eqb, ltb}
 use lib.ListN.{length, getD, set, take, drop, replicate, length-take, length-drop, List·getD-eq-default}
-use lib.Seq.{getD-take, getD-drop, length-take-le}
-use Rattle.combinators.specs.Bools.{either-way, or-else, neither-left}
+use lib.Seq.{getD-take, getD-drop, getD-set-same, set-getD, set-set, length-take-le}
+use Rattle.combinators.specs.Bools.{either-way, or-else, neither-left, both-left, both-right}
 use Rattle.syntax.specs.Table.{AreBytes}
 use Rattle.syntax.proofs.Number.{drop-bytes}
 use Rattle.packets.specs.declared.Packet.{Packet}
@@ -22,10 +22,10 @@ use Rattle.packets.proofs.FieldLaws.{packet-of-bytes}
 use Rattle.packets.proofs.JudgingLaws.{payload-within}
 use Rattle.continuity.specs.declared.Step.{Step}
 use Rattle.continuity.specs.declared.Step.the-variants.{Skipped, Copy, Faulty, Starts, Continues}
-use Rattle.continuity.specs.Following.{isCopy, isGap, aloneOf, afterOf, isThere, stepOf, ordinaryAfter}
+use Rattle.continuity.specs.Following.{isCopy, isGap, aloneOf, afterOf, isThere, stepOf, ordinaryFourth, ordinaryAfter}
 use Rattle.continuity.proofs.Ordinary.{ordinary-continues}
 use Rattle.scanning.specs.declared.events.Event.the-variants.{Nothing, Fault}
-use Rattle.scanning.specs.Events.{lastBy, startIn, stepEvent, stepIn, packetEvent, packetLasts, layerOf, onLayer, packetAt, endingAt, keptAt, lastAt, lastsFrom, lastsOf, LastWithin, EndsWithin, PassedOver, none-yet, one-more, Passes}
+use Rattle.scanning.specs.Events.{lastBy, startIn, stepEvent, stepIn, packetEvent, packetLasts, layerOf, onLayer, packetAt, endingAt, keptAt, lastAt, lastsFrom, lastsOf, LastWithin, EndsWithin, PassedOver, none-yet, one-more, Passes, beginsWith, Run, one, longer, Runs}
 
 -- ---- a header starts within its packet
 
@@ -298,38 +298,168 @@ module _ (table kept bytes ends : List ℕ) (from packets : ℕ) where
   pub passes-none : EndsWithin kept bytes ends → from ≤ packets → Passes table kept bytes ends from packets from ends
   passes-none within h = record { onward = omega arith; inside = h; within = within; passed = none-yet }
 
-  -- after some packets, one more or none
-  module _ {k : ℕ} {middle later : List ℕ} (p : Passes table kept bytes ends from packets k middle) (more : k < packets) where
-    passes-then : {next : ℕ} → Passes table kept bytes middle k (k + 1) next later → Passes table kept bytes ends from packets next later
-    passes-then q =
-        record { onward = omega (arith, p .onward, q .onward); inside = omega (arith, q .inside); within = q .within; passed = passed-then (p .passed) (q .passed) }
+  -- after some packets, others
+  pub passes-then : {k next limit : ℕ} {middle later : List ℕ} → Passes table kept bytes ends from packets k middle → Passes table kept bytes middle k limit next later
+      → limit ≤ packets → Passes table kept bytes ends from packets next later
+  passes-then {k} {next} p q h =
+      record { onward = omega (arith, p .onward, q .onward); inside = omega (arith, q .inside); within = q .within; passed = passed-then (p .passed) (q .passed) }
 
-    pub passes-by : {one : Bool} (t : Bool) → one ≡ t → Passes table kept bytes middle k (k + 1) (cond one (k + 1) k) later
-        → Passes table kept bytes ends from packets (cond t (k + 1) k) later
-    passes-by t e q = passes-then (subst (λ (b : Bool). Passes table kept bytes middle k (k + 1) (cond b (k + 1) k) later) e q)
+  -- one more or none
+  pub passes-by : {k : ℕ} {middle later : List ℕ} {one : Bool} → Passes table kept bytes ends from packets k middle → k < packets → (t : Bool) → one ≡ t
+      → Passes table kept bytes middle k (k + 1) (cond one (k + 1) k) later → Passes table kept bytes ends from packets (cond t (k + 1) k) later
+  passes-by {k} {middle} {later} p h t e q = passes-then p (subst (λ (b : Bool). Passes table kept bytes middle k (k + 1) (cond b (k + 1) k) later) e q) (omega arith)
 
-passes-one : {table kept bytes ends new-ends : List ℕ} {k : ℕ} → ((number : ℕ) → Nothing ≡ packetEvent table number (packetAt bytes k) (lastsOf kept bytes ends))
+passes-one : {table kept bytes ends new-ends : List ℕ} {k packets : ℕ} → k < packets → ((number : ℕ) → Nothing ≡ packetEvent table number (packetAt bytes k) (lastsOf kept bytes ends))
     → lastsOf kept bytes new-ends ≡ packetLasts table (packetAt bytes k) (lastsOf kept bytes ends) → EndsWithin kept bytes new-ends
-    → Passes table kept bytes ends k (k + 1) (k + 1) new-ends
-passes-one {table} {kept} {bytes} {ends} {new-ends} {k} nothing later within =
+    → Passes table kept bytes ends k packets (k + 1) new-ends
+passes-one {table} {kept} {bytes} {ends} {new-ends} {k} {packets} h nothing later within =
     record { onward = omega arith; inside = omega arith; within = within; passed = one-more none-yet (λ number. sym (nothing number)) later }
 
-module _ (table kept bytes ends : List ℕ) (within : EndsWithin kept bytes ends) (k : ℕ) (packet : List ℕ) (is-packet : packet ≡ packetAt bytes k) (are : AreBytes packet)
-    (sync : getD packet 0 0 ≡ 0x47) (layer : ℕ) (is-layer : layer ≡ getD table (getD packet 1 0 % 32 * 256 + getD packet 2 0) 0) where
+module _ (table kept bytes ends : List ℕ) (within : EndsWithin kept bytes ends) (k packets : ℕ) (more : k < packets) (packet : List ℕ) (is-packet : packet ≡ packetAt bytes k)
+    (are : AreBytes packet) (sync : getD packet 0 0 ≡ 0x47) (layer : ℕ) (is-layer : layer ≡ getD table (getD packet 1 0 % 32 * 256 + getD packet 2 0) 0) where
   -- one on no layer's PID
-  pub passes-other : 63 < layer → Passes table kept bytes ends k (k + 1) (k + 1) ends
+  pub passes-other : 63 < layer → Passes table kept bytes ends k packets (k + 1) ends
   passes-other h =
-      passes-one (λ number. looked-other table kept bytes ends k number packet is-packet are sync layer is-layer h .0)
+      passes-one more (λ number. looked-other table kept bytes ends k number packet is-packet are sync layer is-layer h .0)
       (looked-other table kept bytes ends k 0 packet is-packet are sync layer is-layer h .1) within
 
   -- an ordinary one of a layer
-  pub passes-ordinary : layer ≤ 63 → packetBytes * k + packetBytes ≤ length bytes → AreBytes bytes → packetBytes ≤ getD ends layer 0
+  pub passes-ordinary : layer ≤ 63 → packetBytes * packets ≤ length bytes → AreBytes bytes → packetBytes ≤ getD ends layer 0
       → ordinaryAfter (getD packet 1 0) (getD packet 3 0) (getD bytes (getD ends layer 0 - 185) 0) ≡ true
-      → Passes table kept bytes ends k (k + 1) (k + 1) (set ends layer (packetBytes * k + packetBytes))
+      → Passes table kept bytes ends k packets (k + 1) (set ends layer (packetBytes * k + packetBytes))
   passes-ordinary h room all whole ordinary =
-      passes-one (λ number. looked-ordinary table kept bytes ends k number packet is-packet are sync layer is-layer h step .0)
+      passes-one more (λ number. looked-ordinary table kept bytes ends k number packet is-packet are sync layer is-layer h step .0)
       (looked-ordinary table kept bytes ends k 0 packet is-packet are sync layer is-layer h step .1)
-      (ends-set kept bytes ends layer (packetBytes * k + packetBytes) (next-within kept bytes layer k room) within)
+      (ends-set kept bytes ends layer (packetBytes * k + packetBytes) (next-within kept bytes layer k (omega arith)) within)
     where
       step : stepOf (lastAt kept bytes layer (getD ends layer 0)) packet ≡ Continues
       step = ordinary-here kept bytes layer (getD ends layer 0) whole (place-inside (within layer) (λ e. omega arith)) all packet are ordinary
+
+-- ---- a run of ordinary packets
+
+-- a place that is not 0 is one of the list
+place-there : (ends : List ℕ) (slot : ℕ) → packetBytes ≤ getD ends slot 0 → slot < length ends
+place-there ends slot h = go (decLt slot (length ends))
+  where
+    go : Dec (slot < length ends) → slot < length ends
+    go (yes l) = l
+    go (no l) = absurd (omega (arith, List·getD-eq-default ends 0 {n = slot} (omega arith)))
+
+pub begins-by : (first second third fourth other-second other-third other-fourth : ℕ) {a b c d : Bool} → eqb first 0x47 ≡ a → eqb second other-second ≡ b → eqb third other-third ≡ c
+    → eqb fourth other-fourth ≡ d → a && (b && (c && d)) ≡ beginsWith first second third fourth other-second other-third other-fourth
+begins-by first second third fourth other-second other-third other-fourth p q r t = sym (λ i. p i && (q i && (r i && t i)))
+
+module _ (first second third fourth other-second other-third other-fourth : ℕ)
+    (begins : beginsWith first second third fourth other-second other-third other-fourth ≡ true) where
+  abbrev later : Bool
+  later = eqb second other-second && (eqb third other-third && eqb fourth other-fourth)
+
+  begins-later : later ≡ true
+  begins-later = both-right (eqb first 0x47) later begins
+
+  begins-last : eqb third other-third && eqb fourth other-fourth ≡ true
+  begins-last = both-right (eqb second other-second) (eqb third other-third && eqb fourth other-fourth) begins-later
+
+  begins-sync : first ≡ 0x47
+  begins-sync = eqb-true first 0x47 (both-left (eqb first 0x47) later begins)
+
+  begins-second : second ≡ other-second
+  begins-second = eqb-true second other-second (both-left (eqb second other-second) (eqb third other-third && eqb fourth other-fourth) begins-later)
+
+  begins-third : third ≡ other-third
+  begins-third = eqb-true third other-third (both-left (eqb third other-third) (eqb fourth other-fourth) begins-last)
+
+  begins-fourth : fourth ≡ other-fourth
+  begins-fourth = eqb-true fourth other-fourth (both-right (eqb third other-third) (eqb fourth other-fourth) begins-last)
+
+-- after a packet that is the last one on its layer's PID, and has no error bit and no unit start
+module _ (table kept bytes ends : List ℕ) (within : EndsWithin kept bytes ends) (before packets second third layer : ℕ) (low : second < 64)
+    (is-layer : layer ≡ getD table (second % 32 * 256 + third) 0) (on : layer ≤ 63) (room : packetBytes * packets ≤ length bytes) (all : AreBytes bytes)
+    (last-one : getD ends layer 0 ≡ packetBytes * before + packetBytes) where
+  -- the last places, after a packet of the run
+  abbrev ends-after : ℕ → List ℕ
+  ends-after k = set ends layer (packetBytes * k + packetBytes)
+
+  -- one packet more
+  passes-longer : (k : ℕ) → k + 1 < packets
+      → beginsWith (getD bytes (packetBytes * (k + 1)) 0) (getD bytes (packetBytes * (k + 1) + 1) 0) (getD bytes (packetBytes * (k + 1) + 2) 0) (getD bytes (packetBytes * (k + 1) + 3) 0)
+      second third (ordinaryFourth (getD bytes (packetBytes * k + 3) 0)) ≡ true
+      → Passes table kept bytes ends (before + 1) packets (k + 1) (ends-after k) → Passes table kept bytes ends (before + 1) packets (k + 1 + 1) (ends-after (k + 1))
+  passes-longer k h begins earlier =
+      passes-then table kept bytes ends (before + 1) packets earlier (subst (Passes table kept bytes (ends-after k) (k + 1) packets (k + 1 + 1)) again next) (omega arith)
+    where
+      -- its bytes
+      first-byte : getD (packetAt bytes (k + 1)) 0 0 ≡ 0x47
+      first-byte =
+          byte-at bytes (k + 1) 0 (omega arith) ∙ ap (λ (n : ℕ). getD bytes n 0) (add-zero (packetBytes * (k + 1)))
+          ∙ begins-sync (getD bytes (packetBytes * (k + 1)) 0) (getD bytes (packetBytes * (k + 1) + 1) 0) (getD bytes (packetBytes * (k + 1) + 2) 0)
+          (getD bytes (packetBytes * (k + 1) + 3) 0) second third (ordinaryFourth (getD bytes (packetBytes * k + 3) 0)) begins
+
+      second-byte : getD (packetAt bytes (k + 1)) 1 0 ≡ second
+      second-byte =
+          byte-at bytes (k + 1) 1 (omega arith)
+          ∙ begins-second (getD bytes (packetBytes * (k + 1)) 0) (getD bytes (packetBytes * (k + 1) + 1) 0) (getD bytes (packetBytes * (k + 1) + 2) 0)
+          (getD bytes (packetBytes * (k + 1) + 3) 0) second third (ordinaryFourth (getD bytes (packetBytes * k + 3) 0)) begins
+
+      third-byte : getD (packetAt bytes (k + 1)) 2 0 ≡ third
+      third-byte =
+          byte-at bytes (k + 1) 2 (omega arith)
+          ∙ begins-third (getD bytes (packetBytes * (k + 1)) 0) (getD bytes (packetBytes * (k + 1) + 1) 0) (getD bytes (packetBytes * (k + 1) + 2) 0)
+          (getD bytes (packetBytes * (k + 1) + 3) 0) second third (ordinaryFourth (getD bytes (packetBytes * k + 3) 0)) begins
+
+      fourth-byte : getD (packetAt bytes (k + 1)) 3 0 ≡ ordinaryFourth (getD bytes (packetBytes * k + 3) 0)
+      fourth-byte =
+          byte-at bytes (k + 1) 3 (omega arith)
+          ∙ begins-fourth (getD bytes (packetBytes * (k + 1)) 0) (getD bytes (packetBytes * (k + 1) + 1) 0) (getD bytes (packetBytes * (k + 1) + 2) 0)
+          (getD bytes (packetBytes * (k + 1) + 3) 0) second third (ordinaryFourth (getD bytes (packetBytes * k + 3) 0)) begins
+
+      end : getD (ends-after k) layer 0 ≡ packetBytes * k + packetBytes
+      end = getD-set-same ends layer (packetBytes * k + packetBytes) 0 (place-there ends layer (omega (arith, last-one)))
+
+      again : set (ends-after k) layer (packetBytes * (k + 1) + packetBytes) ≡ ends-after (k + 1)
+      again = set-set ends layer (packetBytes * k + packetBytes) (packetBytes * (k + 1) + packetBytes)
+
+      fourth-place : packetBytes * k + 3 ≡ packetBytes * k + packetBytes - 185
+      fourth-place = omega arith
+
+      next : Passes table kept bytes (ends-after k) (k + 1) packets (k + 1 + 1) (set (ends-after k) layer (packetBytes * (k + 1) + packetBytes))
+      next =
+          passes-ordinary table kept bytes (ends-after k) (earlier .within) (k + 1) packets h (packetAt bytes (k + 1)) refl (packet-bytes bytes (k + 1) all) first-byte layer
+          (is-layer ∙ ap₂ (λ (s t : ℕ). getD table (s % 32 * 256 + t) 0) (sym second-byte) (sym third-byte))
+          on room all (omega (arith, end))
+          (ap₂ (λ (s n : ℕ). ordinaryAfter s (getD (packetAt bytes (k + 1)) 3 0) (getD bytes (n - 185) 0)) second-byte end
+          ∙ ap₂ (λ (t : Bool) (n : ℕ). t && eqb n (ordinaryFourth (getD bytes (packetBytes * k + packetBytes - 185) 0))) (lt-ltb second 64 low) fourth-byte
+          ∙ eq-eqb (ordinaryFourth (getD bytes (packetBytes * k + 3) 0)) (ordinaryFourth (getD bytes (packetBytes * k + packetBytes - 185) 0))
+          (ap (λ (n : ℕ). ordinaryFourth (getD bytes n 0)) fourth-place))
+
+  pub passes-run : {last : ℕ} → Run bytes second third before last → last < packets → Passes table kept bytes ends (before + 1) packets (last + 1) (ends-after last)
+  passes-run one h =
+      subst (Passes table kept bytes ends (before + 1) packets (before + 1)) (sym (ap (set ends layer) (sym last-one) ∙ set-getD ends layer 0))
+      (passes-none table kept bytes ends (before + 1) packets within (omega arith))
+  passes-run (longer {k} run begins) h = passes-longer k h begins (passes-run run (omega arith))
+
+-- the run as the code finds it
+module _ (bytes : List ℕ) (second third from packets : ℕ) where
+  pub record Running (last fourth : ℕ) : Type 0 where
+    pub runs : Runs bytes second third from packets last
+    pub byte : fourth ≡ getD bytes (packetBytes * last + 3) 0
+
+  pub running-start : {fourth : ℕ} → from < packets → fourth ≡ getD bytes (packetBytes * from + 3) 0 → Running from fourth
+  running-start h e = record { runs = record { inside = h; run = one }; byte = e }
+
+  pub running-turn : {last fourth next : ℕ} → Running last fourth → last + 1 < packets → next ≡ ordinaryFourth fourth
+      → beginsWith (getD bytes (packetBytes * (last + 1)) 0) (getD bytes (packetBytes * (last + 1) + 1) 0) (getD bytes (packetBytes * (last + 1) + 2) 0)
+      (getD bytes (packetBytes * (last + 1) + 3) 0) second third next ≡ true
+      → Running (last + 1) next
+  running-turn {last} {fourth} {next} w h is begins =
+      record {
+        runs = record {
+          inside = h;
+          run = longer (w .runs .run)
+              (subst (λ (n : ℕ). beginsWith (getD bytes (packetBytes * (last + 1)) 0) (getD bytes (packetBytes * (last + 1) + 1) 0) (getD bytes (packetBytes * (last + 1) + 2) 0)
+              (getD bytes (packetBytes * (last + 1) + 3) 0) second third n ≡ true) (is ∙ ap ordinaryFourth (w .byte)) begins);
+        };
+        byte = sym
+            (begins-fourth (getD bytes (packetBytes * (last + 1)) 0) (getD bytes (packetBytes * (last + 1) + 1) 0) (getD bytes (packetBytes * (last + 1) + 2) 0)
+            (getD bytes (packetBytes * (last + 1) + 3) 0) second third next begins);
+      }

@@ -2,7 +2,7 @@
 -- Assumes nothing.
 use Prim.Native.Nat.{ℕ, suc, _+_, _-_, _*_, _≤_, _<_}
 use mathlib.Core.Path.{_≡_}
-use mathlib.Core.Bool.{Bool, cond}
+use mathlib.Core.Bool.{Bool, true, cond, _&&_}
 use mathlib.Core.List.{List, [], _∷_}
 use lib.Dec.{eqb, ltb}
 use lib.ListN.{length, getD, set, take, drop, replicate}
@@ -14,7 +14,7 @@ use Rattle.packets.specs.Reading.{packetBytes, inHeader, packetOf}
 use Rattle.packets.specs.Judging.{lostSync}
 use Rattle.continuity.specs.declared.Step.{Step}
 use Rattle.continuity.specs.declared.Step.the-variants.{Skipped, Copy, Faulty, Starts, Continues}
-use Rattle.continuity.specs.Following.{stepOf}
+use Rattle.continuity.specs.Following.{stepOf, ordinaryFourth}
 use Rattle.scanning.specs.declared.events.Event.{Event}
 use Rattle.scanning.specs.declared.events.Event.the-variants.{Nothing, Fault, NotRead, Unit}
 
@@ -145,3 +145,21 @@ pub record Passes (table kept bytes ends : List ℕ) (from packets next : ℕ) (
   pub inside : next ≤ packets
   pub within : EndsWithin kept bytes new-ends
   pub passed : PassedOver table bytes from (lastsOf kept bytes ends) next (lastsOf kept bytes new-ends)
+
+-- the first four bytes of a packet: the sync byte, and three that are looked for
+abbrev pub beginsWith : ℕ → ℕ → ℕ → ℕ → ℕ → ℕ → ℕ → Bool
+beginsWith first second third fourth other-second other-third other-fourth =
+    eqb first 0x47 && (eqb second other-second && (eqb third other-third && eqb fourth other-fourth))
+
+-- packets one right after another, from one on, that begin with the same three bytes, each with the fourth byte of an ordinary packet after the one before it
+pub data Run (bytes : List ℕ) (second third from : ℕ) : ℕ → Type 0 where
+  one : Run bytes second third from from
+  longer : {k : ℕ} → Run bytes second third from k
+      → beginsWith (getD bytes (packetBytes * (k + 1)) 0) (getD bytes (packetBytes * (k + 1) + 1) 0) (getD bytes (packetBytes * (k + 1) + 2) 0) (getD bytes (packetBytes * (k + 1) + 3) 0)
+      second third (ordinaryFourth (getD bytes (packetBytes * k + 3) 0)) ≡ true
+      → Run bytes second third from (k + 1)
+
+-- the last packet of such a run
+pub record Runs (bytes : List ℕ) (second third from packets last : ℕ) : Type 0 where
+  pub inside : last < packets
+  pub run : Run bytes second third from last

@@ -51,7 +51,7 @@ returns-2 c =
     let a = c .before .before .before .before .before .before .before .before .before .before .args in
     let packet = take (packetBytes * a .step + packetBytes - packetBytes * a .step) (drop (packetBytes * a .step) (now (a .bytes))) in
     let layer = getD (now (a .table)) (c .before .before .pid-of .result) 0 in
-    passes-other (now (a .table)) (now (a .kept)) (now (a .bytes)) (now (a .ends)) (c .before .before .before .before .before .before .before .before .before .before .pre .1) (a .step) packet (part-is-packet (now (a .bytes)) (a .step))
+    passes-other (now (a .table)) (now (a .kept)) (now (a .bytes)) (now (a .ends)) (c .before .before .before .before .before .before .before .before .before .before .pre .1) (a .step) (a .step + 1) (omega arith) packet (part-is-packet (now (a .bytes)) (a .step))
     (λ i. c .before .before .before .before .before .before .shared-slice-known3 .given i .fits) (c .before .before .before .before .before .if1 .left) layer (ap (λ (n : ℕ). getD (now (a .table)) n 0) (c .before .before .pid-of .ensures)) (c .if2 .taken)
 
 cast-slot : tie.Need-cast-slot
@@ -103,9 +103,9 @@ returns-5 c =
     let a = c .before .before .before .before .before .before .before .before .before .before .before .before .before .before .before .before .before .args in
     let packet = take (packetBytes * a .step + packetBytes - packetBytes * a .step) (drop (packetBytes * a .step) (now (a .bytes))) in
     let layer = getD (now (a .table)) (c .before .before .before .before .before .before .before .before .before .pid-of .result) 0 in
-    passes-ordinary (now (a .table)) (now (a .kept)) (now (a .bytes)) (now (a .ends)) (c .before .before .before .before .before .before .before .before .before .before .before .before .before .before .before .before .before .pre .1) (a .step) packet (part-is-packet (now (a .bytes)) (a .step))
+    passes-ordinary (now (a .table)) (now (a .kept)) (now (a .bytes)) (now (a .ends)) (c .before .before .before .before .before .before .before .before .before .before .before .before .before .before .before .before .before .pre .1) (a .step) (a .step + 1) (omega arith) packet (part-is-packet (now (a .bytes)) (a .step))
     (λ i. c .before .before .before .before .before .before .before .before .before .before .before .before .before .shared-slice-known3 .given i .fits) (c .before .before .before .before .before .before .before .before .before .before .before .before .if1 .left) layer (ap (λ (n : ℕ). getD (now (a .table)) n 0) (c .before .before .before .before .before .before .before .before .before .pid-of .ensures)) (c .before .before .before .before .before .before .before .if2 .left)
-    (c .before .before .before .before .before .before .before .before .before .before .before .before .before .before .before .before .before .pre .0) (λ i. c .before .before .shared-slice-known8 .given i .fits) (c .before .before .before .before .before .if3 .left)
+    (omega (arith, c .before .before .before .before .before .before .before .before .before .before .before .before .before .before .before .before .before .pre .0)) (λ i. c .before .before .shared-slice-known8 .given i .fits) (c .before .before .before .before .before .if3 .left)
     (sym (c .before .ordinary-after .ensures) ∙ not-false (c .before .ordinary-after .result) (c .if4 .left))
 
 pub pass-one-spec : {M : Type 1} → statement M

@@ -1,12 +1,10 @@
 -- `scanning::skipping::skip` meets its contract. The invariant: all packets so far are passed over. The measure is the number of packets left.
 -- Assumes nothing.
-use borrow.Author.Tests.{not-true, not-false}
 use native.Mathlib.Omega.{arith}
 use Prim.Native.Nat.{_-_}
-use mathlib.Core.Bool.{true, false}
 use denote.Ref.{now}
 use Rattle.scanning.specs.Events.{Passes}
-use Rattle.scanning.proofs.Looking.{passes-none, passes-by}
+use Rattle.scanning.proofs.Looking.{passes-none, passes-then}
 use Rattle.scanning.proofs.skipping.skip.Statement.{statement}
 use Rattle.scanning.proofs.skipping.skip.Tie as tie
 
@@ -21,24 +19,31 @@ loop-holds c =
     let a = c .before .before .args in
     passes-none (now (a .table)) (now (a .kept)) (now (a .bytes)) (now (a .ends)) (a .from) (a .packets) (c .before .before .pre .2) (c .before .before .pre .0)
 
-pass-one-requires : tie.Need-pass-one-requires Inv-loop μ-loop
-pass-one-requires c κs = (omega arith, c .before .before .loop .inv .within)
+add-lesser : tie.Need-add-lesser Inv-loop μ-loop
+add-lesser c = omega arith
+
+lesser-requires : tie.Need-lesser-requires Inv-loop μ-loop
+lesser-requires c κs = tt
+
+pass-each-requires : tie.Need-pass-each-requires Inv-loop μ-loop
+pass-each-requires c κs = (omega (arith, c .before .lesser .ensures), omega (arith, c .before .lesser .ensures, c .before .before .before .before .before .before .pre .1), c .before .before .before .loop .inv .within)
 
 returns : tie.Need-returns Inv-loop μ-loop
 returns c =
-    let a = c .before .before .before .before .before .before .before .args in
-    passes-by (now (a .table)) (now (a .kept)) (now (a .bytes)) (now (a .ends)) (a .from) (a .packets) (c .before .before .before .before .loop .inv) (omega arith) false (not-true (c .before .pass-one .result) (c .if1 .taken)) (c .before .pass-one .ensures)
+    let a = c .before .before .before .before .before .before .before .before .args in
+    passes-then (now (a .table)) (now (a .kept)) (now (a .bytes)) (now (a .ends)) (a .from) (a .packets) (c .before .before .before .before .before .loop .inv) (c .before .pass-each .ensures) (omega (arith, c .before .before .before .lesser .ensures))
 
-add-number : tie.Need-add-number Inv-loop μ-loop
-add-number c = omega arith
+pass-run-requires : tie.Need-pass-run-requires Inv-loop μ-loop
+pass-run-requires c κs =
+    (omega (arith, c .before .before .before .before .lesser .ensures, c .before .before .pass-each .ensures .onward), omega (arith, c .before .before .before .before .lesser .ensures, c .before .before .pass-each .ensures .inside), c .before .before .before .before .before .before .before .before .before .pre .1, c .before .before .pass-each .ensures .within)
 
 loop-less : tie.Need-loop-less Inv-loop μ-loop
-loop-less c = omega arith
+loop-less c = omega (arith, c .before .before .before .before .before .lesser .ensures, c .before .before .before .pass-each .ensures .onward, c .pass-run .ensures .onward)
 
 loop-again : tie.Need-loop-again Inv-loop μ-loop
 loop-again c =
-    let a = c .before .before .before .before .before .before .before .args in
-    passes-by (now (a .table)) (now (a .kept)) (now (a .bytes)) (now (a .ends)) (a .from) (a .packets) (c .before .before .before .before .loop .inv) (omega arith) true (not-false (c .before .pass-one .result) (c .if1 .left)) (c .before .pass-one .ensures)
+    let a = c .before .before .before .before .before .before .before .before .before .before .args in
+    passes-then (now (a .table)) (now (a .kept)) (now (a .bytes)) (now (a .ends)) (a .from) (a .packets) (passes-then (now (a .table)) (now (a .kept)) (now (a .bytes)) (now (a .ends)) (a .from) (a .packets) (c .before .before .before .before .before .before .before .loop .inv) (c .before .before .before .pass-each .ensures) (omega (arith, c .before .before .before .before .before .lesser .ensures))) (c .pass-run .ensures) (omega arith)
 
 returns-2 : tie.Need-returns-2 Inv-loop μ-loop
 returns-2 c = c .before .loop .inv
@@ -50,9 +55,11 @@ skip-spec =
     Inv-loop
     μ-loop
     loop-holds
-    pass-one-requires
+    add-lesser
+    lesser-requires
+    pass-each-requires
     returns
-    add-number
+    pass-run-requires
     loop-less
     loop-again
     returns-2)
