@@ -64,7 +64,7 @@ pub record Computed (places : ℕ) (bytes : List ℕ) (target : ℕ) (packets : 
 
 -- ---- a loop that is refused, and one of which a target was asked, as they are computed
 
-refused-read : {reading : Reading} {bytes : List ℕ} {read : LoopRead} {refusal : Refusal} → Loop.Answers reading bytes read → read .outcome ≡ LoopRefused refusal
+pub refused-read : {reading : Reading} {bytes : List ℕ} {read : LoopRead} {refusal : Refusal} → Loop.Answers reading bytes read → read .outcome ≡ LoopRefused refusal
     → Loop.Answers reading bytes (refusedWith refusal)
 refused-read {reading} {bytes} {refusal = refusal} (Loop.too-long h) e =
     let same : LoopTooLong ≡ refusal = cc in
@@ -75,7 +75,7 @@ refused-read {reading} {bytes} {refusal = refusal} (Loop.refuses {refusal = othe
 refused-read (Loop.accepts short cuts none) e = let z : _≡_ {A = ℕ} 0 1 = cc in absurd (omega arith)
 
 module _ (bytes : List ℕ) (target : ℕ) where
-  asked-meant : IsAccepted Edition2015 bytes → Asked bytes target (layersOfLoop bytes) (pidTable bytes) (closureOf (layersOfLoop bytes) target)
+  pub asked-meant : IsAccepted Edition2015 bytes → Asked bytes target (layersOfLoop bytes) (pidTable bytes) (closureOf (layersOfLoop bytes) target)
   asked-meant is-accepted =
       let a = accepts Edition2015 bytes is-accepted in
       record {
@@ -86,12 +86,12 @@ module _ (bytes : List ℕ) (target : ℕ) where
         target-answered = closure-meant (layersOfLoop bytes) target;
       }
 
-  record AskedOnly (layers : Layers) (table : List ℕ) (closure : Closure) : Type 0 where
-    same-layers : layers ≡ layersOfLoop bytes
-    same-table : table ≡ pidTable bytes
-    same-outcome : outcomeAsked bytes target ≡ outcomeOf closure
+  pub record AskedOnly (layers : Layers) (table : List ℕ) (closure : Closure) : Type 0 where
+    pub same-layers : layers ≡ layersOfLoop bytes
+    pub same-table : table ≡ pidTable bytes
+    pub same-outcome : outcomeAsked bytes target ≡ outcomeOf closure
 
-  asked-only : {layers : Layers} {table : List ℕ} {closure : Closure} → Asked bytes target layers table closure → AskedOnly layers table closure
+  pub asked-only : {layers : Layers} {table : List ℕ} {closure : Closure} → Asked bytes target layers table closure → AskedOnly layers table closure
   asked-only {layers} {table} {closure} a =
       let read = answer-only Edition2015 bytes (a .loop-accepted) in
       let same : layers ≡ layersOfLoop bytes =
