@@ -1,0 +1,31 @@
+-- THE UNITS OF A RECORDING, HOWEVER IT IS CUT.
+-- Assumes nothing.
+use Prim.Native.Nat.{ℕ}
+use mathlib.Core.Path.{_≡_}
+use mathlib.Core.List.{List}
+use lib.ListN.{length}
+use Rattle.rows.specs.Table.{Table, table}
+use Rattle.unit_lists.specs.Sequence.{Lists}
+use Rattle.join_answers.specs.Joining.{roomOf}
+use Rattle.recording_rows.specs.Columns.{Columns}
+use Rattle.recording_imports.specs.Rows.{rowsOf}
+use Rattle.recording_imports.specs.Imports.{layersOfLoop, tableOf, placesFor, importOf}
+use Rattle.fed_packets.specs.Feeding.{joinedUp}
+use Rattle.import_summaries.specs.Summaries.{withSummary, ImportReply, importReply}
+use Rattle.thoquenry_units.specs.Units.{unitsCall}
+
+-- the three columns that are joined
+abbrev pub joinedColumns : Columns → Table
+joinedColumns c = table (c .indices) (c .decodings) (c .matches)
+
+-- what one call leaves of all bytes, with work space for `most` rows and columns that held this before it
+abbrev pub wholeReply : ℕ → List ℕ → ℕ → List ℕ → Columns → Lists → List ℕ → ImportReply
+wholeReply most bytes target packets before lists summary =
+    importReply (layersOfLoop bytes) (tableOf (rowsOf bytes packets))
+    (withSummary (length summary) (importOf (placesFor most before) bytes target packets (roomOf lists))) lists summary
+
+-- AS THE WHOLE: for every target, work space, lists and summary, over the columns that were fed
+abbrev pub UnitsAsTheWhole : List ℕ → Columns → List (List ℕ) → List ℕ → List ℕ → Columns → Type 0
+UnitsAsTheWhole bytes before pieces state counts after =
+    (most target : ℕ) (lists : Lists) (summary : List ℕ)
+    → unitsCall most bytes target state counts (joinedColumns after) lists summary ≡ wholeReply most bytes target (joinedUp pieces) before lists summary
