@@ -7,7 +7,8 @@
  *     THQ_VALUE(answer)    the place of the refusal, or what the function says that it counts
  *
  * A refusal is the lowest number that applies, at the earliest place; THQ_NOT_A_CALL comes before all others. After a refusal every
- * output buffer holds what it held; after an accepted call it holds what it held beyond what was written.
+ * output buffer holds what it held (thq_packets_import_long alone leaves rows in its columns, as it says); after an accepted call it holds
+ * what it held beyond what was written.
  *
  * A buffer is a pointer and the number of its elements (not of its bytes). The pointer of a buffer of no elements may be null; no other
  * may. Buffers of one call may not overlap where one of them is written. A call takes up to 56 KB of stack (docs/BENCHMARKS.md in its
@@ -44,8 +45,9 @@ uint64_t thq_version(void);
 #define THQ_2015 2015
 
 /*
- * The refusals, in the words of words/refusals.tsv. {} stands for the place: an entry, a row or a layer index, from 0 on; a refusal without
- * it has place 0. No call gives 10, which older libraries gave for more than 8 embedded layers.
+ * The refusals, in the words of words/refusals.tsv. {} stands for the place: an entry, a row, a packet or a layer index, from 0 on; a refusal
+ * without it has place 0, but 20 to 24 in a recording have the number of the packet. No call gives 10, which older libraries gave for more than
+ * 8 embedded layers.
  */
 enum thq_refusal {
     /* the loop is longer than 1,008 bytes */
@@ -259,6 +261,65 @@ uint64_t thq_import(uint64_t reading, const uint8_t *bytes, size_t bytes_length,
                     size_t indices_length, const uint64_t *decodings, size_t decodings_length, const uint64_t *matches,
                     size_t matches_length, uint64_t *numbers, size_t numbers_length, int64_t *lags, size_t lags_length,
                     uint64_t *sizes, size_t sizes_length, uint64_t *summary, size_t summary_length);
+
+/*
+ * A RECORDING: transport packets of 188 bytes, one right after another, as they were received. Every unit that starts in a packet of a layer's PID is a row; the layers are
+ * those of the loop by the 2015 reading, implied ones and those that the target does not rest on included. Row k, in order of arrival, is what stands at place k of five columns:
+ *
+ *     indices     its layer index
+ *     decodings   its decoding time
+ *     matches     its match time
+ *     trefs       1 where a TREF stood in its PES header, also one that equals the decoding time, and else 0; joining does not read it
+ *     numbers     the number of the packet in which it starts, from 0 on (`packet_numbers` where the units' row numbers stand beside)
+ *
+ * A recording is refused with the lowest of 30 to 33 at its earliest packet; or else with the lowest of 20 to 24 at its earliest packet, which is the place of these too:
+ *
+ *     30         a packet, of whichever PID, that does not begin with 0x47, or a last one of fewer than 188 bytes. The others are judged at every 188th byte all the same
+ *     31         a counter that has not moved by one, modulo 16, from the last packet of the PID, or, on a packet without payload, that has moved; and no discontinuity indicator in the
+ *                packet's own adaptation field, which is then at least one byte long and within the packet. The first packet of a PID has any counter
+ *     32         an adaptation field that runs past its packet, or, where a unit starts and the payload is not scrambled, a PES header (9 bytes and its data) that does
+ *     33         scrambling bits other than 00 on a packet with payload
+ *     20 to 24   the PES header of a unit, as in thq_read_times
+ *
+ * 31 to 33 and 20 to 24 are asked on the PIDs of layers alone. A packet with its error bit set, or with adaptation control 00, is skipped whole: it has no row, and no counter is compared with
+ * its own. So is a packet with payload that repeats the counter and all other bytes of the last one of its PID, the 6 bytes of the PCR aside where both have one: a copy counts once, however often
+ * it comes. A recording of no bytes is accepted.
+ */
+#define THQ_PACKET_BYTES 188
+
+/*
+ * The rows of a recording, of which `packets` is all bytes. The five columns receive them from place 0 on. `starts` is work space: what it holds before is not looked at, and what it holds
+ * after says nothing. Counts the rows.
+ * Refusals: 1 to 9 of the loop `bytes`, at an entry; then 30 to 33 and 20 to 24, at a packet; then 13, at place 0, for more rows than the shortest of `starts` and the columns has places.
+ */
+uint64_t thq_packets_rows(const uint8_t *bytes, size_t bytes_length, const uint8_t *packets, size_t packets_length, uint64_t *starts,
+                          size_t starts_length, uint8_t *indices, size_t indices_length, uint64_t *decodings, size_t decodings_length,
+                          uint64_t *matches, size_t matches_length, uint8_t *trefs, size_t trefs_length, uint64_t *numbers,
+                          size_t numbers_length);
+
+/*
+ * The whole import of a recording: its rows, joined over the layers of the loop `bytes`. The lists, the summary and what is counted are as in thq_import, with the numbers of rows as
+ * thq_packets_rows has them.
+ * Refusals: 1 to 9, at an entry; 11, 12; then 30 to 33 and 20 to 24, at a packet; then 13, at place 0, for more than 512 rows, of whichever layers; then 14 to 18 as in thq_import.
+ */
+uint64_t thq_packets_import(const uint8_t *bytes, size_t bytes_length, uint64_t target, const uint8_t *packets, size_t packets_length,
+                            uint64_t *numbers, size_t numbers_length, int64_t *lags, size_t lags_length, uint64_t *sizes,
+                            size_t sizes_length, uint64_t *summary, size_t summary_length);
+
+/*
+ * The whole import of a recording of any length: the caller lends the columns and the work space, each of which needs a place for every row, and 13 is given at place 0 for more rows than the shortest
+ * of these twelve has. The work space, `order` to `used`, is as in thq_join_long. The columns receive the rows as soon as none of 1 to 13, 20 to 24 and 30 to 33 is given: after 14 to 18,
+ * of which 14 to 16 name a row, they hold them too, and only after a lower number, or one of the packets', what they held. `numbers`, `lags`, `sizes` and `summary` are as in thq_import.
+ * Refusals: as thq_packets_import, but for 13.
+ */
+uint64_t thq_packets_import_long(const uint8_t *bytes, size_t bytes_length, uint64_t target, const uint8_t *packets, size_t packets_length,
+                                 uint8_t *indices, size_t indices_length, uint64_t *decodings, size_t decodings_length, uint64_t *matches,
+                                 size_t matches_length, uint8_t *trefs, size_t trefs_length, uint64_t *packet_numbers,
+                                 size_t packet_numbers_length, size_t *order, size_t order_length, uint64_t *keys, size_t keys_length,
+                                 size_t *kept, size_t kept_length, size_t *places, size_t places_length, size_t *heads,
+                                 size_t heads_length, bool *claimed, size_t claimed_length, bool *used, size_t used_length,
+                                 uint64_t *numbers, size_t numbers_length, int64_t *lags, size_t lags_length, uint64_t *sizes,
+                                 size_t sizes_length, uint64_t *summary, size_t summary_length);
 
 /*
  * An MVC extension descriptor (tag 49, length 8; Table AMD4.1 of the 2009 amendment for MVC): 8 numbers of 16 bits each, 16 bytes, in the machine's byte order, one for each

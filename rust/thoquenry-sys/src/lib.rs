@@ -64,6 +64,9 @@ pub const THQ_IMPLIED: u16 = 3;
 /// The numbers that one entry takes.
 pub const THQ_ENTRY_NUMBERS: usize = 80;
 
+/// The bytes of a transport packet.
+pub const THQ_PACKET_BYTES: usize = 188;
+
 /// The numbers that one MVC extension descriptor takes.
 pub const THQ_MVC_EXTENSION_NUMBERS: usize = 8;
 
@@ -185,6 +188,81 @@ extern "C" {
         decodings_length: usize,
         matches: *const u64,
         matches_length: usize,
+        numbers: *mut u64,
+        numbers_length: usize,
+        lags: *mut i64,
+        lags_length: usize,
+        sizes: *mut u64,
+        sizes_length: usize,
+        summary: *mut u64,
+        summary_length: usize,
+    ) -> u64;
+
+    pub fn thq_packets_rows(
+        bytes: *const u8,
+        bytes_length: usize,
+        packets: *const u8,
+        packets_length: usize,
+        starts: *mut u64,
+        starts_length: usize,
+        indices: *mut u8,
+        indices_length: usize,
+        decodings: *mut u64,
+        decodings_length: usize,
+        matches: *mut u64,
+        matches_length: usize,
+        trefs: *mut u8,
+        trefs_length: usize,
+        numbers: *mut u64,
+        numbers_length: usize,
+    ) -> u64;
+
+    pub fn thq_packets_import(
+        bytes: *const u8,
+        bytes_length: usize,
+        target: u64,
+        packets: *const u8,
+        packets_length: usize,
+        numbers: *mut u64,
+        numbers_length: usize,
+        lags: *mut i64,
+        lags_length: usize,
+        sizes: *mut u64,
+        sizes_length: usize,
+        summary: *mut u64,
+        summary_length: usize,
+    ) -> u64;
+
+    pub fn thq_packets_import_long(
+        bytes: *const u8,
+        bytes_length: usize,
+        target: u64,
+        packets: *const u8,
+        packets_length: usize,
+        indices: *mut u8,
+        indices_length: usize,
+        decodings: *mut u64,
+        decodings_length: usize,
+        matches: *mut u64,
+        matches_length: usize,
+        trefs: *mut u8,
+        trefs_length: usize,
+        packet_numbers: *mut u64,
+        packet_numbers_length: usize,
+        order: *mut usize,
+        order_length: usize,
+        keys: *mut u64,
+        keys_length: usize,
+        kept: *mut usize,
+        kept_length: usize,
+        places: *mut usize,
+        places_length: usize,
+        heads: *mut usize,
+        heads_length: usize,
+        claimed: *mut bool,
+        claimed_length: usize,
+        used: *mut bool,
+        used_length: usize,
         numbers: *mut u64,
         numbers_length: usize,
         lags: *mut i64,
