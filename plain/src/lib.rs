@@ -1,4 +1,4 @@
-//! Document 01 in plain Rust: loops of elementary streams, closures of layers, times of PES headers, rows joined to units.
+//! Document 01 in plain Rust: loops of elementary streams, closures of layers, times of PES headers, rows joined to units, and rows straight from transport packets.
 //!
 //! Written from the document and from nothing else, unproved, and used only in tests and measurements: the proved library is compared
 //! with it on generated inputs and timed against it. It is not part of what is shipped.
@@ -12,6 +12,7 @@ mod entries;
 mod join;
 mod layer_sets;
 mod loops;
+mod packets;
 mod point_lists;
 mod points;
 mod stereo;
@@ -22,6 +23,10 @@ pub use entries::{Embedded, Entry, Extension, Hierarchy, Record};
 pub use join::{import, join, join_by_search, join_long, Columns, Lists, Rows, Units, MOST_ROWS};
 pub use layer_sets::{KeptSet, Layer, LayerSet};
 pub use loops::{read_loop, read_loop_with, write_loop, LONGEST_LOOP};
+pub use packets::{
+    import_packets, recording_rows, scan_recording, Recording, RecordingColumns, RecordingRow,
+    PACKET,
+};
 pub use point_lists::{descriptor_of_lists, PointLists, POINT_NUMBERS};
 pub use points::{
     read_points, write_points, FrameRate, LayerFlags, Point, PointDescriptor, Profile,
@@ -63,7 +68,7 @@ impl Refusal {
 }
 
 /// The faults met so far, of which only the lowest counts.
-#[derive(Default)]
+#[derive(Clone, Copy, Default)]
 pub(crate) struct Faults {
     lowest: Option<Refusal>,
 }
