@@ -117,7 +117,7 @@ enum thq_refusal {
     /* a range of view order index has a least above its greatest, or the two ranges share an index */
     THQ_REFUSED_RANGES_MEET = 46,
 
-    /* the reading is neither THQ_2009 nor THQ_2015, or the buffers hold no layer set */
+    /* the reading is neither THQ_2009 nor THQ_2015, or the buffers hold no layer set, or no recording */
     THQ_NOT_A_CALL = 255
 };
 
@@ -320,6 +320,72 @@ uint64_t thq_packets_import_long(const uint8_t *bytes, size_t bytes_length, uint
                                  size_t heads_length, bool *claimed, size_t claimed_length, bool *used, size_t used_length,
                                  uint64_t *numbers, size_t numbers_length, int64_t *lags, size_t lags_length, uint64_t *sizes,
                                  size_t sizes_length, uint64_t *summary, size_t summary_length);
+
+/*
+ * A RECORDING IN PIECES, of any lengths and cut anywhere: two buffers of fixed length, which the caller owns and the functions below fill, whatever the length of the recording; and the five
+ * columns, into which the rows are laid as they come. `state` is 20,412 bytes: for each of 8,192 PIDs the index of its layer, or 255; then the 188 of the packet that is not whole yet; then
+ * 188 for each layer index, the last packet on its PID. `counts` is 72 numbers:
+ *
+ *     counts[i]     for i below 64: 1 where a last packet on the PID of layer i is kept, and else 0
+ *     counts[64]    the bytes of the packet that is not whole yet, below 188
+ *     counts[65]    the number of whole packets
+ *     counts[66]    the lowest of 30 to 33 so far, and 34 where there is none
+ *     counts[67]    its earliest packet
+ *     counts[68]    the lowest of 20 to 24 so far, and 25 where there is none
+ *     counts[69]    its earliest packet
+ *     counts[70]    the number of rows
+ *     counts[71]    1 where a row found no room, and else 0
+ *
+ * However a recording is cut, thq_packets_told and thq_packets_units answer of it what thq_packets_rows and thq_packets_import_long answer of all its bytes at once, and the columns hold the same
+ * rows. Buffers hold a recording where their lengths are exactly these, counts[0] to counts[63] and counts[71] are 0 or 1, counts[64] is below 188, counts[65] is at most 2^48, counts[66] is from 30 to 34,
+ * counts[68] from 20 to 25, and counts[70] at most counts[65]. Anything else is refused with THQ_NOT_A_CALL, before all other numbers, and nothing is written.
+ */
+#define THQ_PACKETS_STATE 20412
+#define THQ_PACKETS_COUNTS 72
+
+typedef struct thq_recording {
+    uint8_t state[THQ_PACKETS_STATE];
+    uint64_t counts[THQ_PACKETS_COUNTS];
+} thq_recording;
+
+/*
+ * A recording of no bytes yet, over the layers of the loop `bytes`. Whatever the two buffers held is overwritten. Counts the layers.
+ * Refusals: THQ_NOT_A_CALL where a length is not exactly that of a recording; 1 to 9, at an entry.
+ */
+uint64_t thq_packets_start(const uint8_t *bytes, size_t bytes_length, uint8_t *state, size_t state_length, uint64_t *counts,
+                           size_t counts_length);
+
+/*
+ * One piece more. Its rows are laid behind those before, in the same columns, as far as the shortest of them has places: with as many more places as the piece has whole packets, and one, no row finds no
+ * room. Where one does, that is kept in mind, and what the columns hold says nothing from then on. A piece is taken whatever is in it: what is refused of the recording thq_packets_told tells. Counts
+ * the rows of the recording so far, those that found no room included.
+ * Refusals: THQ_NOT_A_CALL where the buffers hold no recording, and for a piece longer than 2^48 bytes.
+ */
+uint64_t thq_packets_feed(const uint8_t *piece, size_t piece_length, uint8_t *state, size_t state_length, uint64_t *counts,
+                          size_t counts_length, uint8_t *indices, size_t indices_length, uint64_t *decodings, size_t decodings_length,
+                          uint64_t *matches, size_t matches_length, uint8_t *trefs, size_t trefs_length, uint64_t *numbers,
+                          size_t numbers_length);
+
+/*
+ * What is told of a recording that ends here. Nothing is written, so that it can be asked at any time, and more pieces may follow. Counts the rows.
+ * Refusals: THQ_NOT_A_CALL where the buffers hold no recording; then 30 to 33, 30 also where the last packet is not whole, and 20 to 24, at a packet; then 13, at place 0, where a row found no room.
+ */
+uint64_t thq_packets_told(const uint8_t *state, size_t state_length, const uint64_t *counts, size_t counts_length);
+
+/*
+ * The rows of a recording that ends here, joined over the layers of the loop `bytes`, which is that of thq_packets_start. The columns are those that the pieces filled, and may be longer than there are rows. The work space,
+ * `order` to `used`, is as in thq_join_long, with a place for every row, and the lists, the summary and what is counted as in thq_import. It can be asked at any time, of several targets.
+ * Refusals: THQ_NOT_A_CALL where the buffers hold no recording; then 1 to 9, at an entry; 11, 12; then as thq_packets_told; 13, at place 0, also for more rows than the shortest of the columns and of the work space
+ * has places; then 14 to 18 as in thq_import.
+ */
+uint64_t thq_packets_units(const uint8_t *bytes, size_t bytes_length, uint64_t target, const uint8_t *state, size_t state_length,
+                           const uint64_t *counts, size_t counts_length, const uint8_t *indices, size_t indices_length,
+                           const uint64_t *decodings, size_t decodings_length, const uint64_t *matches, size_t matches_length,
+                           size_t *order, size_t order_length, uint64_t *keys, size_t keys_length, size_t *kept, size_t kept_length,
+                           size_t *places, size_t places_length, size_t *heads, size_t heads_length, bool *claimed,
+                           size_t claimed_length, bool *used, size_t used_length, uint64_t *numbers, size_t numbers_length,
+                           int64_t *lags, size_t lags_length, uint64_t *sizes, size_t sizes_length, uint64_t *summary,
+                           size_t summary_length);
 
 /*
  * An MVC extension descriptor (tag 49, length 8; Table AMD4.1 of the 2009 amendment for MVC): 8 numbers of 16 bits each, 16 bytes, in the machine's byte order, one for each

@@ -52,7 +52,7 @@ pub const THQ_REFUSED_NOT_STEREO_SET: u64 = 44;
 pub const THQ_REFUSED_WRONG_MVC_EXTENSION: u64 = 45;
 pub const THQ_REFUSED_RANGES_MEET: u64 = 46;
 
-/// The number of the refusal of a reading that is neither, and of buffers that hold no layer set.
+/// The number of the refusal of a reading that is neither, and of buffers that hold no layer set, or no recording.
 pub const THQ_NOT_A_CALL: u64 = 255;
 
 /// What number 2 of an entry says.
@@ -66,6 +66,10 @@ pub const THQ_ENTRY_NUMBERS: usize = 80;
 
 /// The bytes of a transport packet.
 pub const THQ_PACKET_BYTES: usize = 188;
+
+/// The bytes and the numbers of the two buffers of a recording in pieces.
+pub const THQ_PACKETS_STATE: usize = 20412;
+pub const THQ_PACKETS_COUNTS: usize = 72;
 
 /// The numbers that one MVC extension descriptor takes.
 pub const THQ_MVC_EXTENSION_NUMBERS: usize = 8;
@@ -249,6 +253,79 @@ extern "C" {
         trefs_length: usize,
         packet_numbers: *mut u64,
         packet_numbers_length: usize,
+        order: *mut usize,
+        order_length: usize,
+        keys: *mut u64,
+        keys_length: usize,
+        kept: *mut usize,
+        kept_length: usize,
+        places: *mut usize,
+        places_length: usize,
+        heads: *mut usize,
+        heads_length: usize,
+        claimed: *mut bool,
+        claimed_length: usize,
+        used: *mut bool,
+        used_length: usize,
+        numbers: *mut u64,
+        numbers_length: usize,
+        lags: *mut i64,
+        lags_length: usize,
+        sizes: *mut u64,
+        sizes_length: usize,
+        summary: *mut u64,
+        summary_length: usize,
+    ) -> u64;
+
+    pub fn thq_packets_start(
+        bytes: *const u8,
+        bytes_length: usize,
+        state: *mut u8,
+        state_length: usize,
+        counts: *mut u64,
+        counts_length: usize,
+    ) -> u64;
+
+    pub fn thq_packets_feed(
+        piece: *const u8,
+        piece_length: usize,
+        state: *mut u8,
+        state_length: usize,
+        counts: *mut u64,
+        counts_length: usize,
+        indices: *mut u8,
+        indices_length: usize,
+        decodings: *mut u64,
+        decodings_length: usize,
+        matches: *mut u64,
+        matches_length: usize,
+        trefs: *mut u8,
+        trefs_length: usize,
+        numbers: *mut u64,
+        numbers_length: usize,
+    ) -> u64;
+
+    pub fn thq_packets_told(
+        state: *const u8,
+        state_length: usize,
+        counts: *const u64,
+        counts_length: usize,
+    ) -> u64;
+
+    pub fn thq_packets_units(
+        bytes: *const u8,
+        bytes_length: usize,
+        target: u64,
+        state: *const u8,
+        state_length: usize,
+        counts: *const u64,
+        counts_length: usize,
+        indices: *const u8,
+        indices_length: usize,
+        decodings: *const u64,
+        decodings_length: usize,
+        matches: *const u64,
+        matches_length: usize,
         order: *mut usize,
         order_length: usize,
         keys: *mut u64,
