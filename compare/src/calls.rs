@@ -581,7 +581,7 @@ impl Joined {
 }
 
 /// Work space, filled with what no table has.
-struct Space {
+pub struct Space {
     order: Vec<usize>,
     keys: Vec<u64>,
     kept: Vec<usize>,
@@ -592,7 +592,7 @@ struct Space {
 }
 
 impl Space {
-    fn of([order, keys, kept, places, heads, claimed, used]: Work) -> Space {
+    pub fn of([order, keys, kept, places, heads, claimed, used]: Work) -> Space {
         Space {
             order: vec![usize::MAX; order],
             keys: vec![u64::MAX; keys],
@@ -604,7 +604,7 @@ impl Space {
         }
     }
 
-    fn place(&self, memory: &mut Memory) -> PlacedSpace {
+    pub fn place(&self, memory: &mut Memory) -> PlacedSpace {
         PlacedSpace {
             order: memory.place(&self.order),
             keys: memory.place(&self.keys),
@@ -618,18 +618,18 @@ impl Space {
 }
 
 /// The same, placed.
-struct PlacedSpace {
-    order: crate::memory::Placed<usize>,
-    keys: crate::memory::Placed<u64>,
-    kept: crate::memory::Placed<usize>,
-    places: crate::memory::Placed<usize>,
-    heads: crate::memory::Placed<usize>,
-    claimed: crate::memory::Placed<bool>,
-    used: crate::memory::Placed<bool>,
+pub struct PlacedSpace {
+    pub order: crate::memory::Placed<usize>,
+    pub keys: crate::memory::Placed<u64>,
+    pub kept: crate::memory::Placed<usize>,
+    pub places: crate::memory::Placed<usize>,
+    pub heads: crate::memory::Placed<usize>,
+    pub claimed: crate::memory::Placed<bool>,
+    pub used: crate::memory::Placed<bool>,
 }
 
 impl PlacedSpace {
-    fn take_back(&self, space: &mut Space) -> bool {
+    pub fn take_back(&self, space: &mut Space) -> bool {
         self.order.take_back(&mut space.order)
             & self.keys.take_back(&mut space.keys)
             & self.kept.take_back(&mut space.kept)

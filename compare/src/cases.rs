@@ -184,7 +184,7 @@ fn layers_of(reading: u64, bytes: &[u8]) -> Layers {
 }
 
 /// The output lists of joining: mostly long enough, now and then one of them short.
-fn lists(random: &mut Random, layers: &Layers, target: u64, rows: &Columns) -> Lists {
+pub fn lists(random: &mut Random, layers: &Layers, target: u64, rows: &Columns) -> Lists {
     let count = rows.indices.len();
     let (mut numbers, mut lags, mut sizes) = (vec![0; count], vec![0; count], vec![0; count]);
     let room = plain::Lists {

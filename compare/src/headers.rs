@@ -74,7 +74,7 @@ fn back(time: u64, distance: u64) -> u64 {
 }
 
 /// Five bytes of a time.
-fn field(prefix: u8, time: u64) -> [u8; 5] {
+pub fn field(prefix: u8, time: u64) -> [u8; 5] {
     let bits = u64::from(prefix) << 36
         | (time >> 30 & 7) << 33
         | (time >> 15 & 0x7FFF) << 17

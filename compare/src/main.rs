@@ -1,7 +1,7 @@
 //! Compares the library with the plain implementation of document 01 on generated inputs: answers, and every buffer in full.
 //!
-//!     compare [--guarded] [SEED COUNT]    makes COUNT calls, and sequences of changes of layer sets beside them, and prints how often each number
-//!                                         was answered
+//!     compare [--guarded] [SEED COUNT]    makes COUNT calls, and sequences of changes of layer sets and recordings of transport packets beside
+//!                                         them, and prints how often each number was answered
 //!     compare --long ROWS                 joins one table of about so many rows
 //!     compare --show SEED CASE            prints one case and what the plain implementation answers, without calling the library
 //!
@@ -15,8 +15,10 @@ mod headers;
 mod long;
 mod loops;
 mod memory;
+mod packets;
 mod points;
 mod random;
+mod recordings;
 mod sets;
 mod show;
 mod stereo;
@@ -31,6 +33,10 @@ use std::process::ExitCode;
 const SEED: u64 = 1;
 /// Of each call 20,000.
 const COUNT: u64 = 20_000 * CALLS.len() as u64;
+
+/// For so many calls one recording, of some twenty calls itself; and as many at least as see every number.
+const RECORDINGS: u64 = 12;
+const LEAST_RECORDINGS: u64 = 5_000;
 
 /// The calls that read or write a loop.
 const CALLS_OF_LOOPS: [&str; 7] = [
@@ -55,6 +61,7 @@ struct Seen {
     pairs: [u64; CALLS.len()],
     points: points::Met,
     sets: sets::Seen,
+    packets: packets::Seen,
 }
 
 fn main() -> ExitCode {
@@ -79,6 +86,10 @@ fn main() -> ExitCode {
             return ExitCode::from(2);
         }
     };
+    if show_one && count >= packets::FIRST {
+        print!("{}", packets::show(seed, count));
+        return ExitCode::SUCCESS;
+    }
     if show_one && count >= sets::FIRST {
         print!("{}", sets::show(seed, count));
         return ExitCode::SUCCESS;
@@ -118,6 +129,7 @@ fn run(seed: u64, count: u64, guarded: bool) -> Result<Seen, String> {
     if guarded {
         faults::catch();
     }
+    let recordings = (count / RECORDINGS).max(LEAST_RECORDINGS);
     let mut seen = Seen {
         numbers: [[0; 256]; CALLS.len()],
         qualities: [[0; Quality::NAMES.len()]; CALLS.len()],
@@ -125,6 +137,7 @@ fn run(seed: u64, count: u64, guarded: bool) -> Result<Seen, String> {
         pairs: [0; CALLS.len()],
         points: points::Met::default(),
         sets: sets::run(seed, count / 3, guarded, &mut memory)?,
+        packets: packets::run(seed, recordings, guarded, &mut memory)?,
     };
     for number in 0..count {
         faults::note(seed, number);
@@ -264,11 +277,17 @@ fn summary(seed: u64, count: u64, seen: &Seen) -> ExitCode {
         ..
     } = seen.sets;
     println!("sets: {steps} steps in {sequences} sequences; damaged buffers: {no_sets} held no set, {other_sets} another; one of two views alone after {lone_views} removals");
+    println!();
+    never.extend(answered(&packets::CALLS, &seen.packets.numbers));
+    let (words, missing) = seen.packets.told();
+    let recordings = seen.packets.recordings;
+    println!("recordings: {recordings}, {words}");
+    never.extend(missing);
     for one in &never {
         println!("compare: {one}");
     }
     if never.is_empty() {
-        println!("compare: {count} calls of seed {seed} and {steps} steps of layer sets, library and plain implementation agree in every answer and buffer");
+        println!("compare: {count} calls of seed {seed} and {steps} steps of layer sets and {recordings} recordings, library and plain implementation agree in every answer and buffer");
         ExitCode::SUCCESS
     } else {
         ExitCode::FAILURE

@@ -8,7 +8,7 @@ const REGION: usize = 1 << 18;
 /// As much as any machine's page.
 const GUARD: usize = 1 << 16;
 /// The most buffers of one call.
-const REGIONS: usize = 16;
+const REGIONS: usize = 20;
 /// The bytes before and after a buffer that are looked at again after the call.
 const MARGIN: usize = 64;
 const MARK: u8 = 0xA5;

@@ -336,6 +336,31 @@ impl Recording {
         }
     }
 
+    /// The layer of a PID.
+    pub fn layer(&self, pid: usize) -> Option<u8> {
+        Some(self.layers[pid]).filter(|&index| index != NO_LAYER)
+    }
+
+    /// The bytes of the packet that isn't whole yet.
+    pub fn carried(&self) -> &[u8] {
+        &self.carried
+    }
+
+    /// The number of whole packets.
+    pub fn packets(&self) -> usize {
+        self.packets
+    }
+
+    /// The last packet of a layer.
+    pub fn last(&self, index: usize) -> Option<&[u8; PACKET]> {
+        self.last[index].as_ref()
+    }
+
+    /// The lowest of 30 to 33 in whole packets at its earliest, and the lowest of 20 to 24.
+    pub fn faults(&self) -> [Option<Refusal>; 2] {
+        [self.faults.none().err(), self.header_faults.none().err()]
+    }
+
     /// The rows that have come so far, whatever else was found.
     pub fn rows(&self) -> &[RecordingRow] {
         &self.rows
