@@ -74,11 +74,8 @@ pub fn run(count: usize) -> Result<String, String> {
 
     let (mut order, mut kept) = (vec![0_usize; length], vec![0_usize; length]);
     let (mut places, mut heads) = (vec![0_usize; length], vec![0_usize; length]);
-    let (mut keys, mut claimed, mut used) = (
-        vec![0_u64; length],
-        vec![false; length],
-        vec![false; length],
-    );
+    let (mut keys, mut claimed, mut used) =
+        (vec![0_u64; length], vec![false; length], vec![false; length]);
     let (mut own_numbers, mut own_lags) = (vec![7_u64; length], vec![7_i64; length]);
     let (mut own_sizes, mut summary) = (vec![7_u64; length], [0_u64; 2]);
     // SAFETY: each pointer is of a list with the length beside it, and no two overlap.
