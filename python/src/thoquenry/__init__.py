@@ -8,7 +8,7 @@ this module stands in; or else the one that is installed. It is for x86-64 Linux
 """
 
 from array import array
-from ctypes import c_bool, c_int64, c_size_t, c_uint8, c_uint16, c_uint32, c_uint64
+from ctypes import c_bool, c_int64, c_size_t, c_uint8, c_uint16, c_uint32, c_uint64, memset, sizeof
 from dataclasses import astuple, dataclass, field
 from enum import IntEnum
 from itertools import chain, islice
@@ -17,13 +17,13 @@ from struct import Struct
 from typing import Iterable, Iterator, List, Mapping, Optional, Tuple, Union
 
 from ._library import load
-from ._refusals import Number, Refused
+from ._refusals import Number, Refused, RefusedHeader
 
 __all__ = [
     "Component", "Entry", "Extension", "FrameRate", "FrameRateKind", "Header", "Hierarchy", "Implied", "Layer", "LayerSet", "MvcExtension", "Number", "Point",
-    "PointDescriptor", "PointLayer", "PointStreams", "ProgramPoints", "Reading", "Reference", "Refused", "Row", "StereoSet", "Times", "Units",
-    "closure", "import_", "join", "join_long", "read_loop", "read_points", "read_stereo", "read_times", "write_loop", "write_points", "write_stereo",
-    "write_times",
+    "PointDescriptor", "PointLayer", "PointStreams", "ProgramPoints", "Reading", "RecordedRow", "Reference", "Refused", "RefusedHeader", "Row", "StereoSet", "Times",
+    "Units", "closure", "import_", "join", "join_long", "packets_import", "packets_import_long", "packets_rows", "read_loop", "read_points", "read_stereo",
+    "read_times", "write_loop", "write_points", "write_stereo", "write_times",
 ]
 __version__ = "0.5.0"
 
@@ -68,6 +68,11 @@ _SET_STORED = 3 * _INDICES
 
 # The most rows that a table has. Each row stands in one unit at most, so the lists of its units need no more places.
 _ROWS = 512
+
+# The bytes of a transport packet; in how many packets seldom more than one unit starts; and what is the number of none.
+_PACKET_BYTES = 188
+_PACKETS_OF_A_ROW = 32
+_NO_PACKET = 2**64 - 1
 
 
 class Reading(IntEnum):
@@ -269,6 +274,15 @@ class Row:
 
 
 @dataclass(frozen=True)
+class RecordedRow(Row):
+    """A row of a recording, a unit that starts in a packet of a layer's PID: also whether a TREF stood in its PES header, even one that equals the decoding
+    time, which joining does not ask; and the number of the packet, from 0."""
+
+    tref_sent: bool
+    packet: int
+
+
+@dataclass(frozen=True)
 class Component:
     """One row that stands in a unit: its number in the table, from 0, and its lag, the decoding time minus the target row's, modulo
     2^33, from -2^32 to 2^32-1."""
@@ -323,6 +337,13 @@ def _head(data: bytes, most: int):
     return data, len(data)
 
 
+def _all(data: bytes):
+    """All bytes of any bytes-like object, and how many they are. A bytes object is not copied."""
+    if type(data) is not bytes:
+        data = memoryview(data).tobytes()
+    return data, len(data)
+
+
 def _loop(loop: bytes):
     """A loop's bytes. One that is too long is refused for its length, so one byte more than the most is enough to know."""
     return _head(loop, _LOOP_BYTES + 1)
@@ -334,6 +355,14 @@ def _accepted(answer: int) -> int:
     if number != 0:
         raise Refused(number, answer // 256)
     return answer // 256
+
+
+def _recorded(answer: int) -> int:
+    """What an accepted call counts, of a recording, where 20 to 24 have a place too."""
+    number = answer % 256
+    if Number.NOT_VIDEO_HEADER <= number <= Number.PTS_BEFORE_DTS:
+        raise RefusedHeader(number, answer // 256)
+    return _accepted(answer)
 
 
 def _indices(members: int) -> Tuple[int, ...]:
@@ -544,9 +573,13 @@ def join(layers: Mapping[int, Iterable[int]], target: int, rows: Iterable[Row]) 
 def join_long(layers: Mapping[int, Iterable[int]], target: int, rows: Iterable[Row]) -> Units:
     """Joins rows to units as `join` does, of a table of any length. Refusals: 11, 12; then 13 to 16, 18."""
     table = list(rows)
+    return _joined(_LIBRARY.thq_join_long, (*_layers(layers), _number(target, 64)), table, _work(len(table)))
+
+
+def _work(rows: int) -> list:
+    """The work space of a long join, for so many rows."""
     kinds = (c_size_t, c_uint64, c_size_t, c_size_t, c_size_t, c_bool, c_bool)
-    work = [part for kind in kinds for part in _room(kind, len(table))]
-    return _joined(_LIBRARY.thq_join_long, (*_layers(layers), _number(target, 64)), table, work)
+    return [part for kind in kinds for part in _room(kind, rows)]
 
 
 def _layers(layers: Mapping[int, Iterable[int]]):
@@ -567,14 +600,91 @@ def _joined(function, first: tuple, table: List[Row], work: Iterable = ()) -> Un
         *_column("Q", c_uint64, [row.decoding for row in table]),
         *_column("Q", c_uint64, [row.matching for row in table]),
     )
-    numbers, room = _room(c_uint64, len(table))
-    lags, _ = _room(c_int64, room)
-    sizes, _ = _room(c_uint64, room)
-    summary, summary_room = _room(c_uint64, 2)
-    count = _accepted(function(*first, *columns, *work, numbers, room, lags, room, sizes, room, summary, summary_room))
-    members, units = summary
-    components = (Component(row, lag) for row, lag in zip(numbers[:count], lags[:count]))
-    return Units(_indices(members), [list(islice(components, size)) for size in sizes[:units]])
+    lists = _Lists(len(table))
+    return lists.units(_accepted(function(*first, *columns, *work, *lists.parameters())))
+
+
+class _Lists:
+    """What a join fills: lists for the units of so many rows."""
+
+    def __init__(self, rows: int) -> None:
+        self._rooms = [_room(c_uint64, rows), _room(c_int64, rows), _room(c_uint64, rows), _room(c_uint64, 2)]
+
+    def parameters(self) -> Iterator:
+        return chain.from_iterable(self._rooms)
+
+    def units(self, count: int) -> Units:
+        """The units, of so many rows, that a join has filled the lists with."""
+        (numbers, _), (lags, _), (sizes, _), (summary, _) = self._rooms
+        members, units = summary
+        components = (Component(row, lag) for row, lag in zip(numbers[:count], lags[:count]))
+        return Units(_indices(members), [list(islice(components, size)) for size in sizes[:units]])
+
+
+class _Columns:
+    """The columns of a recording's rows."""
+
+    def __init__(self, room: int) -> None:
+        self._lists = [_room(kind, room) for kind in (c_uint8, c_uint64, c_uint64, c_uint8, c_uint64)]
+
+    def parameters(self) -> Iterator:
+        return chain.from_iterable(self._lists)
+
+    def rows(self, first: int, end: int) -> List[RecordedRow]:
+        """The rows from one place to another."""
+        indices, decodings, matches, trefs, numbers = (column[first:end] for column, _ in self._lists)
+        return list(map(RecordedRow, indices, decodings, matches, map(bool, trefs), numbers))
+
+    def unwritten(self) -> None:
+        """Makes it known that no row is written yet."""
+        numbers, _ = self._lists[-1]
+        memset(numbers, 0xFF, sizeof(numbers))
+
+    def written(self) -> int:
+        """How many rows were written into columns that were unwritten."""
+        numbers, _ = self._lists[-1]
+        return [*numbers, _NO_PACKET].index(_NO_PACKET)
+
+
+def _rooms(length: int) -> Tuple[int, ...]:
+    """For how many rows there is to be room, of a recording of so many bytes: no packet starts two units, and few of them one, so that less is tried before."""
+    most = length // _PACKET_BYTES
+    less = most // _PACKETS_OF_A_ROW + _ROWS
+    return (less, most) if less < most else (most,)
+
+
+def packets_rows(loop: bytes, packets: bytes) -> List[RecordedRow]:
+    """The rows of a recording, all its bytes at once, by the layers of a loop in the 2015 reading: every unit that starts on a layer's PID, in order of arrival. Refusals: 1 to 9 of
+    the loop; then 30 to 33, and 20 to 24, at a packet."""
+    given, length = _all(packets)
+    for room in _rooms(length):
+        columns = _Columns(room)
+        answer = _LIBRARY.thq_packets_rows(*_loop(loop), given, length, *_room(c_uint64, room), *columns.parameters())
+        if answer != Number.OUT_OF_RANGE:
+            break
+    return columns.rows(0, _recorded(answer))
+
+
+def packets_import(loop: bytes, target: int, packets: bytes) -> Units:
+    """The whole import of a recording of up to 512 rows: its rows joined over the layers of a loop, in the 2015 reading. Refusals: 1 to 9, 11, 12; then 30 to 33, and 20 to 24, at a
+    packet; then 13 for more rows; then 14 to 16, 18."""
+    lists = _Lists(_ROWS)
+    return lists.units(_recorded(_LIBRARY.thq_packets_import(*_loop(loop), _number(target, 64), *_all(packets), *lists.parameters())))
+
+
+def packets_import_long(loop: bytes, target: int, packets: bytes) -> Tuple[List[RecordedRow], Units]:
+    """The whole import of a recording of any length: its rows, and the units that they are joined to. Refusals: as packets_import, but for 13. The row that 14 to 16 name is the one of
+    that number among packets_rows."""
+    given, length = _all(packets)
+    for room in _rooms(length):
+        columns, lists = _Columns(room), _Lists(room)
+        columns.unwritten()
+        answer = _LIBRARY.thq_packets_import_long(
+            *_loop(loop), _number(target, 64), given, length, *columns.parameters(), *_work(room), *lists.parameters())
+        if answer != Number.OUT_OF_RANGE:
+            break
+    units = lists.units(_recorded(answer))
+    return columns.rows(0, columns.written()), units
 
 
 @dataclass(frozen=True)

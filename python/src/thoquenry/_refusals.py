@@ -50,8 +50,8 @@ def _words():
 
 
 class Refused(Exception):
-    """A call is refused: the lowest number that applies, at the earliest place, which is an entry, a row or a layer index, or 0. It prints as its
-    number and words: '15: row 3, the head of a unit, has no assembly'."""
+    """A call is refused: the lowest number that applies, at the earliest place, which is an entry, a row, a packet or a layer index, or 0. It prints
+    as its number and words: '15: row 3, the head of a unit, has no assembly'."""
 
     def __init__(self, number: int, place: int):
         super().__init__(number, place)
@@ -65,3 +65,12 @@ class Refused(Exception):
 
     def __str__(self) -> str:
         return f"{self.number.value}: {self.words}"
+
+
+class RefusedHeader(Refused):
+    """A recording is refused for a PES header, with one of 20 to 24: the place is the packet in which it stands. It prints with that packet: '24: packet 8: PTS lies
+    before DTS'."""
+
+    @property
+    def words(self) -> str:
+        return f"packet {self.place}: {super().words}"

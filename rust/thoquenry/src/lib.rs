@@ -17,6 +17,7 @@
 mod entry;
 mod layer_set;
 mod layers;
+mod packets;
 mod points;
 mod refusal;
 mod stereo;
@@ -24,6 +25,9 @@ mod stereo;
 pub use entry::{Channel, Entry, NuhLayerId, Record, TemporalId};
 pub use layer_set::{Layer, LayerSet};
 pub use layers::{LayerIndex, LayerIndices, Layers};
+pub use packets::{
+    packets_import, packets_import_long, packets_rows, RecordedRow, RecordingRefusal,
+};
 pub use points::{
     read_points, write_points, FrameRate, Point, PointDescriptor, PointLayer, PointStreams,
     Profile, ProgramPoints, Reference,
@@ -263,10 +267,7 @@ pub fn join(layers: &Layers, target: LayerIndex, rows: &[Row]) -> Result<Units, 
 pub fn join_long(layers: &Layers, target: LayerIndex, rows: &[Row]) -> Result<Units, Refusal> {
     let embedded = layers.embedded.map(|set| set.0);
     let count = rows.len();
-    let mut keys = vec![0; count];
-    let (mut order, mut kept) = (vec![0; count], vec![0; count]);
-    let (mut places, mut heads) = (vec![0; count], vec![0; count]);
-    let (mut claimed, mut used) = (vec![false; count], vec![false; count]);
+    let mut work = WorkSpace::of(count);
     joined(rows, count, |table, lists| {
         // SAFETY: pointer and length of each buffer belong together; the work space is this call's own, and the lists are `joined`'s.
         unsafe {
@@ -281,20 +282,20 @@ pub fn join_long(layers: &Layers, target: LayerIndex, rows: &[Row]) -> Result<Un
                 table.decodings.len(),
                 table.matches.as_ptr(),
                 table.matches.len(),
-                order.as_mut_ptr(),
-                order.len(),
-                keys.as_mut_ptr(),
-                keys.len(),
-                kept.as_mut_ptr(),
-                kept.len(),
-                places.as_mut_ptr(),
-                places.len(),
-                heads.as_mut_ptr(),
-                heads.len(),
-                claimed.as_mut_ptr(),
-                claimed.len(),
-                used.as_mut_ptr(),
-                used.len(),
+                work.order.as_mut_ptr(),
+                work.order.len(),
+                work.keys.as_mut_ptr(),
+                work.keys.len(),
+                work.kept.as_mut_ptr(),
+                work.kept.len(),
+                work.places.as_mut_ptr(),
+                work.places.len(),
+                work.heads.as_mut_ptr(),
+                work.heads.len(),
+                work.claimed.as_mut_ptr(),
+                work.claimed.len(),
+                work.used.as_mut_ptr(),
+                work.used.len(),
                 lists.numbers.as_mut_ptr(),
                 lists.numbers.len(),
                 lists.lags.as_mut_ptr(),
@@ -349,12 +350,67 @@ struct Table {
     matches: Vec<u64>,
 }
 
+/// The work space of a long join.
+struct WorkSpace {
+    order: Vec<usize>,
+    keys: Vec<u64>,
+    kept: Vec<usize>,
+    places: Vec<usize>,
+    heads: Vec<usize>,
+    claimed: Vec<bool>,
+    used: Vec<bool>,
+}
+
+impl WorkSpace {
+    /// Work space for so many rows.
+    fn of(rows: usize) -> WorkSpace {
+        WorkSpace {
+            order: vec![0; rows],
+            keys: vec![0; rows],
+            kept: vec![0; rows],
+            places: vec![0; rows],
+            heads: vec![0; rows],
+            claimed: vec![false; rows],
+            used: vec![false; rows],
+        }
+    }
+}
+
 /// What a join fills.
 struct Lists {
     numbers: Vec<u64>,
     lags: Vec<i64>,
     sizes: Vec<u64>,
     summary: [u64; 2],
+}
+
+impl Lists {
+    /// Lists for the units of so many rows.
+    fn of(rows: usize) -> Lists {
+        Lists {
+            numbers: vec![0; rows],
+            lags: vec![0; rows],
+            sizes: vec![0; rows],
+            summary: [0; 2],
+        }
+    }
+
+    /// The units, of so many rows, that a join has filled the lists with.
+    fn units(&self, count: usize) -> Units {
+        let [closure, units] = self.summary;
+        let numbers = self.numbers[..count].iter();
+        let mut components = numbers.zip(&self.lags).map(|(&row, &lag)| Component {
+            row: row as usize,
+            lag,
+        });
+        Units {
+            closure: LayerIndices(closure),
+            units: self.sizes[..units as usize]
+                .iter()
+                .map(|&size| components.by_ref().take(size as usize).collect())
+                .collect(),
+        }
+    }
 }
 
 /// The units that a call fills the lists with, over these rows, of which it takes so many at the most.
@@ -368,29 +424,9 @@ fn joined(
         decodings: rows.iter().map(|row| row.decoding).collect(),
         matches: rows.iter().map(|row| row.matching).collect(),
     };
-    let room = rows.len().min(most);
-    let mut lists = Lists {
-        numbers: vec![0; room],
-        lags: vec![0; room],
-        sizes: vec![0; room],
-        summary: [0; 2],
-    };
+    let mut lists = Lists::of(rows.len().min(most));
     let count = accepted(call(&table, &mut lists))?;
-    let [closure, units] = lists.summary;
-    let mut components = lists.numbers[..count]
-        .iter()
-        .zip(&lists.lags)
-        .map(|(&row, &lag)| Component {
-            row: row as usize,
-            lag,
-        });
-    Ok(Units {
-        closure: LayerIndices(closure),
-        units: lists.sizes[..units as usize]
-            .iter()
-            .map(|&size| components.by_ref().take(size as usize).collect())
-            .collect(),
-    })
+    Ok(lists.units(count))
 }
 
 /// The code of docs/USING.md is run as documentation.
