@@ -3,6 +3,8 @@
 //!     compare [--guarded] [SEED COUNT]    makes COUNT calls, and sequences of changes of layer sets and recordings of transport packets beside
 //!                                         them, and prints how often each number was answered
 //!     compare --long ROWS                 joins one table of about so many rows
+//!     compare --recording LOOP FILE [TARGET]
+//!                                         reads a recording, whole and in pieces, and prints its rows or the units of a target
 //!     compare --show SEED CASE            prints one case and what the plain implementation answers, without calling the library
 //!
 //! It ends with status 1 at the first difference, which it prints with the whole input, and where a number that a call can answer was
@@ -18,6 +20,7 @@ mod memory;
 mod packets;
 mod points;
 mod random;
+mod recorded;
 mod recordings;
 mod sets;
 mod show;
@@ -71,6 +74,9 @@ fn main() -> ExitCode {
         words.retain(|other| other != word);
         words.len() < before
     };
+    if has("--recording", &mut words) {
+        return recording(&words);
+    }
     let guarded = has("--guarded", &mut words);
     let show_one = has("--show", &mut words);
     let long_table = has("--long", &mut words);
@@ -82,7 +88,7 @@ fn main() -> ExitCode {
         Some([]) if !show_one => (SEED, COUNT),
         Some(&[seed, count]) => (seed, count),
         _ => {
-            eprintln!("compare [--guarded] [SEED COUNT], compare --long ROWS, or compare --show SEED CASE");
+            eprintln!("compare [--guarded] [SEED COUNT], compare --long ROWS, compare --recording LOOP FILE [TARGET], or compare --show SEED CASE");
             return ExitCode::from(2);
         }
     };
@@ -105,6 +111,32 @@ fn main() -> ExitCode {
         Err(difference) => {
             println!("{difference}");
             ExitCode::FAILURE
+        }
+    }
+}
+
+/// A recording from a file: a loop's file, the recording's, and maybe a target.
+fn recording(words: &[String]) -> ExitCode {
+    let target = words.get(2).map(|word| word.parse::<u64>());
+    let files = words
+        .get(..2)
+        .map(|files| [std::fs::read(&files[0]), std::fs::read(&files[1])]);
+    match (files, target.transpose()) {
+        (Some([Ok(bytes), Ok(packets)]), Ok(target)) => {
+            match recorded::run(&bytes, &packets, target) {
+                Ok(lines) => {
+                    print!("{lines}");
+                    ExitCode::SUCCESS
+                }
+                Err(difference) => {
+                    println!("{difference}");
+                    ExitCode::FAILURE
+                }
+            }
+        }
+        _ => {
+            eprintln!("compare --recording LOOP FILE [TARGET]: a file cannot be read, or the target is no number");
+            ExitCode::from(2)
         }
     }
 }
