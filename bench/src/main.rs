@@ -6,6 +6,8 @@
 //!                                   line; `profile`, lines of side (from 1), instructions and function; and perhaps `baseline`, an earlier
 //!                                   run's file of that name. The file `now` is written there, to be a baseline later. Times are taken where
 //!                                   they are asked for.
+//!     bench --recordings LOOP UNITS FILE..
+//!                                   prints the tables of long recordings in Markdown: what scans take, and the program UNITS over LOOP
 //!
 //! Which measure it is at it tells on standard error. `bench/run` builds it and the library, runs it and writes docs/BENCHMARKS.md.
 
@@ -15,7 +17,9 @@
 mod clock;
 mod inputs;
 mod measures;
+mod packets;
 mod points;
+mod recordings;
 mod sets;
 mod stack;
 mod stereo;
@@ -34,8 +38,11 @@ pub extern "C" fn main(_words: i32, _word: *const *const u8) -> i32 {
         ["--count"] => count(&mut measures::all()),
         ["--tables", folder] => print(Path::new(folder), false),
         ["--tables", folder, "--times"] => print(Path::new(folder), true),
+        ["--recordings", loop_file, units, files @ ..] if !files.is_empty() => {
+            recordings::print(loop_file, units, files)
+        }
         _ => {
-            eprintln!("usage: bench --count | bench --tables FOLDER [--times]");
+            eprintln!("usage: bench --count | bench --tables FOLDER [--times] | bench --recordings LOOP UNITS FILE..");
             return 2;
         }
     }

@@ -1,6 +1,6 @@
 //! What is measured: for each call and input, the same work done by the library and by the plain implementation.
 
-use crate::{inputs, points, stereo};
+use crate::{inputs, packets, points, stereo};
 use plain::{Columns, Layers, Reading, Refusal, Times, Units};
 use std::rc::Rc;
 use thoquenry_sys as raw;
@@ -535,6 +535,7 @@ pub fn all() -> Vec<Measure> {
     ];
     measures.extend(stereo::measures());
     measures.extend(points::measures());
+    measures.extend(packets::measures());
     measures.extend(crate::sets::all());
     measures
 }

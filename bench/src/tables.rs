@@ -196,7 +196,7 @@ pub fn times(measures: &[Measure], times: &[Rounds]) {
             ratio(rounds, 0, 1)
         );
     }
-    println!("\nLoops, in millions of bytes a second, by the least time:\n");
+    println!("\nLoops and recordings, in millions of bytes a second, by the least time:\n");
     println!("| Call and input | library | plain |");
     println!("|---|---|---|");
     for (measure, rounds) in measures.iter().zip(times) {
