@@ -1,8 +1,8 @@
 #!/bin/sh
 # linked.sh: the tests of the library that others link. The archive and the shared object are built; the declarations agree; C, Rust
 # and Python call them on document 01's worked examples and run their own examples, those of docs/USING.md among them; a library that is missing is
-# told with its remedy; and every call is compared with the independent implementation on generated inputs, by a fixed seed. It prints a line
-# for each part and fails if anything fails.
+# told with its remedy; every call is compared with the independent implementation on generated inputs, by a fixed seed; and small real recordings
+# are read. It prints a line for each part and fails if anything fails.
 set -eu
 cd "$(dirname "$0")/.."
 log=target/linked/log
@@ -98,3 +98,4 @@ part using '^ok' as_the_page_says
 part compare '^compare: .* agree' compared
 # How often each call answered each number.
 sed '$d' "$log"
+part recordings '^recordings: ok' sh tests/recordings.sh

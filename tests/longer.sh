@@ -3,8 +3,9 @@
 # processor time (tests/wrong-programs); then every call is compared with the independent implementation on
 # COUNT generated inputs (500,000 where it is not said) for each of several seeds, and again with each buffer beside pages that cannot be
 # touched; under valgrind too where the machine is x86-64; the parts that Debian has a peer for are compared with that peer: libbitstream-dev
-# (PTS, DTS, the hierarchy descriptor) and libdvbpsi-dev (the hierarchy descriptor); and the packages are tried (tests/packages.sh), and how fast
-# Python calls. It prints what each part counts and fails if anything fails.
+# (PTS, DTS, the hierarchy descriptor) and libdvbpsi-dev (the hierarchy descriptor); longer recordings are made by Debian's ffmpeg and held to what
+# ffprobe lists of them (tests/recordings.sh); and the packages are tried (tests/packages.sh), and how fast Python calls. It prints what each part
+# counts and fails if anything fails.
 set -eu
 cd "$(dirname "$0")/.."
 count=${1:-500000}
@@ -71,5 +72,6 @@ peer() {
 peer bitstream times
 peer bitstream hierarchy
 peer dvbpsi hierarchy
+sh tests/recordings.sh --made
 sh tests/packages.sh
 echo "longer: all passed"
