@@ -338,7 +338,7 @@ uint64_t thq_packets_import_long(const uint8_t *bytes, size_t bytes_length, uint
  *
  * However a recording is cut, thq_packets_told and thq_packets_units answer of it what thq_packets_rows and thq_packets_import_long answer of all its bytes at once, and the columns hold the same
  * rows. Buffers hold a recording where their lengths are exactly these, counts[0] to counts[63] and counts[71] are 0 or 1, counts[64] is below 188, counts[65] is at most 2^48, counts[66] is from 30 to 34,
- * counts[68] from 20 to 25, and counts[70] at most counts[65]. Anything else is refused with THQ_NOT_A_CALL, before all other numbers, and nothing is written.
+ * counts[68] from 20 to 25, and counts[70] from counts[71] to counts[65]. Anything else is refused with THQ_NOT_A_CALL, before all other numbers, and nothing is written.
  */
 #define THQ_PACKETS_STATE 20412
 #define THQ_PACKETS_COUNTS 72
@@ -356,10 +356,10 @@ uint64_t thq_packets_start(const uint8_t *bytes, size_t bytes_length, uint8_t *s
                            size_t counts_length);
 
 /*
- * One piece more. Its rows are laid behind those before, in the same columns, as far as the shortest of them has places: with as many more places as the piece has whole packets, and one, no row finds no
- * room. Where one does, that is kept in mind, and what the columns hold says nothing from then on. A piece is taken whatever is in it: what is refused of the recording thq_packets_told tells. Counts
- * the rows of the recording so far, those that found no room included.
- * Refusals: THQ_NOT_A_CALL where the buffers hold no recording, and for a piece longer than 2^48 bytes.
+ * One piece more. Its rows are laid behind those before, in the same columns, as far as the shortest of them has places: with as many more places than there are rows as the piece has whole packets, and
+ * one, each finds room. That one did not is kept in counts[71]. A piece is taken whatever is in it: what is refused of the recording, thq_packets_told tells. Counts the rows of the recording so far, those
+ * that found no room included.
+ * Refusals: THQ_NOT_A_CALL where the buffers hold no recording, and where the bytes of the piece and the packets before it are together more than 2^48.
  */
 uint64_t thq_packets_feed(const uint8_t *piece, size_t piece_length, uint8_t *state, size_t state_length, uint64_t *counts,
                           size_t counts_length, uint8_t *indices, size_t indices_length, uint64_t *decodings, size_t decodings_length,

@@ -4,8 +4,8 @@ another: the functions' names, and the name, number, order, width and constness 
 parameter of the source is a pointer and, after it, a length. (ctypes does not say whether a pointer is const, so there it is not compared.)
 
 It also holds to one another
-  - the header's tables of an entry's numbers, of an MVC extension descriptor's and of an operation point's, each with its struct, the struct of a layer set and the lengths of its buffers, and
-    Rust's constants and the header's;
+  - the header's tables of an entry's numbers, of an MVC extension descriptor's and of an operation point's, each with its struct, the structs of a layer set and of a recording and the lengths of their
+    buffers, and Rust's constants and the header's;
   - the refusals: the table of words (words/refusals.tsv), C's enum, Rust's constants and enum, Python's enum and the source's own enum
     (crates/vocabulary/src/refusal.rt) have the same numbers under the same names, with a place or without; every number has words of its own,
     which say what its place counts; and the comments of C's and Rust's enums are those words;
@@ -187,6 +187,21 @@ def set_layout_differs(text):
     return found
 
 
+def recording_layout_differs(text):
+    """What differs between the header's struct of a recording, the lengths of its two buffers, and the list of its numbers."""
+    number = {name: int(value) for name, value in re.findall(r"#define (THQ_\w+) (\d+)", text)}
+    packet, layers = number["THQ_PACKET_BYTES"], int(re.search(r"counts\[i\]     for i below (\d+)", text).group(1))
+    listed = [layers - 1, *(int(place) for place in re.findall(r"^ \*     counts\[(\d+)\]", text, flags=re.M))]
+    found = []
+    if not re.search(r"typedef struct thq_recording \{\s*uint8_t state\[THQ_PACKETS_STATE\];\s*uint64_t counts\[THQ_PACKETS_COUNTS\];\s*\}", text):
+        found.append("the struct of a recording has not the two buffers")
+    if number["THQ_PACKETS_STATE"] != 8192 + packet + layers * packet:
+        found.append(f"a recording has a byte for each of 8,192 PIDs, a packet, and one for each of {layers} layers, and THQ_PACKETS_STATE is {number['THQ_PACKETS_STATE']}")
+    if listed != list(range(layers - 1, number["THQ_PACKETS_COUNTS"])):
+        found.append(f"the numbers of a recording are listed as {listed}, and THQ_PACKETS_COUNTS is {number['THQ_PACKETS_COUNTS']}")
+    return found
+
+
 # ---- constants and refusals
 
 def enumerators(header):
@@ -302,6 +317,7 @@ def all_differences(texts):
             + layout_differs(texts[HEADER], "thq_mvc_extension", "THQ_MVC_EXTENSION_NUMBERS")
             + layout_differs(texts[HEADER], "thq_point", "THQ_POINT_NUMBERS", 32)
             + set_layout_differs(texts[HEADER])
+            + recording_layout_differs(texts[HEADER])
             + constants_differ(texts[HEADER], texts[RUST])
             + refusals_differ(texts)
             + versions_differ(texts))
@@ -323,6 +339,10 @@ CHANGES = [
     (HEADER, "const uint32_t *points", "const uint16_t *points"),
     (HEADER, "#define THQ_PACKET_BYTES 188", "#define THQ_PACKET_BYTES 204"),
     (HEADER, "uint64_t *packet_numbers", "uint32_t *packet_numbers"),
+    (HEADER, "#define THQ_PACKETS_STATE 20412", "#define THQ_PACKETS_STATE 20600"),
+    (HEADER, " *     counts[70] ", " *     counts[72] "),
+    (HEADER, "uint64_t counts[THQ_PACKETS_COUNTS]", "uint64_t counts[64]"),
+    (HEADER, "const uint8_t *state", "uint8_t *state"),
     (HEADER, "thq_entry layers[64]", "thq_entry layers[63]"),
     (HEADER, "uint64_t stored[THQ_SET_STORED]", "uint64_t stored[64]"),
     (HEADER, "#define THQ_SET_LAYERS 5120", "#define THQ_SET_LAYERS 5121"),
@@ -339,6 +359,7 @@ CHANGES = [
     (RUST, "extensions: *const u16", "extensions: *mut u16"),
     (RUST, "THQ_MVC_EXTENSION_NUMBERS: usize = 8", "THQ_MVC_EXTENSION_NUMBERS: usize = 16"),
     (RUST, "packets: *const u8", "packets: *mut u8"),
+    (RUST, "THQ_PACKETS_COUNTS: usize = 72", "THQ_PACKETS_COUNTS: usize = 64"),
     (RUST, "summary: *mut u32", "summary: *mut u64"),
     (RUST, "THQ_POINT_NUMBERS: usize = 12", "THQ_POINT_NUMBERS: usize = 10"),
     (RUST, "pts: u64,\n        decoding: u64,", "decoding: u64,\n        pts: u64,"),

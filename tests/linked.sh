@@ -67,6 +67,7 @@ called_from_rust() {
 called_from_python() {
     scripts/python-x86 -B python/tests/test_packets.py
     scripts/python-x86 -B python/tests/test_points.py
+    scripts/python-x86 -B python/tests/test_recording.py
     scripts/python-x86 -B python/tests/test_stereo.py
     scripts/python-x86 -B python/tests/test_thoquenry.py
     scripts/python-x86 -B python/tests/test_layer_sets.py

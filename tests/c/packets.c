@@ -5,6 +5,7 @@
 #include "recording.h"
 
 static uint8_t packets[RECORDING];
+static uint64_t starts[PLACES];
 
 /* The rows of the first bytes, with so many places in each column and in `starts`. */
 static uint64_t rows_of(size_t length, size_t room, size_t room_of_starts)

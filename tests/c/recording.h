@@ -61,7 +61,7 @@ static inline void make(uint8_t *packets)
 /* Columns and lists of so many places each, and work space, whose contents tell what was written. */
 enum { PLACES = 600 };
 static uint8_t indices[PLACES], trefs[PLACES];
-static uint64_t decodings[PLACES], matches[PLACES], packet_numbers[PLACES], starts[PLACES], keys[PLACES], numbers[PLACES], sizes[PLACES], summary[3];
+static uint64_t decodings[PLACES], matches[PLACES], packet_numbers[PLACES], keys[PLACES], numbers[PLACES], sizes[PLACES], summary[3];
 static size_t order[PLACES], kept[PLACES], places[PLACES], heads[PLACES];
 static bool claimed[PLACES], used[PLACES];
 static int64_t lags[PLACES];

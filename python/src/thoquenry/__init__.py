@@ -8,21 +8,22 @@ this module stands in; or else the one that is installed. It is for x86-64 Linux
 """
 
 from array import array
-from ctypes import c_bool, c_int64, c_size_t, c_uint8, c_uint16, c_uint32, c_uint64, memset, sizeof
+from ctypes import c_bool, c_int64, c_size_t, c_uint8, c_uint16, c_uint32, c_uint64, memmove, memset, sizeof
 from dataclasses import astuple, dataclass, field
 from enum import IntEnum
 from itertools import chain, islice
 from operator import index
+from os import PathLike
 from struct import Struct
-from typing import Iterable, Iterator, List, Mapping, Optional, Tuple, Union
+from typing import BinaryIO, Iterable, Iterator, List, Mapping, Optional, Tuple, Union
 
 from ._library import load
 from ._refusals import Number, Refused, RefusedHeader
 
 __all__ = [
     "Component", "Entry", "Extension", "FrameRate", "FrameRateKind", "Header", "Hierarchy", "Implied", "Layer", "LayerSet", "MvcExtension", "Number", "Point",
-    "PointDescriptor", "PointLayer", "PointStreams", "ProgramPoints", "Reading", "RecordedRow", "Reference", "Refused", "RefusedHeader", "Row", "StereoSet", "Times",
-    "Units", "closure", "import_", "join", "join_long", "packets_import", "packets_import_long", "packets_rows", "read_loop", "read_points", "read_stereo",
+    "PointDescriptor", "PointLayer", "PointStreams", "ProgramPoints", "Reading", "RecordedRow", "Recording", "Reference", "Refused", "RefusedHeader", "Row", "StereoSet",
+    "Times", "Units", "closure", "import_", "join", "join_long", "packets_import", "packets_import_long", "packets_rows", "read_loop", "read_points", "read_stereo",
     "read_times", "write_loop", "write_points", "write_stereo", "write_times",
 ]
 __version__ = "0.5.0"
@@ -73,6 +74,14 @@ _ROWS = 512
 _PACKET_BYTES = 188
 _PACKETS_OF_A_ROW = 32
 _NO_PACKET = 2**64 - 1
+
+# The bytes and the numbers of the two buffers of a recording in pieces, where the number of whole packets stands among the latter, and that of rows; and the bytes
+# that are read of a file at a time: whole packets, so that few are cut.
+_RECORDING_STATE = 20412
+_RECORDING_COUNTS = 72
+_PACKETS_AT = 65
+_ROWS_AT = 70
+_PIECE_BYTES = 1024 * _PACKET_BYTES
 
 
 class Reading(IntEnum):
@@ -630,10 +639,23 @@ class _Columns:
     def parameters(self) -> Iterator:
         return chain.from_iterable(self._lists)
 
+    def table(self) -> Iterator:
+        """The columns that joining reads."""
+        return chain.from_iterable(self._lists[:3])
+
     def rows(self, first: int, end: int) -> List[RecordedRow]:
         """The rows from one place to another."""
         indices, decodings, matches, trefs, numbers = (column[first:end] for column, _ in self._lists)
         return list(map(RecordedRow, indices, decodings, matches, map(bool, trefs), numbers))
+
+    def make_room(self, rows: int) -> None:
+        """Makes room for so many rows, and where there is too little, for twice as many as there was room for, so that it is seldom made."""
+        _, room = self._lists[0]
+        if rows > room:
+            grown = _Columns(max(rows, 2 * room))
+            for (new, _), (old, _) in zip(grown._lists, self._lists):
+                memmove(new, old, sizeof(old))
+            self._lists = grown._lists
 
     def unwritten(self) -> None:
         """Makes it known that no row is written yet."""
@@ -685,6 +707,91 @@ def packets_import_long(loop: bytes, target: int, packets: bytes) -> Tuple[List[
             break
     units = lists.units(_recorded(answer))
     return columns.rows(0, columns.written()), units
+
+
+class Recording:
+    """A recording of transport packets that is fed piece after piece, of any lengths and cut anywhere, in the 2015 reading of its loop. However it is cut, the answers are those of
+    packets_rows and packets_import_long over all its bytes; beside its rows it takes the same memory whatever its length. It is the sequence of its rows so far, in order of arrival.
+
+        recording = Recording(loop)
+        for row in recording.rows_from("recording.ts"):
+            print(row.layer_index, row.packet)
+        units = recording.units(1).units
+    """
+
+    def __init__(self, loop: bytes) -> None:
+        """A recording of no bytes yet, by the layers of a loop. Refusals: 1 to 9."""
+        self._loop = _loop(loop)
+        # Both are written by the library alone, so that they always hold a recording.
+        self._state, _ = _room(c_uint8, _RECORDING_STATE)
+        self._counts, _ = _room(c_uint64, _RECORDING_COUNTS)
+        self._columns = _Columns(0)
+        _accepted(_LIBRARY.thq_packets_start(*self._loop, *self._buffers()))
+
+    def feed(self, piece: bytes) -> None:
+        """One piece more, of any length. What is refused in it, `told` tells."""
+        given, length = _all(piece)
+        # As many rows more as there are packets in the piece, and one that began before it.
+        self._columns.make_room(len(self) + length // _PACKET_BYTES + 1)
+        _accepted(_LIBRARY.thq_packets_feed(given, length, *self._buffers(), *self._columns.parameters()))
+
+    def feed_from(self, source: Union[str, PathLike, BinaryIO]) -> None:
+        """All that there is to be read of a file, up to its end: the file's name, or what gives bytes by `read`."""
+        for piece in _pieces(source):
+            self.feed(piece)
+
+    def rows_from(self, source: Union[str, PathLike, BinaryIO]) -> Iterator[RecordedRow]:
+        """Feeds all that there is to be read of a file, and gives its rows as they come. At the end, where the recording is refused, it raises the refusal: the rows before are then those
+        of a recording that is not right. Whoever stops before the end leaves the rest unread. Refusals: those of `told`."""
+        for piece in _pieces(source):
+            first = len(self)
+            self.feed(piece)
+            yield from self._columns.rows(first, len(self))
+        self.told()
+
+    @property
+    def packets(self) -> int:
+        """The number of whole packets so far."""
+        return self._counts[_PACKETS_AT]
+
+    def told(self) -> int:
+        """What is told of the recording if it ends here: the number of its rows. Refusals: 30 to 33, 30 also where the last packet is not whole, and 20 to 24, at a packet."""
+        return _recorded(_LIBRARY.thq_packets_told(*self._buffers()))
+
+    def units(self, target: int) -> Units:
+        """The rows joined to units, if the recording ends here. It can be asked at any time, of several targets. Refusals: 11, 12; then those of `told`; then 14 to 16, 18."""
+        lists = _Lists(len(self))
+        answer = _LIBRARY.thq_packets_units(
+            *self._loop, _number(target, 64), *self._buffers(), *self._columns.table(), *_work(len(self)), *lists.parameters())
+        return lists.units(_recorded(answer))
+
+    def _buffers(self):
+        return self._state, _RECORDING_STATE, self._counts, _RECORDING_COUNTS
+
+    def __len__(self) -> int:
+        """The number of rows so far."""
+        return self._counts[_ROWS_AT]
+
+    def __getitem__(self, row: int) -> RecordedRow:
+        """A row, by its number."""
+        place = range(len(self))[index(row)]
+        return self._columns.rows(place, place + 1)[0]
+
+    def __iter__(self) -> Iterator[RecordedRow]:
+        """The rows so far, whatever is refused."""
+        return iter(self._columns.rows(0, len(self)))
+
+    def __repr__(self) -> str:
+        return f"<Recording of {self.packets} packets, {len(self)} rows>"
+
+
+def _pieces(source: Union[str, PathLike, BinaryIO]) -> Iterator[bytes]:
+    """The bytes of a file, by its name or as what gives bytes by `read`, piece after piece."""
+    if hasattr(source, "read"):
+        yield from iter(lambda: source.read(_PIECE_BYTES), b"")
+        return
+    with open(source, "rb", buffering=0) as file:
+        yield from iter(lambda: file.read(_PIECE_BYTES), b"")
 
 
 @dataclass(frozen=True)

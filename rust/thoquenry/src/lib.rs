@@ -19,6 +19,7 @@ mod layer_set;
 mod layers;
 mod packets;
 mod points;
+mod recording;
 mod refusal;
 mod stereo;
 
@@ -32,6 +33,7 @@ pub use points::{
     read_points, write_points, FrameRate, Point, PointDescriptor, PointLayer, PointStreams,
     Profile, ProgramPoints, Reference,
 };
+pub use recording::{Recording, RecordingError, RowsFrom};
 pub use refusal::Refusal;
 pub use stereo::{read_stereo, write_stereo, MvcExtension, StereoSet};
 

@@ -122,6 +122,19 @@ impl Columns {
         }
     }
 
+    /// Makes room for so many rows, and where there is too little, for twice as many as there was room for, so that it is seldom made.
+    pub(crate) fn make_room(&mut self, rows: usize) {
+        if rows <= self.numbers.len() {
+            return;
+        }
+        let room = rows.max(2 * self.numbers.len());
+        self.indices.resize(room, 0);
+        self.decodings.resize(room, 0);
+        self.matches.resize(room, 0);
+        self.trefs.resize(room, 0);
+        self.numbers.resize(room, 0);
+    }
+
     /// Makes it known that no row is written yet: no packet has this number.
     fn unwritten(&mut self) {
         if let Some(first) = self.numbers.first_mut() {
