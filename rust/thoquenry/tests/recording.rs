@@ -105,7 +105,7 @@ impl Read for Halting<'_> {
     }
 }
 
-fn halting(bytes: &[u8], fails: bool) -> Halting {
+fn halting(bytes: &[u8], fails: bool) -> Halting<'_> {
     Halting {
         bytes,
         reads: 0,
