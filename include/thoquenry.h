@@ -72,7 +72,7 @@ enum thq_refusal {
     THQ_REFUSED_NO_SUCH_LAYER = 11,
     /* layer index {} is in the closure, and its layer is not in the loop */
     THQ_REFUSED_EMBEDDED_LAYER_ABSENT = 12,
-    /* row {} is out of range; or, at row 0, the row columns are of unequal length or there are more than 512 rows, or than the work space has places */
+    /* row {} is out of range; or, at row 0, the row columns are of unequal length or there are more than 512 rows, or than the columns or the work space have places */
     THQ_REFUSED_OUT_OF_RANGE = 13,
     /* row {} breaks the time order in its layer, which is in the closure */
     THQ_REFUSED_TIME_ORDER_BROKEN = 14,

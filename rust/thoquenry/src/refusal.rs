@@ -130,7 +130,7 @@ refusals! {
         /// The lowest missing index.
         index: LayerIndex
     },
-    /// 13: row {} is out of range; or, at row 0, the row columns are of unequal length or there are more than 512 rows, or than the work space has places.
+    /// 13: row {} is out of range; or, at row 0, the row columns are of unequal length or there are more than 512 rows, or than the columns or the work space have places.
     13 OutOfRange {
         /// The row, from 0.
         row: usize
