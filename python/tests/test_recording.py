@@ -6,7 +6,13 @@ import unittest
 from pathlib import Path
 
 from made import LOOP_A, PACKETS, RECORDING, REFUSED, ROWS, UNITS, long_recording
-from thoquenry import Recording, Refused, packets_import_long, packets_rows
+from thoquenry import RecordedRow, Recording, Refused, packets_import_long, packets_rows
+
+ROOT = Path(__file__).resolve().parent.parent.parent
+
+# Recordings that ffmpeg made, and what ffprobe lists of them.
+SAMPLES = ROOT / "samples" / "recordings"
+LISTED = ROOT / "tests" / "recordings"
 
 
 def fed(*pieces):
@@ -134,6 +140,22 @@ class Pieces(unittest.TestCase):
             recording.feed_from(io.StringIO("text"))
         with self.assertRaises(TypeError):
             recording.feed("text")
+
+    def test_the_samples(self):
+        loop = (SAMPLES / "two-rates.bin").read_bytes()
+        for name in ("two-rates", "no-tref"):
+            lines = (list(map(int, line.split())) for line in (LISTED / f"{name}.rows").read_text().splitlines())
+            rows = [RecordedRow(layer, decoding, matching, tref == 1, packet) for _, packet, layer, decoding, matching, tref in lines]
+            self.assertEqual(list(Recording(loop).rows_from(SAMPLES / f"{name}.ts")), rows)
+        for name in ("two-rates", "copies"):
+            recording = Recording(loop)
+            recording.feed_from(SAMPLES / f"{name}.ts")
+            lines = ([*(part.row for part in unit), *(part.lag for part in unit)] for unit in recording.units(1).units)
+            self.assertEqual([" ".join(map(str, line)) for line in lines], (LISTED / "two-rates.units").read_text().splitlines())
+        for name, number, place in (("gap", 31, 11), ("scrambled", 33, 11), ("cut", 30, 88)):
+            with self.assertRaises(Refused) as caught:
+                list(Recording(loop).rows_from(str(SAMPLES / f"{name}.ts")))
+            self.assertEqual((caught.exception.number, caught.exception.place), (number, place))
 
 
 if __name__ == "__main__":

@@ -192,3 +192,62 @@ fn a_long_recording_in_a_file() {
     as_the_whole(&again, &bytes);
     fs::remove_file(path).unwrap();
 }
+
+/// The sample recordings, which ffmpeg made, by a name: rows, the units of target 1, or the refusal.
+fn sample(name: &str) -> (Recording, Vec<Result<RecordedRow, RecordingError>>) {
+    let folder = concat!(env!("CARGO_MANIFEST_DIR"), "/../../samples/recordings");
+    let bytes = fs::read(format!("{folder}/two-rates.bin")).unwrap();
+    let mut recording = Recording::new(&bytes).unwrap();
+    let file = File::open(format!("{folder}/{name}.ts")).unwrap();
+    let rows = recording.rows_from(file).collect();
+    (recording, rows)
+}
+
+#[test]
+fn the_samples() {
+    let listed = [
+        (
+            "two-rates",
+            include_str!("../../../tests/recordings/two-rates.rows"),
+        ),
+        (
+            "no-tref",
+            include_str!("../../../tests/recordings/no-tref.rows"),
+        ),
+    ];
+    for (name, rows) in listed {
+        let (_, read) = sample(name);
+        let lines = read.into_iter().enumerate().map(|(number, row)| {
+            let row = row.unwrap();
+            let (layer, tref) = (row.layer_index, u8::from(row.tref_sent));
+            let (decoding, matching) = (row.decoding, row.matching);
+            format!(
+                "{number} {} {layer} {decoding} {matching} {tref}\n",
+                row.packet
+            )
+        });
+        assert_eq!(lines.collect::<String>(), rows);
+    }
+    for name in ["two-rates", "copies"] {
+        let (recording, _) = sample(name);
+        let units = recording.units(LayerIndex(1)).unwrap().units;
+        let lines = units.iter().map(|unit| {
+            let rows = unit.iter().map(|part| part.row.to_string());
+            let lags = unit.iter().map(|part| part.lag.to_string());
+            rows.chain(lags).collect::<Vec<_>>().join(" ") + "\n"
+        });
+        let listed = include_str!("../../../tests/recordings/two-rates.units");
+        assert_eq!(lines.collect::<String>(), listed);
+    }
+    let refusals = [
+        ("gap", Refusal::CounterGap { packet: 11 }),
+        ("scrambled", Refusal::Scrambled { packet: 11 }),
+        ("cut", Refusal::LostSync { packet: 88 }),
+    ];
+    for (name, expected) in refusals {
+        match sample(name).1.pop() {
+            Some(Err(RecordingError::Refused(refusal))) => assert_eq!(refusal, expected.into()),
+            other => panic!("{other:?}"),
+        }
+    }
+}
