@@ -59,6 +59,8 @@ called_from_rust() {
     scripts/cargo test -p thoquenry-sys -p thoquenry -p plain >target/linked/rust-tests || { cat target/linked/rust-tests; return 1; }
     scripts/cargo run --quiet -p thoquenry --example join >target/linked/rust-example
     diff tests/example.txt target/linked/rust-example
+    scripts/cargo run --quiet -p thoquenry --example units >target/linked/rust-units
+    diff tests/recordings/two-rates.units target/linked/rust-units
     if THOQUENRY_LIB=/nowhere CARGO_TARGET_DIR=target/linked/cargo scripts/cargo check -p thoquenry-sys 2>target/linked/rust-missing; then return 1; fi
     grep -q 'scripts/build-library' target/linked/rust-missing && grep -q THOQUENRY_LIB target/linked/rust-missing
     awk '/^test result: ok/ { passed += $4 } END { print passed " tests passed" }' target/linked/rust-tests
@@ -73,6 +75,8 @@ called_from_python() {
     scripts/python-x86 -B python/tests/test_layer_sets.py
     scripts/python-x86 -B python/examples/join.py >target/linked/python-example
     diff tests/example.txt target/linked/python-example
+    scripts/python-x86 -B python/examples/units.py >target/linked/python-units
+    diff tests/recordings/two-rates.units target/linked/python-units
 }
 
 # The page of examples; its Rust is among Rust's tests.
