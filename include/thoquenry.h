@@ -274,7 +274,7 @@ uint64_t thq_import(uint64_t reading, const uint8_t *bytes, size_t bytes_length,
  *
  * A recording is refused with the lowest of 30 to 33 at its earliest packet; or else with the lowest of 20 to 24 at its earliest packet, which is the place of these too:
  *
- *     30         a packet, of whichever PID, that does not begin with 0x47, or a last one of fewer than 188 bytes. The others are judged at every 188th byte all the same
+ *     30         a packet, of whichever PID and also one that is skipped, that does not begin with 0x47, or a last one of fewer than 188 bytes. The next packet stands 188 bytes after it all the same
  *     31         a counter that has not moved by one, modulo 16, from the last packet of the PID, or, on a packet without payload, that has moved; and no discontinuity indicator in the
  *                packet's own adaptation field, which is then at least one byte long and within the packet. The first packet of a PID has any counter
  *     32         an adaptation field that runs past its packet, or, where a unit starts and the payload is not scrambled, a PES header (9 bytes and its data) that does
@@ -309,7 +309,8 @@ uint64_t thq_packets_import(const uint8_t *bytes, size_t bytes_length, uint64_t 
 /*
  * The whole import of a recording of any length: the caller lends the columns and the work space, each of which needs a place for every row, and 13 is given at place 0 for more rows than the shortest
  * of these twelve has. The work space, `order` to `used`, is as in thq_join_long. The columns receive the rows as soon as none of 1 to 13, 20 to 24 and 30 to 33 is given: after 14 to 18,
- * of which 14 to 16 name a row, they hold them too, and only after a lower number, or one of the packets', what they held. `numbers`, `lags`, `sizes` and `summary` are as in thq_import.
+ * of which 14 to 16 name a row, they hold them too, and only after a lower number, or one of the packets', what they held. `numbers`, `lags`, `sizes` and `summary` are as in thq_import, and so is what is counted, the
+ * rows in units: whoever wants to know how many rows of all layers there are fills `packet_numbers` with UINT64_MAX before, which is no packet's number.
  * Refusals: as thq_packets_import, but for 13.
  */
 uint64_t thq_packets_import_long(const uint8_t *bytes, size_t bytes_length, uint64_t target, const uint8_t *packets, size_t packets_length,
