@@ -350,7 +350,8 @@ typedef struct thq_recording {
 } thq_recording;
 
 /*
- * A recording of no bytes yet, over the layers of the loop `bytes`. Whatever the two buffers held is overwritten. Counts the layers.
+ * A recording of no bytes yet, over the layers of the loop `bytes`. `counts` and the first 8,192 bytes of `state` are written, whatever they held; the bytes after them are as they were, and are not looked at before
+ * packets have been put there. Counts the layers.
  * Refusals: THQ_NOT_A_CALL where a length is not exactly that of a recording; 1 to 9, at an entry.
  */
 uint64_t thq_packets_start(const uint8_t *bytes, size_t bytes_length, uint8_t *state, size_t state_length, uint64_t *counts,
