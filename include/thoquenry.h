@@ -325,7 +325,7 @@ uint64_t thq_packets_import_long(const uint8_t *bytes, size_t bytes_length, uint
 /*
  * A RECORDING IN PIECES, of any lengths and cut anywhere: two buffers of fixed length, which the caller owns and the functions below fill, whatever the length of the recording; and the five
  * columns, into which the rows are laid as they come. `state` is 20,412 bytes: for each of 8,192 PIDs the index of its layer, or 255; then the 188 of the packet that is not whole yet; then
- * 188 for each layer index, the last packet on its PID. `counts` is 72 numbers:
+ * 188 for each layer index, the last packet on its PID. Bytes behind the part of a packet, and at a layer without a last packet, say nothing. `counts` is 72 numbers:
  *
  *     counts[i]     for i below 64: 1 where a last packet on the PID of layer i is kept, and else 0
  *     counts[64]    the bytes of the packet that is not whole yet, below 188
