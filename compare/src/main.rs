@@ -38,7 +38,7 @@ const SEED: u64 = 1;
 const COUNT: u64 = 20_000 * CALLS.len() as u64;
 
 /// For so many calls one recording, of some twenty calls itself; and as many at least as see every number.
-const RECORDINGS: u64 = 12;
+const RECORDINGS: u64 = 24;
 const LEAST_RECORDINGS: u64 = 5_000;
 
 /// The calls that read or write a loop.

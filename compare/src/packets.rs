@@ -832,7 +832,7 @@ fn in_pieces(
         let first = recording.rows().len();
         recording.feed(piece);
         let count = recording.rows().len();
-        if random.once_in(16) {
+        if random.once_in(24) {
             let mut none = buffers.damaged(random);
             let before = none.clone();
             memory.begin(placing);

@@ -455,7 +455,7 @@ pub fn pieces(random: &mut Random, length: usize) -> Vec<usize> {
     let usual = random.pick(&[1, 2, 50, 187, 188, 189, 376, 1000, 1316, 5000, 65536]);
     let mut pieces = Vec::new();
     let mut left = length;
-    while left > 0 && pieces.len() < 200 {
+    while left > 0 && pieces.len() < 60 {
         let piece = match random.below(8) {
             0 => 0,
             1 => random.below(400),
