@@ -1,5 +1,5 @@
 #!/bin/sh
-# recordings.sh [--made]: real recordings, read by the library and by the plain implementation, whole and in pieces (`compare --recording`). Those of
+# recordings.sh [--made]: real recordings, read by the library and by the plain implementation, whole and in pieces (`compare --recording`), and by `units`. Those of
 # samples/recordings are held to what ffprobe has listed of them (tests/recordings: rows by position, PTS and DTS, and units by the times of
 # presentation). With --made, in the longer run, Debian's ffmpeg makes longer ones, and ffprobe lists each anew: two AVC streams of different frame
 # rates with B pictures, audio and null packets between; then with a TREF in each unit of the upper stream, and with something done to packets, by
@@ -23,12 +23,17 @@ scripts/cargo build --quiet --profile checked -p compare
 compare() { scripts/x86 "$PWD/target/cargo/x86_64-unknown-linux-gnu/checked/compare" --recording "$@"; }
 fail() { echo "recordings: $*" >&2; exit 1; }
 
-# same TEXT RECORDING [TARGET]: what is told of a recording is a text.
+# same TEXT RECORDING [TARGET]: what is told of a recording, its rows or the units of a target, is a text; and so is what the command `units` prints.
 same() {
     text=$1
     shift
     compare "$loop" "$@" >"$work/told" || { tail -n 5 "$work/told" >&2; fail "$1: library and plain implementation differ"; }
-    cmp -s "$text" "$work/told" || { diff "$text" "$work/told" | head -n 10 >&2; fail "$1 ${2:+for target $2}: not as expected"; }
+    cmp -s "$text" "$work/told" || { diff "$text" "$work/told" | head -n 10 >&2; fail "$1${2:+ for target $2}: not as expected"; }
+    if [ $# -gt 1 ]; then set -- "$2" "$loop" "$1"; else set -- --rows 1 "$loop" "$1"; fi
+    status=0
+    ./units "$@" >"$work/told" || status=$?
+    cmp -s "$text" "$work/told" || { diff "$text" "$work/told" | head -n 10 >&2; fail "units $*: not as expected"; }
+    case $(head -n 1 "$text") in refused*) [ "$status" -eq 1 ] ;; *) [ "$status" -eq 0 ] ;; esac || fail "units $*: ends with status $status"
 }
 
 # The loop, by the library's own writer.
