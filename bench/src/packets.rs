@@ -215,6 +215,29 @@ impl Room {
         }
     }
 
+    /// The same with columns and work space of the library's own, for 512 rows.
+    fn short_import(&mut self, bytes: &[u8]) -> u64 {
+        let (given, bytes) = (hide(LOOP), hide(bytes));
+        // SAFETY: as above.
+        unsafe {
+            raw::thq_packets_import(
+                given.as_ptr(),
+                given.len(),
+                1,
+                bytes.as_ptr(),
+                bytes.len(),
+                self.numbers.as_mut_ptr(),
+                self.numbers.len(),
+                self.lags.as_mut_ptr(),
+                self.lags.len(),
+                self.sizes.as_mut_ptr(),
+                self.sizes.len(),
+                self.summary.as_mut_ptr(),
+                self.summary.len(),
+            )
+        }
+    }
+
     /// The same by plain: its scan, and its joining.
     fn plain_import(&mut self, bytes: &[u8]) -> u64 {
         let layers =
@@ -258,6 +281,10 @@ pub fn measures() -> Vec<Measure> {
         let library = side(bytes, move |room, bytes| room.pieces(bytes, length));
         (library, side(bytes, Room::plain))
     };
+    let short = |bytes| {
+        let library = side(bytes, Room::short_import);
+        (library, side(bytes, Room::plain_import))
+    };
     let import = |bytes| (side(bytes, Room::import), side(bytes, Room::plain_import));
     [
         (
@@ -284,6 +311,11 @@ pub fn measures() -> Vec<Measure> {
             "rows of a recording, 10,000 packets of other PIDs",
             &others,
             rows(&others),
+        ),
+        (
+            "import a recording, the sample's 89 packets",
+            &sample,
+            short(&sample),
         ),
         (
             "import a recording, 10,000 packets, nine in ten of layers",
