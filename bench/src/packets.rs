@@ -298,12 +298,12 @@ pub fn measures() -> Vec<Measure> {
             rows(&layers),
         ),
         (
-            "the same in pieces of 65,536 bytes",
+            "the same 10,000 packets in pieces of 65,536 bytes",
             &layers,
             pieces(&layers, PIECE),
         ),
         (
-            "the same in pieces of 1,316 bytes",
+            "the same 10,000 packets in pieces of 1,316 bytes",
             &layers,
             pieces(&layers, 1_316),
         ),
