@@ -307,7 +307,7 @@ impl Recorder<'_> {
             0 => 4,
             _ => 5 + usize::from(packet[4]),
         };
-        match random.below(32) {
+        match random.below(34) {
             0 => packet[0] = random.pick(&[0, 0x46, 0x48, 0xC7]),
             1 => packet[1] ^= 0x80,
             2 => packet[1] ^= 0x40,
@@ -353,8 +353,17 @@ impl Recorder<'_> {
                 copy[random.pick(&[1, 2, 5, 6, 8, 11, 12, 187])] ^= 1 << random.below(8);
                 self.packets.insert(place + 1, copy);
             }
-            29 => drop(self.packets.remove(place)),
-            30 => self.packets.swap(place, other),
+            29 | 30 => {
+                // Two packets that differ where a PCR would be, behind a field that has room for one, or just not, or that is none.
+                packet[3] |= ADAPTATION;
+                packet[4] = random.pick(&[1, 6, 7, 8, 182, 183, 184, 255]);
+                packet[5] = random.pick(&[0, PCR, PCR, PCR, PCR | DISCONTINUITY]);
+                let mut copy = *packet;
+                copy[random.within(5, 12)] ^= 1 << random.below(8);
+                self.packets.insert(place + 1, copy);
+            }
+            31 => drop(self.packets.remove(place)),
+            32 => self.packets.swap(place, other),
             _ => packet[random.below(PACKET)] = random.byte(),
         }
     }
