@@ -134,7 +134,7 @@ struct Judged {
     lost_count: bool,
     cut: bool,
     scrambled: bool,
-    /// What its PES header says, where one starts in it and is clear and within it: the times and whether a TREF was sent, or 20 to 24.
+    /// What its PES header says, where one starts in it and nothing is wrong with the packet: the times and whether a TREF was sent, or 20 to 24.
     header: Option<Result<(u64, u64, bool), u8>>,
 }
 
@@ -151,7 +151,7 @@ fn judge(packet: Packet, predecessor: Option<Packet>) -> Judged {
     if packet.starts_unit() && packet.has_payload() && !judged.scrambled && !judged.cut {
         if packet.cuts_header() {
             judged.cut = true;
-        } else {
+        } else if !judged.lost_count {
             let header = read_times(packet.payload());
             judged.header = Some(match header {
                 Ok(header) => Ok((
