@@ -13,7 +13,7 @@ use Rattle.loop_entries.specs.Entries.{entryOf}
 use Rattle.es_loop.specs.declared.reader.Outcome.{Outcome}
 use Rattle.es_loop.specs.declared.reader.Outcome.the-variants.{Accepted, Refused as LoopRefused}
 use Rattle.es_loop.specs.declared.reader.LoopRead.{LoopRead}
-use Rattle.es_loop.specs.Reading.{refusedWith, accepted, loopRead}
+use Rattle.es_loop.specs.Reading.{refusedWith, accepted}
 use Rattle.es_loop.specs.Meaning as Loop
 use Rattle.es_loop.proofs.Meant.{answer-only}
 use Rattle.closure.specs.declared.Layers.{Layers}
@@ -29,24 +29,21 @@ use Rattle.unit_lists.specs.Sequence.{Lists}
 use Rattle.join_answers.specs.declared.answer.Joined.{Joined}
 use Rattle.join_answers.specs.declared.answer.Joined.the-variants.{Units, Refused}
 use Rattle.join_answers.specs.Joining.{Room, roomOf, joinedIn, joinedOf, listsAfter}
-use Rattle.join_answers.specs.Meaning as Joining
 use Rattle.join_answers.proofs.Meant as joining
 use Rattle.importing.specs.Meaning as Import
-use Rattle.agreement.specs.Meaning.{Accepts, Every2009, Otherwise, NoSet}
 use Rattle.agreement.specs.Entries.{IsAccepted, entriesIn, accepted-in-2009}
 use Rattle.agreement.specs.Computed.{layersIn, same-joined, same-lists, no-closure}
 use Rattle.agreement.specs.Agreement.{accepts, outcome-is, same-entries, same-layers}
 use Rattle.recordings.specs.declared.Recording.{Recording}
 use Rattle.recordings.specs.declared.Recording.the-variants.{Rows}
-use Rattle.recordings.specs.Meaning as Recordings
 use Rattle.recordings.proofs.AnswerMeant as recordings
 use Rattle.recording_imports.specs.declared.Imported.{Imported}
 use Rattle.recording_imports.specs.declared.Imported.the-variants as Imported
 use Rattle.recording_imports.specs.declared.RowsRead.{RowsRead}
 use Rattle.recording_imports.specs.Rows.{pidTable, rowsTold, rowsFor}
-use Rattle.recording_imports.specs.Imports.{layersOfLoop, outcomeOf, outcomeFor, outcomeAsked, importedOf, importedBy, recordingWith, importOf}
+use Rattle.recording_imports.specs.Imports.{layersOfLoop, outcomeOf, importedOf, importedBy, recordingWith, importOf}
 use Rattle.recording_meaning.proofs.Meant.{lists-same, import-meant, import-only}
-use Rattle.recording_demands.specs.Agreement.{ImportsRows, loop-refused, loop-accepted, Of512Rows, filled, GivesRows, Imports, Refuses2009, Agrees, OfEveryRecording}
+use Rattle.recording_demands.specs.Agreement.{ImportsRows, loop-refused, loop-accepted, Of512Rows, filled, GivesRows, Imports, Agrees, OfEveryRecording}
 
 pub of-512-rows : Of512Rows
 of-512-rows reading bytes target t before answer after = (to, from)

@@ -50,7 +50,7 @@ use Rattle.recording_imports.specs.declared.Imported.{Imported}
 use Rattle.recording_imports.specs.Rows.{pidTable, rowsTold, rowsFor}
 use Rattle.recording_imports.specs.Imports.{layersOfLoop, outcomeOf, outcomeFor, importedBy, recordingWith, importedOf}
 use Rattle.recording_meaning.proofs.Meant.{import-only}
-use Rattle.recording_demands.specs.Agreement.{filled, GivesRows, Imports}
+use Rattle.recording_demands.specs.Agreement.{filled, Imports}
 use Rattle.recording_demands.specs.Reaching.{ToJoining, OfJoining, Reached}
 use Rattle.recording_demands.proofs.Agreement.{to-recording, of-recording}
 

@@ -1,8 +1,8 @@
 -- The table of a loop that is accepted tells the layer of each PID, and no other table does.
 -- Assumes nothing.
 use Prim.Native.Nat.{ℕ, _<_}
-use mathlib.Core.Path.{_≡_, refl, sym, _∙_, ap, ap₂, subst}
-use mathlib.Core.Bool.{Bool, true, false, not, true≢false}
+use mathlib.Core.Path.{_≡_, refl, sym, _∙_, ap, subst}
+use mathlib.Core.Bool.{false, not, true≢false}
 use mathlib.Core.List.{List, map}
 use mathlib.Core.Logic.{_↔_}
 use native.Mathlib.Decide.{decLt}
@@ -14,7 +14,6 @@ use lib.Seq.{ext-getD}
 use Rattle.combinators.specs.Below.{none-at}
 use Rattle.combinators.specs.Lists.{Nth, nth-inside, nth-getD, nth-of-map, nth-one}
 use Rattle.framing.specs.Pieces.{Item, whole, broken, cut}
-use Rattle.sets.specs.Sets.{has}
 use Rattle.vocabulary.specs.declared.stream_types.Reading.{Reading}
 use Rattle.vocabulary.specs.declared.stream_types.Reading.the-variants.{Edition2015}
 use Rattle.loop_entries.specs.declared.Entry.{Entry}
@@ -24,13 +23,12 @@ use Rattle.loop_faults.specs.Conditions.{pidAt, streamAt}
 use Rattle.es_loop.specs.declared.reader.Outcome.the-variants.{Accepted}
 use Rattle.es_loop.specs.declared.reader.LoopRead.{LoopRead}
 use Rattle.es_loop.specs.Reading.{accepted, loopRead}
-use Rattle.es_loop.specs.Meaning as Loop
 use Rattle.es_loop.proofs.Judged.{Taken, taken}
 use Rattle.es_loop.proofs.Meant.{answer-only}
 use Rattle.records.specs.Records.{indexOf}
 use Rattle.loop_layers.specs.Layers.{tableOf, presentIn, columnOf}
 use Rattle.loop_layers.specs.Closures.{entriesRead}
-use Rattle.loop_layers.specs.Meaning.{LayerAt, LayerOf, HasLayer}
+use Rattle.loop_layers.specs.Meaning.{LayerOf, HasLayer}
 use Rattle.loop_layers.proofs.Columns.{column-meant}
 use Rattle.loop_layers.proofs.Meant.{layers-meant, entries-read}
 use Rattle.loop_layers.proofs.Accepted.{index-small, every-layer}

@@ -1,7 +1,7 @@
 -- The last packet that is kept of a layer is the last on the layer's PID.
 -- Assumes nothing.
 use Prim.Native.Nat.{ℕ}
-use mathlib.Core.Path.{_≡_, _∙_, ap}
+use mathlib.Core.Path.{_∙_, ap}
 use mathlib.Core.List.{List, map}
 use lib.ListN.{getD}
 use Rattle.framing.specs.Pieces.{Item}

@@ -1,11 +1,9 @@
 -- The laws that join the meaning of the whole import to what is computed, both ways.
 -- Assumes nothing.
-use Prim.Native.Nat.{ℕ, _≤_}
+use Prim.Native.Nat.{ℕ}
 use mathlib.Core.List.{List, map}
 use mathlib.Core.Path.{_≡_, refl, sym, _∙_, ap, ap₂, subst}
 use native.Mathlib.Omega.{arith}
-use lib.ListN.{length}
-use Rattle.framing.specs.Pieces.{Item}
 use Rattle.vocabulary.specs.declared.stream_types.Reading.{Reading}
 use Rattle.vocabulary.specs.declared.stream_types.Reading.the-variants.{Edition2015}
 use Rattle.vocabulary.specs.declared.refusal.Refusal.{Refusal}
@@ -26,15 +24,13 @@ use Rattle.closure.specs.Meaning as Target
 use Rattle.closure.proofs.Meant.{closure-meant, closure-only}
 use Rattle.heads.proofs.Orderly.{closed}
 use Rattle.loop_layers.specs.Layers.{layersOf}
-use Rattle.loop_layers.specs.Closures.{entriesRead, closureFor}
+use Rattle.loop_layers.specs.Closures.{entriesRead}
 use Rattle.loop_layers.specs.Meaning.{LayersOf}
 use Rattle.loop_layers.proofs.Meant.{layers-only, entries-read}
 use Rattle.agreement.specs.Agreement.{accepts}
 use Rattle.agreement.specs.Entries.{IsAccepted}
 use Rattle.scanning.specs.declared.events.Row.{Row}
-use Rattle.scanning.specs.Events.{packetsIn}
 use Rattle.recordings.specs.declared.Recording.{Recording}
-use Rattle.recordings.specs.declared.Recording.the-variants as Recording
 use Rattle.recordings.specs.Meaning.{RowsFrom}
 use Rattle.recordings.specs.Meaning as Recordings
 use Rattle.recordings.proofs.AnswerMeant as recordings
@@ -42,13 +38,11 @@ use Rattle.rows.specs.Table.{Table}
 use Rattle.unit_lists.specs.Sequence.{Lists}
 use Rattle.join_answers.specs.declared.answer.Joined.{Joined}
 use Rattle.join_answers.specs.declared.answer.Joined.the-variants.{Units, Refused}
-use Rattle.join_answers.specs.Joining.{Room, roomOf, joinedIn, joinedOf, listsAfter}
+use Rattle.join_answers.specs.Joining.{roomOf, joinedIn, joinedOf, listsAfter}
 use Rattle.join_answers.specs.Meaning as Joining
 use Rattle.join_answers.proofs.Meant as joining
-use Rattle.recording_layers.specs.Meaning.{ByPid}
 use Rattle.recording_layers.proofs.Meant.{layer-pids}
 use Rattle.recording_imports.specs.declared.Imported.{Imported}
-use Rattle.recording_imports.specs.declared.RowsRead.{RowsRead}
 use Rattle.recording_imports.specs.Rows.{pidTable, rowsOf, rowsTold, rowsFor}
 use Rattle.recording_imports.specs.Imports.{layersOfLoop, outcomeOf, outcomeFor, outcomeAsked, importedOf, importedBy, tableOf, recordingWith, importOf, listsWith, importLists}
 use Rattle.recording_meaning.specs.Meaning.{Asked, Answers, loop-refused, no-closure, faulty, not-read, too-many, joined}

@@ -1,8 +1,8 @@
 -- The laws that join the meaning of rows and columns to what is computed, both ways.
 -- Assumes nothing.
 use Prim.Native.Nat.{ℕ}
-use mathlib.Core.List.{List, map}
-use mathlib.Core.Path.{_≡_, refl, sym, _∙_, ap, ap₂, subst, subst₂}
+use mathlib.Core.List.{List}
+use mathlib.Core.Path.{_≡_, refl, sym, _∙_, ap, ap₂, subst}
 use native.Mathlib.Omega.{arith}
 use lib.ListN.{length}
 use Rattle.vocabulary.specs.declared.stream_types.Reading.the-variants.{Edition2015}
@@ -21,21 +21,19 @@ use Rattle.agreement.specs.Entries.{IsAccepted}
 use Rattle.unit_starts.specs.Finding.{foundIn, rowsIn}
 use Rattle.recording_rows.specs.Columns.{Columns, overAll}
 use Rattle.scanning.specs.declared.events.Row.{Row}
-use Rattle.scanning.specs.Events.{packetsIn}
 use Rattle.recordings.specs.declared.Recording.{Recording}
 use Rattle.recordings.specs.declared.Recording.the-variants as Recording
 use Rattle.recordings.specs.Reading.{answerOf}
-use Rattle.recordings.specs.Meaning.{RowsFrom}
 use Rattle.recordings.specs.Meaning as Recordings
 use Rattle.recordings.proofs.AnswerMeant as recordings
 use Rattle.recording_layers.proofs.Meant.{layer-pids}
 use Rattle.recording_imports.specs.declared.RowsRead.{RowsRead}
-use Rattle.recording_imports.specs.declared.RowsRead.the-variants.{Rows, Refused, NotRead}
+use Rattle.recording_imports.specs.declared.RowsRead.the-variants.{Rows, NotRead}
 use Rattle.recording_imports.specs.Rows.{loopLayers, pidTable, rowsOf, rowsTold, rowsFor, columnsWith}
-use Rattle.recording_imports.specs.Imports.{layersOfLoop, outcomeOf, outcomeFor, recordingWith, importRows, importColumns}
+use Rattle.recording_imports.specs.Imports.{layersOfLoop, outcomeOf, outcomeFor, recordingWith, importColumns}
 use Rattle.recording_meaning.specs.Meaning.{Asked}
 use Rattle.recording_meaning.specs.Rows.{UnderLoop, Gives, ReadsRows, loop-refused, faulty, not-read, too-many, all-rows, Leaves, rows-laid, untouched}
-use Rattle.recording_meaning.proofs.Meant.{refused-read, asked-meant, AskedOnly, asked-only}
+use Rattle.recording_meaning.proofs.Meant.{refused-read, asked-meant, asked-only}
 
 -- ---- the rows that packets give
 

@@ -19,7 +19,7 @@ use Rattle.join_answers.specs.Meaning as Joining
 use Rattle.recording_rows.specs.Columns.{Columns, columns}
 use Rattle.recording_imports.specs.declared.Imported.{Imported}
 use Rattle.recording_imports.specs.declared.Imported.the-variants as Imported
-use Rattle.recording_imports.specs.Imports.{importedOf, placesFor, importOf, importColumns, importLists}
+use Rattle.recording_imports.specs.Imports.{importedOf, placesFor, importOf, importLists}
 use Rattle.recording_meaning.specs.Meaning.{Answers, loop-refused, no-closure, faulty, not-read, too-many, joined}
 use Rattle.recording_meaning.specs.Rows.{Leaves}
 use Rattle.recording_meaning.proofs.Meant.{import-meant, import-only}
