@@ -10,6 +10,8 @@ use Rattle.promised.specs.Calls.{Promised}
 use Rattle.promised.specs.Readers.{readLoop, loop-read, closureOfTarget, closure-found, closureOfLoop, loop-closure-found, readTimes, times-read}
 use Rattle.promised.specs.Writers.{writeLoop, loop-written, writeTimes, times-written}
 use Rattle.promised.specs.Joiners.{joinTable, table-joined, joinRows, rows-joined, joinLong, long-joined, importLoop, loop-imported}
+use Rattle.recording_promises.specs.Rows.{readRows, rows-are-read}
+use Rattle.recording_promises.specs.Imports.{importPackets, packets-imported, importLong, long-imported}
 use Rattle.demands.specs.Told.{forC}
 use Rattle.demands.specs.Others.{RefuseNothing, refuse-nothing}
 use Rattle.demands.specs.ForC.{thqReadLoop, thqWriteLoop, thqClosure, thqReadTimes, thqWriteTimes}
@@ -47,6 +49,11 @@ pub record Demand-1 : Type 0 where
   pub joining-long-tables : Promised joinLong
   -- 1 to 9, 11 to 18
   pub importing : Promised importLoop
+  -- 1 to 9, 13, 20 to 24, 30 to 33, of the packets of a recording
+  pub reading-rows-of-packets : Promised readRows
+  -- 1 to 9, 11 to 18, 20 to 24, 30 to 33, of at most 512 rows, and of as many as columns and work space have places for
+  pub importing-packets : Promised importPackets
+  pub importing-long-recordings : Promised importLong
   -- 1 to 9, 17, 255
   pub thq-read-loop : Promised (forC thqReadLoop)
   -- 1, 3, 6 to 9, 17, 25
@@ -102,6 +109,9 @@ demand-1 =
       joining-rows = rows-joined;
       joining-long-tables = long-joined;
       importing = loop-imported;
+      reading-rows-of-packets = rows-are-read;
+      importing-packets = packets-imported;
+      importing-long-recordings = long-imported;
       thq-read-loop = thq-loop-read;
       thq-write-loop = thq-loop-written;
       thq-closure = thq-closure-found;

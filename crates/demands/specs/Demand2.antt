@@ -208,7 +208,7 @@ imported-meant {given} means is-answer is-after = go (rw (is-answer, is-after) a
         record { streams = streams; layers = layers; loop-accepted = a; layers-of-loop = m; one-unit-each = one-unit-each {given = overLayers given layers} j }
 
 -- whatever is right says so
-says : (given : RowsGiven) {answer : Joined} {left : Lists} → joinRows .Means given answer left → Says given answer left
+pub says : (given : RowsGiven) {answer : Joined} {left : Lists} → joinRows .Means given answer left → Says given answer left
 says given {answer} {left} means =
     let computed = joining.joined-only (given .most) (given .layers) (given .target) (given .rows) (given .before) means .is-answer in
     record {

@@ -20,6 +20,7 @@ pub mod Demand3
 pub mod Embedding
 pub mod EveryRow
 pub mod OtherLayers
+pub mod Recordings
 pub mod LayerSets
 pub mod StereoSets
 pub mod OperationPoints
