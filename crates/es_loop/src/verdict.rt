@@ -19,7 +19,7 @@ use vocabulary::Reading;
 use vocabulary::Refusal;
 
 // The number of an entry that does not fit, or one of whose descriptors does not: behind it there is nothing to judge.
-const DOES_NOT_FIT: u8 = 2;
+const DOES_NOT_FIT: usize = 2;
 
 // How many entries an accepted loop has, and whether it has the two views without a hierarchy descriptor; or the refusal.
 pub enum Verdict {

@@ -44,7 +44,7 @@ fn pid_held(present: u64, entries: [Entry; 64], pid: u16) -> bool
 
 // The lowest of 3 and 6 to 9 that applies to an entry which is to be added, or 10 where none does: it is judged as a loop is that has the set's layers before it. An
 // entry that is no layer, and one with the implied mark, is refused with 6.
-fn fault_of(present: u64, entries: [Entry; 64], entry: Entry) -> u8
+fn fault_of(present: u64, entries: [Entry; 64], entry: Entry) -> usize
     ensures { λ r. ⌜ r ≡ faultOf present entries entry ⌝ }
 {
     let record = entry.record;

@@ -18,20 +18,20 @@ use vocabulary::Reading;
 use vocabulary::Refusal;
 
 // Past all numbers that are judged at an entry.
-pub const NO_FAULT: u8 = 10;
+pub const NO_FAULT: usize = 10;
 
 // Where the mark of streams that are no layer stands, past all values of an index's byte.
 const RECORDLESS: usize = 256;
 
-// A number that applies, and the entry at which it does.
+// A number that applies, and the entry at which it does. Both are words, so that a walk that keeps the lowest copies no room between them.
 pub struct Fault {
-    pub number: u8,
+    pub number: usize,
     pub place: usize,
 }
 
 // The lowest number, from 2 to 9, that applies at an entry, or 10 where none does. The caller says whether it is given the implied mark,
 // whether an earlier entry has its PID, and whether an earlier layer holds its index.
-pub fn lowest_fault(given: bool, pid_seen: bool, index_held: bool, outline: Outline) -> u8
+pub fn lowest_fault(given: bool, pid_seen: bool, index_held: bool, outline: Outline) -> usize
     ensures { λ r. ⌜ r ≡ firstTrue (tests given «pid_seen» «index_held» outline) ⌝ }
 {
     if !outline.fits {
@@ -50,7 +50,7 @@ pub fn lowest_fault(given: bool, pid_seen: bool, index_held: bool, outline: Outl
 }
 
 // The same of what is judged on the record alone, and of its index: 6 to 9.
-fn judged_fault(given: bool, index_held: bool, outline: Outline) -> u8
+fn judged_fault(given: bool, index_held: bool, outline: Outline) -> usize
     ensures { λ r. ⌜ r ≡ 6 + firstTrue (recordTests given «index_held» outline) ⌝ }
 {
     let record = outline.record;
@@ -81,7 +81,7 @@ pub fn slot_of(stream_type: u8, record: Record) -> usize
 }
 
 // The lower of two faults, the earlier where their numbers are the same.
-pub fn lower(so_far: Fault, number: u8, place: usize) -> Fault
+pub fn lower(so_far: Fault, number: usize, place: usize) -> Fault
     ensures { λ r. ⌜ r ≡ lowerOf «so_far» number place ⌝ }
 {
     if number < so_far.number {
@@ -91,7 +91,7 @@ pub fn lower(so_far: Fault, number: u8, place: usize) -> Fault
 }
 
 // A fault as a refusal.
-pub fn refusal_of(number: u8, place: usize) -> Refusal
+pub fn refusal_of(number: usize, place: usize) -> Refusal
     ensures { λ r. ⌜ r ≡ refusalOf number place ⌝ }
 {
     match number {
@@ -138,7 +138,7 @@ pub fn mark_next(
     indices: &mut [bool; 257],
     given: bool,
     outline: Outline,
-) -> u8
+) -> usize
     requires { ⌜ outline .pid < 8192 ⌝ }
     ensures { λ r. ⌜ (r ≡ faultOn given (now (pids .entry)) (now (indices .entry)) outline) × (indexOf (outline .«stream_type») (outline .«record») < 256) ⌝ }
     ensures { λ r. ⌜ (now (pids .exit) ≡ set (now (pids .entry)) (outline .pid) true) × (now (indices .exit) ≡ set (now (indices .entry)) (slotOf (outline .«stream_type») (outline .«record»)) true) ⌝ }
@@ -159,7 +159,7 @@ pub fn mark_recordless(
     indices: &mut [bool; 257],
     given: bool,
     pid: u16,
-) -> u8
+) -> usize
     requires { ⌜ pid < 8192 ⌝ }
     ensures { λ r. ⌜ r ≡ faultWithout given (getD (now (pids .entry)) pid false) ⌝ }
     ensures { λ r. ⌜ (now (pids .exit) ≡ set (now (pids .entry)) pid true) × (now (indices .exit) ≡ set (now (indices .entry)) 256 true) ⌝ }
@@ -185,7 +185,7 @@ pub fn judge_entry(
     reading: Reading,
     pair: bool,
     entry: &[u8],
-) -> u8
+) -> usize
     requires { ⌜ 5 ≤ length (now entry) ⌝ }
     ensures { λ r. ⌜ (r ≡ faultAt (given pair (streamIn reading pair (now (entry .entry)) .«stream_type»)) (now (pids .entry)) (now (indices .entry)) (streamIn reading pair (now (entry .entry)))) × (indexOf (streamIn reading pair (now (entry .entry)) .«stream_type») (streamIn reading pair (now (entry .entry)) .seen .«record») < 256) ⌝ }
     ensures { λ r. ⌜ (now (pids .exit) ≡ set (now (pids .entry)) (streamIn reading pair (now (entry .entry)) .pid) true) × (now (indices .exit) ≡ set (now (indices .entry)) (slotOf (streamIn reading pair (now (entry .entry)) .«stream_type») (streamIn reading pair (now (entry .entry)) .seen .«record»)) true) ⌝ }

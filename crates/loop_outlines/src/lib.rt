@@ -2,15 +2,16 @@
 // bytes of the entry; a walk that judges hands on a few words for each entry, and no list.
 ghost use mathlib.Core.Path.{_≡_};
 ghost use Prim.Native.Nat.{_≤_};
-ghost use lib.ListN.{length, take, drop};
+ghost use mathlib.Core.Bool.{true};
+ghost use lib.ListN.{length, getD, take, drop};
 ghost use Rattle.combinators.specs.Padding.{padTo};
 ghost use Rattle.framing.specs.Pieces.{whole};
+ghost use Rattle.vocabulary.specs.StreamTypes.{known};
 ghost use Rattle.extension.specs.Extension.{noLayer};
-ghost use Rattle.descriptors.specs.Finding.{listBefore, seenBy, Within};
+ghost use Rattle.descriptors.specs.Finding.{listBefore, Within};
 ghost use Rattle.judging.specs.Judging.{TellsEmbedded};
-ghost use Rattle.loop_entries.specs.Entries.{seenIn, streamOf, markedStream};
+ghost use Rattle.loop_entries.specs.Entries.{streamOf, markedStream};
 ghost use Rattle.loop_outlines.specs.Outlines.{outlineOf};
-use descriptors::Found;
 use descriptors::Record;
 use loop_entries::elementary_pid;
 use vocabulary::Reading;
@@ -23,16 +24,6 @@ pub struct Outline {
     pub second_record: bool,
     pub record: Record,
     pub wrong_embedded: bool,
-}
-
-// The descriptors of a stream are looked into only where the reading knows its type.
-pub fn find_in(reading: Reading, stream_type: u8, info: &[u8]) -> Found
-    ensures { λ r. ⌜ (seenBy (now (info .entry)) r ≡ seenIn reading «stream_type» (now (info .entry))) × Within (now (info .entry)) (r .«record») (r .end) ⌝ }
-{
-    if vocabulary::knows(reading, stream_type) {
-        return descriptors::find_records(reading, info);
-    }
-    descriptors::nothing_found()
 }
 
 // Refusal 9 of a record whose descriptor ends at `end`: an extension's list are its last bytes.
@@ -51,15 +42,15 @@ fn wrong_found(record: Record, end: usize, info: &[u8]) -> bool
     }
 }
 
-// A whole entry, with its mark where the loop has the two views without a hierarchy descriptor and it is one of them.
+// A whole entry of a type that the reading knows, with its mark where the loop has the two views without a hierarchy descriptor and it is one of them.
 pub fn read_outline(reading: Reading, pair: bool, entry: &[u8]) -> Outline
-    requires { ⌜ 5 ≤ length (now entry) ⌝ }
+    requires { ⌜ (5 ≤ length (now entry)) × (known reading (getD (now entry) 0 0) ≡ true) ⌝ }
     ensures { λ r. ⌜ r ≡ outlineOf (markedStream pair (streamOf reading (whole (take 5 (now (entry .entry))) (drop 5 (now (entry .entry)))))) ⌝ }
 {
     let stream_type = entry[0];
     let pid = elementary_pid(entry[1], entry[2]);
     let info = &entry[5..];
-    let found = find_in(reading, stream_type, info);
+    let found = descriptors::find_records(reading, info);
     let record = found.record;
     let wrong_embedded = wrong_found(record, found.end, info);
     Outline {

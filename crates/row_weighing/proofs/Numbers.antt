@@ -3,28 +3,35 @@
 use Prim.Native.Nat.{ℕ, zero, suc, _+_, _≤_}
 use mathlib.Core.Path.{_≡_, refl, sym, _∙_, ap, ap₂}
 use mathlib.Core.Logic.{_≢_}
-use mathlib.Core.Bool.{false}
+use mathlib.Core.Bool.{Bool, true, false}
 use mathlib.Core.List.{List, [], _∷_, map}
 use native.Mathlib.Omega.{arith}
 use lib.ListN.{length, getD, take, drop, length-drop, length-map}
 use lib.Seq.{length-take-le}
-use Rattle.combinators.specs.Lists.{any}
+use Rattle.combinators.specs.Lists.{any, firstTrue}
 use Rattle.combinators.specs.Padding.{padTo, length-padTo}
 use Rattle.syntax.specs.Named.{byNames}
 use Rattle.syntax.specs.Filled.{tooWideIn}
 use Rattle.vocabulary.specs.declared.LayerIndex.{LayerIndex}
+use Rattle.vocabulary.specs.declared.stream_types.Reading.the-variants.{Edition2015}
+use Rattle.hierarchy.specs.declared.HierarchyRecord.{HierarchyRecord}
+use Rattle.hierarchy.specs.Hierarchy.{hierarchyDescriptor, hierarchyFrom}
 use Rattle.extension.specs.declared.ExtensionRecord.{ExtensionRecord}
 use Rattle.extension.specs.Extension.{extensionHead, noLayer, extensionFrom}
-use Rattle.records.specs.declared.Record.the-variants.{Extension}
-use Rattle.records.specs.Records.{plain, recordTables}
+use Rattle.records.specs.declared.Record.the-variants.{Hierarchy, Extension}
+use Rattle.records.specs.Records.{plain, hierarchyList, recordTables}
 use Rattle.records.proofs.Naming.{padded-list}
 use Rattle.records.proofs.Sizes.{record-size}
 use Rattle.judging.specs.Judging.{wrongList, wrongEmbedded}
 use Rattle.loop_entries.specs.declared.Entry.{Entry}
+use Rattle.loop_outlines.specs.declared.Outline.{Outline}
+use Rattle.loop_outlines.specs.Outlines.{outlineOf}
+use Rattle.loop_faults.specs.Outlined.{tests}
 use Rattle.loop_writer.specs.Layout.{entryBytes, tooWide}
+use Rattle.loop_writer.specs.Verdict.{streamFor}
 use Rattle.loop_writer.proofs.Entries.{record-fit}
 use Rattle.entry_rows.specs.Rows.{fieldsIn, listIn, layerOf, rowTooWide, entryIn}
-use Rattle.entry_rows.proofs.Laws.{extension-entry, no-record-entry, implied-entry}
+use Rattle.entry_rows.proofs.Laws.{hierarchy-entry, extension-entry, no-record-entry, implied-entry}
 use Rattle.entry_rows.proofs.Judged.{kind-fine, extension-fine}
 use Rattle.entry_rows.proofs.Fits.{entry-fits}
 use Rattle.entry_rows.proofs.Widths.{row-bounds}
@@ -79,3 +86,26 @@ module _ (row : List ℕ) (fine : rowTooWide row ≡ false) where
       go (suc (suc zero)) e h = absurd (two e)
       go (suc (suc (suc zero))) e h = ap (λ (x : Entry). length (entryBytes x)) (implied-entry row e)
       go (suc (suc (suc (suc kind)))) e h = absurd (omega arith)
+
+-- A hierarchy descriptor that is judged with no outline made of it.
+module _ (row : List ℕ) where
+  abbrev pub hierarchyIn : HierarchyRecord
+  hierarchyIn = hierarchyFrom (byNames (hierarchyDescriptor Edition2015) (fieldsIn (hierarchyDescriptor Edition2015) row))
+
+  abbrev pub outlineWith : HierarchyRecord → Outline
+  outlineWith h =
+      record {
+        fits = true;
+        «stream_type» = getD row 0 0;
+        pid = getD row 1 0;
+        «wrong_length» = false;
+        «second_record» = false;
+        «record» = Hierarchy h;
+        «wrong_embedded» = wrongList (plain (h .«layer_index»)) (map plain (hierarchyList h));
+      }
+
+  pub hierarchy-tests : getD row 2 0 ≡ 1 → (given seen held : Bool) (h : HierarchyRecord) → h ≡ hierarchyIn
+      → firstTrue (tests given seen held (outlineWith h)) ≡ firstTrue (tests given seen held (outlineOf (streamFor (entryIn row))))
+  hierarchy-tests one given seen held h made =
+      ap (λ (x : HierarchyRecord). firstTrue (tests given seen held (outlineWith x))) made
+      ∙ ap (λ (e : Entry). firstTrue (tests given seen held (outlineOf (streamFor e)))) (hierarchy-entry row one)

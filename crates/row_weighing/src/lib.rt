@@ -4,15 +4,18 @@ ghost use mathlib.Core.Bool.{true, false};
 ghost use mathlib.Core.Logic.{_≢_};
 ghost use Prim.Native.Nat.{_+_, _*_, _≤_, _<_};
 ghost use lib.ListN.{length, getD, set, replicate};
+ghost use Rattle.combinators.specs.Lists.{firstTrue};
 ghost use Rattle.records.specs.Records.{indexOf};
 ghost use Rattle.judging.specs.Judging.{wrongList};
 ghost use Rattle.loop_outlines.specs.Outlines.{outlineOf};
 ghost use Rattle.loop_faults.specs.Conditions.{faultAt, slotOf};
+ghost use Rattle.loop_faults.specs.Outlined.{tests};
 ghost use Rattle.loop_writer.specs.Layout.{entryBytes};
 ghost use Rattle.loop_writer.specs.Verdict.{streamFor, givenTo};
 ghost use Rattle.loop_writer.specs.Weighing.{weighedNext};
 ghost use Rattle.entry_rows.specs.Rows.{rowTooWide, entryIn};
 use descriptors::Record;
+use loop_faults::NO_FAULT;
 use loop_faults::lower;
 use loop_faults::mark_next;
 use loop_faults::mark_recordless;
@@ -49,20 +52,49 @@ fn wrong_numbers(own: u16, list: &[u16]) -> bool
     false
 }
 
-fn hierarchy_outline(row: &[u16]) -> Outline
+// The lowest number that applies to a row with a hierarchy descriptor, by whether an earlier row has its PID and whether an earlier layer holds its index. It is judged
+// where it stands: in an outline it would go through memory.
+fn hierarchy_number(given: bool, pid_seen: bool, index_held: bool, row: &[u16]) -> usize
     requires { ⌜ (80 ≤ length (now row)) × (rowTooWide (now row) ≡ false) × (getD (now row) 2 0 ≡ 1) ⌝ }
-    ensures { λ r. ⌜ r ≡ outlineOf (streamFor (entryIn (now (row .entry)))) ⌝ }
+    ensures { λ r. ⌜ r ≡ firstTrue (tests given «pid_seen» «index_held» (outlineOf (streamFor (entryIn (now (row .entry)))))) ⌝ }
 {
-    let hierarchy = hierarchy_in(row);
-    Outline {
-        fits: true,
-        stream_type: row[0] as u8,
-        pid: row[1],
-        wrong_length: false,
-        second_record: false,
-        record: Record::Hierarchy(hierarchy),
-        wrong_embedded: judging::wrong_hierarchy_index(hierarchy),
+    if pid_seen {
+        return 3;
     }
+    let hierarchy = hierarchy_in(row);
+    let record = Record::Hierarchy(hierarchy);
+    if judging::type_not_allowed(given, row[0] as u8, record) {
+        return 6;
+    }
+    if judging::wrong_flags(record) {
+        return 7;
+    }
+    if index_held {
+        return 8;
+    }
+    if judging::wrong_hierarchy_index(hierarchy) {
+        return 9;
+    }
+    NO_FAULT
+}
+
+// The same with the marks, in which its PID and its layer index are set.
+fn mark_hierarchy(
+    pids: &mut [bool; 8192],
+    indices: &mut [bool; 257],
+    given: bool,
+    row: &[u16],
+) -> usize
+    requires { ⌜ (80 ≤ length (now row)) × (rowTooWide (now row) ≡ false) × (getD (now row) 2 0 ≡ 1) ⌝ }
+    ensures { λ r. ⌜ (r ≡ faultAt given (now (pids .entry)) (now (indices .entry)) (streamFor (entryIn (now (row .entry))))) × (indexOf (entryIn (now (row .entry)) .«stream_type») (entryIn (now (row .entry)) .«record») < 256) ⌝ }
+    ensures { λ r. ⌜ (now (pids .exit) ≡ set (now (pids .entry)) (entryIn (now (row .entry)) .pid) true) × (now (indices .exit) ≡ set (now (indices .entry)) (slotOf (entryIn (now (row .entry)) .«stream_type») (entryIn (now (row .entry)) .«record»)) true) ⌝ }
+{
+    let pid = row[1] as usize;
+    let index = row[8] as usize;
+    let number = hierarchy_number(given, pids[pid], indices[index], row);
+    pids[pid] = true;
+    indices[index] = true;
+    number
 }
 
 fn extension_outline(row: &[u16]) -> Outline
@@ -98,16 +130,12 @@ fn implied_outline(row: &[u16]) -> Outline
     }
 }
 
-// A row with a record as it is judged.
+// A row with an extension, or with the implied mark, as it is judged.
 fn outline_in(row: &[u16]) -> Outline
-    requires { ⌜ (80 ≤ length (now row)) × (rowTooWide (now row) ≡ false) × (getD (now row) 2 0 ≢ 0) ⌝ }
+    requires { ⌜ (80 ≤ length (now row)) × (rowTooWide (now row) ≡ false) × (getD (now row) 2 0 ≢ 0) × (getD (now row) 2 0 ≢ 1) ⌝ }
     ensures { λ r. ⌜ r ≡ outlineOf (streamFor (entryIn (now (row .entry)))) ⌝ }
 {
-    let kind = row[2];
-    if kind == 1 {
-        return hierarchy_outline(row);
-    }
-    if kind == 2 {
+    if row[2] == 2 {
         return extension_outline(row);
     }
     implied_outline(row)
@@ -115,14 +143,18 @@ fn outline_in(row: &[u16]) -> Outline
 
 // One row more, by whether the rows have the two views without a hierarchy descriptor: the lowest number that applies to it, and the marks with its PID and its
 // layer index.
-fn mark_row(pids: &mut [bool; 8192], indices: &mut [bool; 257], pair: bool, row: &[u16]) -> u8
+fn mark_row(pids: &mut [bool; 8192], indices: &mut [bool; 257], pair: bool, row: &[u16]) -> usize
     requires { ⌜ (80 ≤ length (now row)) × (rowTooWide (now row) ≡ false) ⌝ }
     ensures { λ r. ⌜ (r ≡ faultAt (givenTo pair (entryIn (now (row .entry)))) (now (pids .entry)) (now (indices .entry)) (streamFor (entryIn (now (row .entry))))) × (indexOf (entryIn (now (row .entry)) .«stream_type») (entryIn (now (row .entry)) .«record») < 256) ⌝ }
     ensures { λ r. ⌜ (now (pids .exit) ≡ set (now (pids .entry)) (entryIn (now (row .entry)) .pid) true) × (now (indices .exit) ≡ set (now (indices .entry)) (slotOf (entryIn (now (row .entry)) .«stream_type») (entryIn (now (row .entry)) .«record»)) true) ⌝ }
 {
     let given = implied::gives(pair, row[0] as u8);
-    if row[2] == 0 {
+    let kind = row[2];
+    if kind == 0 {
         return mark_recordless(pids, indices, given, row[1]);
+    }
+    if kind == 1 {
+        return mark_hierarchy(pids, indices, given, row);
     }
     let outline = outline_in(row);
     mark_next(pids, indices, given, outline)

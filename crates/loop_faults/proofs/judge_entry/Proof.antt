@@ -25,7 +25,7 @@ knows-requires : tie.Need-knows-requires
 knows-requires c κs = search needs
 
 read-outline-requires : tie.Need-read-outline-requires
-read-outline-requires c κs = search needs
+read-outline-requires c κs = (c .before .before .before .before .pre, sym (c .before .knows .ensures) ∙ c .if1 .taken)
 
 gives-requires : tie.Need-gives-requires
 gives-requires c κs = search needs

@@ -1,11 +1,13 @@
 -- `loop_outlines::read_outline` meets its contract: at bytes, the head's values are those that the code takes, and what is found is what is seen.
 -- Assumes nothing.
 use Prim.Native.Nat.{ℕ, _-_}
-use mathlib.Core.Path.{_∙_, ap, ap₂}
+use mathlib.Core.Path.{sym, _∙_, ap, ap₂}
+use mathlib.Core.Bool.{Bool, cond}
 use mathlib.Core.List.{List}
 use native.Mathlib.Omega.{arith}
 use lib.ListN.{length, getD, take, drop}
 use Rattle.combinators.specs.Lists.{part-to-end}
+use Rattle.descriptors.specs.Looking.{seenOf, nothingSeen}
 use Rattle.loop_entries.specs.declared.Stream.{Stream}
 use Rattle.loop_entries.specs.Entries.{seenIn, markedStream}
 use Rattle.loop_entries.proofs.Heads.{stream-bytes}
@@ -36,11 +38,11 @@ part-info-start c = search needs
 part-info-end : tie.Need-part-info-end
 part-info-end c = search needs
 
-find-in-requires : tie.Need-find-in-requires
-find-in-requires c κs = search needs
+find-records-requires : tie.Need-find-records-requires
+find-records-requires c κs = search needs
 
 wrong-found-requires : tie.Need-wrong-found-requires
-wrong-found-requires c κs = c .find-in .ensures .1
+wrong-found-requires c κs = c .find-records .ensures .1
 
 mark-requires : tie.Need-mark-requires
 mark-requires c κs = search needs
@@ -51,10 +53,12 @@ returns c =
     let entry : List ℕ = a .entry .now in
     let part : List ℕ = take (length entry - 5) (drop 5 entry) in
     let type : ℕ = getD entry 0 0 in
-    let found = c .before .before .find-in in
+    let found = c .before .before .find-records in
     let wrong = c .before .wrong-found in
     let pid = c .before .before .before .before .elementary-pid in
-    outlined (a .pair) type (pid .result) part (found .result) (seenIn (a .reading) type part) (found .ensures .0) (c .mark .result) (c .mark .ensures) (wrong .result)
+    let knows = c .before .before .before .before .before .before .before .before .before .pre .1 in
+    let seen = found .ensures .0 ∙ sym (ap (λ (b : Bool). cond b (seenOf (a .reading) part) nothingSeen) knows) in
+    outlined (a .pair) type (pid .result) part (found .result) (seenIn (a .reading) type part) seen (c .mark .result) (c .mark .ensures) (wrong .result)
     (wrong .ensures)
     ∙ ap₂ (λ (info : List ℕ) (n : ℕ). outlineWith (a .pair) type n (seenIn (a .reading) type info)) (part-to-end entry 5) (pid .ensures)
     ∙ ap (λ (s : Stream). outlineOf (markedStream (a .pair) s))
@@ -71,7 +75,7 @@ read-outline-spec =
     sub-info
     part-info-start
     part-info-end
-    find-in-requires
+    find-records-requires
     wrong-found-requires
     mark-requires
     returns)

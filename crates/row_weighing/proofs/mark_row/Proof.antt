@@ -1,4 +1,4 @@
--- `row_weighing::mark_row` meets its contract: without a record the PID and the mark decide, and else the outline is judged.
+-- `row_weighing::mark_row` meets its contract: which kind of record the row has decides how it is judged.
 -- Assumes nothing.
 use Prim.Native.Nat.{ℕ, _<_}
 use mathlib.Core.Path.{_≡_, sym, _∙_, ap, ap₂, subst}
@@ -32,8 +32,8 @@ cast-gives c = record { fits = type-bound _ (c .before .before .pre .1) }
 gives-requires : tie.Need-gives-requires
 gives-requires c κs = search needs
 
-shared-slice-read-if1 : tie.Need-shared-slice-read-if1
-shared-slice-read-if1 c = search needs
+shared-slice-read-kind : tie.Need-shared-slice-read-kind
+shared-slice-read-kind c = search needs
 
 shared-slice-read-mark-recordless : tie.Need-shared-slice-read-mark-recordless
 shared-slice-read-mark-recordless c = search needs
@@ -57,25 +57,36 @@ returns c =
       (next .ensures .1 .0 ∙ ap (λ (e : Entry). set pids (e .pid) true) is, next .ensures .1 .1 ∙ ap (λ (e : Entry). set indices (slotOf (e .«stream_type») (e .«record»)) true) is),
     )
 
-outline-in-requires : tie.Need-outline-in-requires
-outline-in-requires c κs = let start = c .before .before .before .before .before in (start .pre .0, start .pre .1, c .if1 .left)
-
-mark-next-requires : tie.Need-mark-next-requires
-mark-next-requires c κs =
-    let start = c .before .before .before .before .before .before .before .before in
-    let row : List ℕ = start .args .row .now in
-    subst (λ (o : Outline). o .pid < 8192) (sym (c .before .before .outline-in .ensures)) (pid-small (entryIn row) (entry-fits row (start .pre .1)))
+mark-hierarchy-requires : tie.Need-mark-hierarchy-requires
+mark-hierarchy-requires c κs = let start = c .before .before .before .before .before .before .before .before in (start .pre .0, start .pre .1, c .before .before .if2 .taken)
 
 returns-2 : tie.Need-returns-2
 returns-2 c =
+    let a = c .before .before .before .before .before .before .before .before .before .args in
+    let row : List ℕ = a .row .now in
+    let next = c .mark-hierarchy in
+    let is-given = c .before .before .before .before .before .before .gives .ensures ∙ ap (given (a .pair)) (sym (entry-type row)) in
+    ((next .ensures .0 .0 ∙ ap (λ (g : Bool). faultAt g (a .pids .now) (a .indices .now) (streamFor (entryIn row))) is-given, next .ensures .0 .1), next .ensures .1)
+
+outline-in-requires : tie.Need-outline-in-requires
+outline-in-requires c κs = let start = c .before .before .before .before .before .before in (start .pre .0, start .pre .1, c .before .if1 .left, c .if2 .left)
+
+mark-next-requires : tie.Need-mark-next-requires
+mark-next-requires c κs =
     let start = c .before .before .before .before .before .before .before .before .before in
+    let row : List ℕ = start .args .row .now in
+    subst (λ (o : Outline). o .pid < 8192) (sym (c .before .before .outline-in .ensures)) (pid-small (entryIn row) (entry-fits row (start .pre .1)))
+
+returns-3 : tie.Need-returns-3
+returns-3 c =
+    let start = c .before .before .before .before .before .before .before .before .before .before in
     let a = start .args in
     let row : List ℕ = a .row .now in
     let pids : List Bool = a .pids .now in
     let indices : List Bool = a .indices .now in
     let next = c .mark-next in
     let outline = c .before .before .before .outline-in in
-    let is-given = c .before .before .before .before .before .before .gives .ensures ∙ ap (given (a .pair)) (sym (entry-type row)) in (
+    let is-given = c .before .before .before .before .before .before .before .gives .ensures ∙ ap (given (a .pair)) (sym (entry-type row)) in (
       (
         next .ensures .0 .0 ∙ ap₂ (λ (g : Bool) (o : Outline). faultOn g pids indices o) is-given (outline .ensures),
         subst (λ (o : Outline). indexOf (o .«stream_type») (o .«record») < 256) (outline .ensures) (next .ensures .0 .1),
@@ -93,10 +104,12 @@ mark-row-spec =
     shared-slice-read-gives
     cast-gives
     gives-requires
-    shared-slice-read-if1
+    shared-slice-read-kind
     shared-slice-read-mark-recordless
     mark-recordless-requires
     returns
+    mark-hierarchy-requires
+    returns-2
     outline-in-requires
     mark-next-requires
-    returns-2)
+    returns-3)

@@ -9,38 +9,30 @@ use borrow.Author.Needs.{needs}
 use Rattle.row_weighing.proofs.outline_in.Statement.{statement}
 use Rattle.row_weighing.proofs.outline_in.Tie as tie
 
-shared-slice-read-kind : tie.Need-shared-slice-read-kind
-shared-slice-read-kind c = search needs
-
-hierarchy-outline-requires : tie.Need-hierarchy-outline-requires
-hierarchy-outline-requires c κs = let start = c .before .before .before in (start .pre .0, start .pre .1, c .if1 .taken)
-
-returns : tie.Need-returns
-returns c = c .hierarchy-outline .ensures
+shared-slice-read-if1 : tie.Need-shared-slice-read-if1
+shared-slice-read-if1 c = search needs
 
 extension-outline-requires : tie.Need-extension-outline-requires
-extension-outline-requires c κs = let start = c .before .before .before .before in (start .pre .0, start .pre .1, c .if2 .taken)
+extension-outline-requires c κs = let start = c .before .before .before in (start .pre .0, start .pre .1, c .if1 .taken)
 
-returns-2 : tie.Need-returns-2
-returns-2 c = c .extension-outline .ensures
+returns : tie.Need-returns
+returns c = c .extension-outline .ensures
 
 implied-outline-requires : tie.Need-implied-outline-requires
 implied-outline-requires c κs =
-    let start = c .before .before .before .before in
-    let three : getD (start .args .row .now) 2 0 ≡ 3 = omega (arith, kind-fine (start .args .row .now) (start .pre .1), c .before .if1 .left, c .if2 .left, start .pre .2) in
+    let start = c .before .before .before in
+    let three : getD (start .args .row .now) 2 0 ≡ 3 = omega (arith, kind-fine (start .args .row .now) (start .pre .1), c .if1 .left, start .pre .2, start .pre .3) in
     (start .pre .0, start .pre .1, three)
 
-returns-3 : tie.Need-returns-3
-returns-3 c = c .implied-outline .ensures
+returns-2 : tie.Need-returns-2
+returns-2 c = c .implied-outline .ensures
 
 pub outline-in-spec : {M : Type 1} → statement M
 outline-in-spec =
     tie.close
     (tie.spec
-    shared-slice-read-kind
-    hierarchy-outline-requires
-    returns
+    shared-slice-read-if1
     extension-outline-requires
-    returns-2
+    returns
     implied-outline-requires
-    returns-3)
+    returns-2)
