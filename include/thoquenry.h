@@ -11,7 +11,7 @@
  * what it held beyond what was written.
  *
  * A buffer is a pointer and the number of its elements (not of its bytes). The pointer of a buffer of no elements may be null; no other
- * may. Buffers of one call may not overlap where one of them is written. A call takes up to 56 KB of stack (docs/BENCHMARKS.md in its
+ * may. Buffers of one call may not overlap where one of them is written. A call takes up to 70 KB of stack (docs/BENCHMARKS.md in its
  * repository has what each takes), no heap, and keeps nothing between calls, so that threads may call at the same time. The library is
  * for x86-64 Linux.
  */
