@@ -6,12 +6,11 @@ use mathlib.Core.Bool.{Bool, true, false, cond, _&&_, _||_}
 use mathlib.Core.List.{List, [], _∷_, _++_}
 use native.Mathlib.Decide.{decLt}
 use native.Mathlib.Omega.{arith}
-use borrow.Author.Tests.{lt-ltb, le-ltb, ltb-true, ltb-false, leb-true, eqb-true, eqb-false}
+use borrow.Author.Tests.{ltb-true, leb-true, eqb-true}
 use lib.Dec.{ltb, leb, eqb}
-use lib.ListN.{length, getD, take, drop, length-append, length-take, length-drop, List·getD-eq-default}
-use lib.Seq.{sets, sets-eq, take-at, drop-at, take-take, take-append-le, getD-append-add, drop-append-add, length-take-le}
+use lib.ListN.{length, getD, take, drop, length-append, length-take, length-drop, List·getD-eq-default, List·getD-append}
+use lib.Seq.{sets, sets-eq, take-at, drop-at, take-take, getD-take, take-append-le, getD-append-add, drop-append-add, length-take-le}
 use Rattle.combinators.specs.Bools.{both-left, both-right, either-way}
-use Rattle.combinators.specs.Lists.{any, any-which, any-none, nth-getD, part-to-end}
 use Rattle.framing.specs.Pieces.{Item}
 use Rattle.packets.specs.Reading.{packetBytes}
 use Rattle.vocabulary.specs.Refusals.{numberOf}
@@ -27,22 +26,19 @@ use Rattle.recording_rows.specs.Columns.{Columns}
 use Rattle.fed_packets.specs.Feeding.{Progress as Known, wholeOf, packetsWhole, fed}
 use Rattle.feeding.specs.declared.Progress.{Progress}
 use Rattle.feeding.specs.Pieces.{knownBy, Ready, Feeds}
-use Rattle.packet_states.specs.States.{stateBytes, pastOne, mostPackets, isState, tableIn, partIn, keptIn, stateOf, endsIn, progressIn, noRoomIn, numbersOf, countsOf, Standing, standing, fedOn, standingFed, noRoomAfter, mayFeed}
-use Rattle.packet_states.proofs.Judged.{Stated, stated, a-state}
+use Rattle.packet_states.specs.States.{stateBytes, mostPackets, isState, tableIn, partIn, keptIn, stateOf, endsIn, progressIn, noRoomIn, numbersOf, countsOf, Standing, standing, fedOn, standingFed, noRoomAfter, mayFeed}
+use Rattle.packet_states.specs.Meaning.{Stated}
+use Rattle.packet_states.proofs.Judged.{a-state}
 
 -- ---- a state is ready for a piece
 
-few-ends : (counts : List ℕ) → any pastOne (take 64 counts) ≡ false → 64 ≤ length counts → (i : ℕ) → getD (endsIn counts) i 0 ≤ 1
-few-ends counts e long i = go (decLt i 64)
+few-ends : (counts : List ℕ) → ((i : ℕ) → i < 64 → getD counts i 0 ≤ 1) → (i : ℕ) → getD (endsIn counts) i 0 ≤ 1
+few-ends counts few i = go (decLt i 64)
   where
-    all : length (endsIn counts) ≡ 64
-    all = length-take-le 64 counts long
-
     go : Dec (i < 64) → getD (endsIn counts) i 0 ≤ 1
-    go (yes h) = ltb-false 1 (getD (endsIn counts) i 0)
-        (any-none (endsIn counts) 0 pastOne 64 i h (omega (arith, all)) (ap (any pastOne) (take-take 64 64 counts (omega arith)) ∙ e))
+    go (yes h) = subst (λ (n : ℕ). n ≤ 1) (sym (getD-take 64 counts i 0 h)) (few i h)
     go (no h) =
-        let none : _≡_ {A = ℕ} (getD (endsIn counts) i 0) 0 = List·getD-eq-default (endsIn counts) 0 {n = i} (omega (arith, all)) in
+        let none : _≡_ {A = ℕ} (getD (endsIn counts) i 0) 0 = List·getD-eq-default (endsIn counts) 0 {n = i} (omega (arith, length-take 64 counts)) in
         omega (arith, none)
 
 module _ {state counts : List ℕ} (s : Stated state counts) where
@@ -58,7 +54,7 @@ module _ {state counts : List ℕ} (s : Stated state counts) where
             record {
               room = omega (arith, length-drop 8380 state, s .long);
               many = length-take-le 64 counts (omega (arith, s .numbers));
-              few = few-ends counts (s .few) (omega (arith, s .numbers));
+              few = few-ends counts (s .few);
             };
         few = s .rows;
       }
@@ -188,10 +184,6 @@ flag-rows no-room room before rows h k = go (eqb no-room 1) (ltb room rows) refl
     go false true e f = omega (arith, ltb-true room rows f)
     go false false e f = omega arith
 
-any-small : (l : List ℕ) → ((i : ℕ) → getD l i 0 ≤ 1) → any pastOne l ≡ false
-any-small [] f = refl
-any-small (n ∷ l) f = ap₂ _||_ (le-ltb 1 n (f zero)) (any-small l (λ i. f (suc i)))
-
 -- ---- the piece
 
 packets-few : (part size packets : ℕ) → part < packetBytes → packets ≡ (part + size) / packetBytes → packets ≤ size
@@ -272,7 +264,7 @@ module _ (piece state counts : List ℕ) (room : ℕ) (s : Stated state counts) 
       (record {
         long = state-long (tableIn state) part kept table-long (feeds .ready .long) ∙ all-bytes;
         numbers = counts-long q no-room ends many;
-        few = ap (any pastOne) (ends-of q no-room ends many) ∙ any-small ends (feeds .ready .held .few);
+        few = λ i h. subst (λ (n : ℕ). n ≤ 1) (sym (List·getD-append ends (numbersOf q no-room) 0 i (subst (λ (n : ℕ). i < n) (sym many) h))) (feeds .ready .held .few i);
         short = subst (λ (n : ℕ). n < 188) (sym (at 0)) (feeds .ready .short);
         countable = subst (λ (n : ℕ). n ≤ mostPackets) (sym (at 1)) countable;
         fault-from = subst (λ (n : ℕ). 30 ≤ n) (sym (at 2)) (range .fault-from);

@@ -1,15 +1,17 @@
 -- Whether lists are a state, from the tests that the code makes in turn; and what follows where they are one.
 -- Assumes nothing.
-use Prim.Native.Nat.{ℕ, _≤_, _<_}
-use mathlib.Core.Path.{_≡_, refl, sym, ap, ap₂, _∙_}
-use mathlib.Core.Bool.{Bool, true, false, not, _&&_}
-use mathlib.Core.List.{List}
+use Prim.Native.Nat.{ℕ, zero, suc, _≤_, _<_}
+use mathlib.Core.Path.{_≡_, refl, sym, ap, ap₂, subst, _∙_}
+use mathlib.Core.Bool.{Bool, true, false, not, _&&_, _||_}
+use mathlib.Core.List.{List, [], _∷_}
 use native.Mathlib.Omega.{arith}
-use borrow.Author.Tests.{ne-eqb, eq-eqb, eqb-true, ltb-true, ltb-false, leb-true, lt-ltb, le-leb, not-true}
+use borrow.Author.Tests.{ne-eqb, eq-eqb, eqb-true, ltb-true, ltb-false, leb-true, lt-ltb, le-ltb, le-leb, not-true}
 use lib.Dec.{ltb, leb, eqb}
-use lib.ListN.{length, getD, take}
+use lib.ListN.{length, getD, take, length-take}
+use lib.Seq.{take-take, getD-take, length-take-le}
 use Rattle.combinators.specs.Bools.{both-left, both-right}
-use Rattle.combinators.specs.Lists.{any}
+use Rattle.combinators.specs.Lists.{any, any-none}
+use Rattle.packet_states.specs.Meaning.{Stated}
 use Rattle.packet_states.specs.States.{stateBytes, stateNumbers, pastOne, mostPackets, possibleNumbers, numbersPossible, isState}
 
 module _ (state counts : List ℕ) where
@@ -36,21 +38,6 @@ module _ (state counts : List ℕ) where
 
     pub numbers-decide : past ≡ false → numbersPossible counts ≡ isState state counts
     numbers-decide t = sym (on ∙ ap (λ (x : Bool). not x && numbersPossible counts) t)
-
--- WHAT A STATE IS, number by number
-pub record Stated (state counts : List ℕ) : Type 0 where
-  pub long : length state ≡ stateBytes
-  pub numbers : length counts ≡ stateNumbers
-  pub few : any pastOne (take 64 counts) ≡ false
-  pub short : getD counts 64 0 < 188
-  pub countable : getD counts 65 0 ≤ mostPackets
-  pub fault-from : 30 ≤ getD counts 66 0
-  pub fault-to : getD counts 66 0 ≤ 34
-  pub refusal-from : 20 ≤ getD counts 68 0
-  pub refusal-to : getD counts 68 0 ≤ 25
-  pub rows : getD counts 70 0 ≤ getD counts 65 0
-  pub flag : getD counts 71 0 ≤ 1
-  pub row-there : getD counts 71 0 ≤ getD counts 70 0
 
 module _ (part number fault refusal rows no-room : ℕ) where
   abbrev t1 : Bool
@@ -117,6 +104,27 @@ module _ (part number fault refusal rows no-room : ℕ) where
   all-possible a b c d e f g h i =
       rw (lt-ltb part 188 a, le-leb number mostPackets b, le-leb 30 fault c, le-leb fault 34 d, le-leb 20 refusal e, le-leb refusal 25 f, le-leb rows number g, le-leb no-room 1 h, le-leb no-room rows i)
 
+-- ---- the last packets of the layers
+
+at-most-one : (counts : List ℕ) → 64 ≤ length counts → any pastOne (take 64 counts) ≡ false → (i : ℕ) → i < 64 → getD counts i 0 ≤ 1
+at-most-one counts long e i h =
+    let all : length (take 64 counts) ≡ 64 = length-take-le 64 counts long in
+    subst (λ (n : ℕ). n ≤ 1) (getD-take 64 counts i 0 h)
+    (ltb-false 1 (getD (take 64 counts) i 0) (any-none (take 64 counts) 0 pastOne 64 i h (omega (arith, all)) (ap (any pastOne) (take-take 64 64 counts (omega arith)) ∙ e)))
+
+none-past : (l : List ℕ) → ((i : ℕ) → i < length l → getD l i 0 ≤ 1) → any pastOne l ≡ false
+none-past [] f = refl
+none-past (n ∷ l) f = ap₂ _||_ (le-ltb 1 n (f zero (omega arith))) (none-past l (λ i h. f (suc i) (omega arith)))
+
+none-past-one : (counts : List ℕ) → ((i : ℕ) → i < 64 → getD counts i 0 ≤ 1) → any pastOne (take 64 counts) ≡ false
+none-past-one counts f = none-past (take 64 counts) here
+  where
+    here : (i : ℕ) → i < length (take 64 counts) → getD (take 64 counts) i 0 ≤ 1
+    here i h =
+        let small : i < 64 = omega (arith, length-take 64 counts) in
+        subst (λ (n : ℕ). n ≤ 1) (sym (getD-take 64 counts i 0 small)) (f i small)
+
+-- THE MEANING, both ways
 module _ (state counts : List ℕ) where
   pub stated : isState state counts ≡ true → Stated state counts
   stated e =
@@ -124,10 +132,11 @@ module _ (state counts : List ℕ) where
       let last = both-right (eqb (length counts) stateNumbers) (last-two state counts) behind in
       let p = each-possible (getD counts 64 0) (getD counts 65 0) (getD counts 66 0) (getD counts 68 0) (getD counts 70 0) (getD counts 71 0)
       (both-right (not (any pastOne (take 64 counts))) (numbersPossible counts) last) in
+      let long-enough : length counts ≡ stateNumbers = eqb-true (length counts) stateNumbers (both-left (eqb (length counts) stateNumbers) (last-two state counts) behind) in
       record {
         long = eqb-true (length state) stateBytes (both-left (eqb (length state) stateBytes) (later state counts) e);
-        numbers = eqb-true (length counts) stateNumbers (both-left (eqb (length counts) stateNumbers) (last-two state counts) behind);
-        few = not-true (any pastOne (take 64 counts)) (both-left (not (any pastOne (take 64 counts))) (numbersPossible counts) last);
+        numbers = long-enough;
+        few = at-most-one counts (omega (arith, long-enough)) (not-true (any pastOne (take 64 counts)) (both-left (not (any pastOne (take 64 counts))) (numbersPossible counts) last));
         short = p .0;
         countable = p .1;
         fault-from = p .2;
@@ -141,6 +150,6 @@ module _ (state counts : List ℕ) where
 
   pub a-state : Stated state counts → isState state counts ≡ true
   a-state s =
-      sym (numbers-decide state counts (s .long) (s .numbers) {past = false} (sym (s .few)) refl)
+      sym (numbers-decide state counts (s .long) (s .numbers) {past = false} (sym (none-past-one counts (s .few))) refl)
       ∙ all-possible (getD counts 64 0) (getD counts 65 0) (getD counts 66 0) (getD counts 68 0) (getD counts 70 0) (getD counts 71 0) (s .short) (s .countable)
       (s .fault-from) (s .fault-to) (s .refusal-from) (s .refusal-to) (s .rows) (s .flag) (s .row-there)

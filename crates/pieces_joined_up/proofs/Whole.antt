@@ -38,7 +38,7 @@ use Rattle.piece_feeding.specs.Told.{startsWith, noEnds, foundAtEnd}
 use Rattle.piece_feeding.proofs.Both.{fitting-then}
 use Rattle.piece_feeding.proofs.Meant.{fed-nothing-yet, fed-last, end-is-whole}
 use Rattle.packet_states.specs.States.{stateBytes, stateNumbers, mostPackets, isState, tableIn, partIn, keptIn, endsIn, progressIn, noRoomIn, countsOf, Standing, standing, standingFed, mayFeed}
-use Rattle.packet_states.proofs.Judged.{Stated, stated}
+use Rattle.packet_states.proofs.Judged.{stated}
 use Rattle.packet_states.proofs.Fed.{ready, progress-of, ends-of}
 use Rattle.c_answers.specs.Answers.{notACall}
 use Rattle.packet_answers.specs.Answers.{rowsAnswer}

@@ -16,7 +16,8 @@ use Rattle.fed_packets.specs.Feeding.{Progress as Known}
 use Rattle.feeding.specs.declared.Progress.{Progress}
 use Rattle.feeding.specs.Pieces.{Ready, Feeds}
 use Rattle.packet_states.specs.States.{mostPackets, isState, tableIn, partIn, keptIn, stateOf, endsIn, progressIn, noRoomIn, countsOf, standing, fedOn, noRoomAfter, mayFeed}
-use Rattle.packet_states.proofs.Judged.{Stated, stated}
+use Rattle.packet_states.specs.Meaning.{Stated}
+use Rattle.packet_states.proofs.Judged.{stated}
 use Rattle.packet_states.proofs.Fed.{ready, state-left, left-state, left-standing}
 use Rattle.c_answers.specs.Answers.{accepted, notACall}
 use Rattle.thoquenry_pieces.specs.Calls.{feedAnswer, rowsLaid, feedColumns, Becomes, FeedCall}
