@@ -29,6 +29,7 @@ same() {
     shift
     compare "$loop" "$@" >"$work/told" || { tail -n 5 "$work/told" >&2; fail "$1: library and plain implementation differ"; }
     cmp -s "$text" "$work/told" || { diff "$text" "$work/told" | head -n 10 >&2; fail "$1${2:+ for target $2}: not as expected"; }
+    [ -e units ] || return 0
     if [ $# -gt 1 ]; then set -- "$2" "$loop" "$1"; else set -- --rows 1 "$loop" "$1"; fi
     status=0
     ./units "$@" >"$work/told" || status=$?
@@ -36,6 +37,7 @@ same() {
     case $(head -n 1 "$text") in refused*) [ "$status" -eq 1 ] ;; *) [ "$status" -eq 0 ] ;; esac || fail "units $*: ends with status $status"
 }
 
+[ -e units ] || echo "recordings: left out: the command units, which is not here"
 # The loop, by the library's own writer.
 scripts/python-x86 -B $expected/loop.py >"$work/loop"
 cmp "$work/loop" $loop
