@@ -12,7 +12,7 @@ use Rattle.recording_imports.specs.Rows.{loopLayers, rowsOf, rowsUnder, columns
 use Rattle.passing.specs.Passing.{storedFrom, withRoom}
 use Rattle.fed_packets.specs.Feeding.{joinedUp}
 use Rattle.packet_states.specs.States.{stateBytes, stateNumbers, isState}
-use Rattle.packet_answers.specs.Answers.{rowsAnswer}
+use Rattle.thoquenry_packets.specs.Calls.{rowsCall}
 use Rattle.thoquenry_pieces.specs.Calls.{stateReply, startCall, FeedCall, toldCall}
 
 -- A RECORDING FED: a state that thq_packets_start has begun with a loop, and thq_packets_feed has fed these pieces, one after another, into the same columns. It says
@@ -29,7 +29,7 @@ pub data Recorded (bytes : List ℕ) (before : Columns) : List (List ℕ) → Li
 -- as far as there is room, and where that call accepts what it lays.
 pub record AsTheWhole (bytes : List ℕ) (before : Columns) (pieces : List (List ℕ)) (state counts : List ℕ) (after : Columns) : Type 0 where
   pub still-a-state : isState state counts ≡ true
-  pub tells : (places : ℕ) → roomIn before ≤ places → toldCall state counts ≡ rowsAnswer (rowsUnder bytes (joinedUp pieces) places before)
+  pub tells : (places : ℕ) → roomIn before ≤ places → toldCall state counts ≡ rowsCall bytes (joinedUp pieces) places before .answer
   pub holds : after ≡ storedFrom 0 (withRoom (roomIn before) 0 (rowsOf bytes (joinedUp pieces))) before
   pub lays : (places count : ℕ) → roomIn before ≤ places → rowsUnder bytes (joinedUp pieces) places before ≡ Rows count
       → after ≡ columnsUnder bytes (joinedUp pieces) (Rows count) before
