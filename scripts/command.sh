@@ -30,23 +30,31 @@ take_input() {
     exec <"$1" || wrong "$1: this file cannot be opened"
 }
 
-# Makes sure that there is a program to run.
+# Makes sure that there is a program to run, of this name or the command's.
 have_program() {
+    name=${1:-$command}
     [ -f "$here/crates.txt" ] || return 0
-    if ! "$here/scripts/up-to-date" "$here/target/bin/$command" "$command"; then
-        "$here/scripts/prove" "$command" </dev/null || wrong "the program could not be proved and built"
+    if ! "$here/scripts/up-to-date" "$here/target/bin/$name" "$name"; then
+        "$here/scripts/prove" "$name" </dev/null || wrong "the program could not be proved and built"
         # What has not changed is not built again; now it is newer than its sources.
-        touch "$here/target/bin/$command"
+        touch "$here/target/bin/$name"
     fi
 }
 
-# Runs the program.
-program() {
+# Runs a program by its name.
+run_program() {
+    name=$1
+    shift
     if [ -f "$here/crates.txt" ]; then
-        "$here/scripts/run" "$command" "$@"
+        "$here/scripts/run" "$name" "$@"
     else
-        "$here/../libexec/thoquenry/$command" "$@"
+        "$here/../libexec/thoquenry/$name" "$@"
     fi
+}
+
+# Runs the program of the command's name.
+program() {
+    run_program "$command" "$@"
 }
 
 # The version of the library that the command belongs to.
