@@ -1,0 +1,28 @@
+-- `packet_cases::print_front` is safe: the text has as many bytes as are taken from it.
+-- Assumes nothing.
+use lib.Seq.{length-take-le}
+use mathlib.Core.Path.{sym}
+use borrow.Author.Needs.{needs}
+use Rattle.packet_cases.proofs.answers.print_front.Statement.{statement}
+use Rattle.packet_cases.proofs.answers.print_front.Tie as tie
+
+slice-aggregate-write-all : tie.Need-slice-aggregate-write-all
+slice-aggregate-write-all c = sym (length-take-le _ _ (search needs))
+
+write-all-requires : tie.Need-write-all-requires
+write-all-requires c κs = search needs
+
+returns : tie.Need-returns
+returns c = search needs
+
+returns-2 : tie.Need-returns-2
+returns-2 c = search needs
+
+pub print-front-spec : {M : Type 1} → statement M
+print-front-spec =
+    tie.close
+    (tie.spec
+    slice-aggregate-write-all
+    write-all-requires
+    returns
+    returns-2)
