@@ -13,7 +13,7 @@ use row_index::row_at;
 pub const MOST_EDGES: usize = 2016;
 
 // The edges of a closure, as many as `count`, in `list`.
-#[derive(Drop)]
+#[derive(Clone, Copy)]
 pub struct Edges {
     pub count: usize,
     pub list: [u16; MOST_EDGES],

@@ -6,7 +6,7 @@ ghost use Rattle.c_answers.specs.Answers.{answer_of, accepted as acceptedOf, ref
 use vocabulary::{Reading, Refusal};
 
 // The reading that a caller asks for, if there is one of that year.
-#[derive(Drop)]
+#[derive(Clone, Copy)]
 pub enum Asked {
     Known(Reading),
     Neither,

@@ -11,14 +11,14 @@ pub fn empty_room() -> [u8; 2048]
 }
 
 // What the words of a case are: whether each has the form that it should, and how many bytes they make.
-#[derive(Drop)]
+#[derive(Clone, Copy)]
 pub struct Found {
     pub readable: bool,
     pub count: usize,
 }
 
 // What one word says: a byte so many times.
-#[derive(Drop)]
+#[derive(Clone, Copy)]
 enum Word {
     Run { byte: u8, times: usize },
     Unreadable,

@@ -18,7 +18,7 @@ pub use numbers::{Numbers, is_digit, number_or, numbers_of};
 pub use said::{copy, say, say_number, too_long, unreadable};
 
 // The first part of a text, which ends at a mark or with the text: how many bytes it has, and how many stand before the next part.
-#[derive(Drop)]
+#[derive(Clone, Copy)]
 pub struct Part {
     pub size: usize,
     pub step: usize,

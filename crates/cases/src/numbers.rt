@@ -4,7 +4,7 @@ ghost use Rattle.cases.specs.Numbers.{is_digit, digit_of, with_character, number
 
 // The numbers of a word: `last` is the place of the last one in the list. A `last` above 7 is of a word that has more than eight
 // numbers, or one that is too large.
-#[derive(Drop)]
+#[derive(Clone, Copy)]
 pub struct Numbers {
     pub last: usize,
     pub list: [u64; 8],

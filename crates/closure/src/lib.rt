@@ -9,14 +9,14 @@ use vocabulary::{LayerIndex, Refusal};
 
 // The layers of a loop: bit i of `present` is 1 when the loop has a layer of index i, and `embedded[i]` is the set of the indices that
 // this layer names as embedded.
-#[derive(Drop)]
+#[derive(Clone, Copy)]
 pub struct Layers {
     pub present: u64,
     pub embedded: [u64; 64],
 }
 
 // The answer to a target: the set of the layer indices of its closure, or why there is none.
-#[derive(Drop)]
+#[derive(Clone, Copy)]
 pub enum Closure {
     Complete(u64),
     Refused(Refusal),

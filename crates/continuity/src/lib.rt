@@ -8,7 +8,7 @@ use packets::{PACKET_BYTES, Packet};
 
 // What a packet on a layer's PID is. Skipped whole, it is no packet before another; a copy is judged no further; a fault has its number, 31 to 33; where a
 // unit starts, its PES header stands from that place of the packet on.
-#[derive(Drop)]
+#[derive(Clone, Copy)]
 pub enum Step {
     Skipped,
     Copy,

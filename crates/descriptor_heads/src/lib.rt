@@ -7,7 +7,7 @@ ghost use Rattle.syntax.specs.Filled.{bit_of, bytes_in};
 ghost use Rattle.descriptor_heads.specs.Head.{framed_of, head_table};
 
 // The descriptor at the front of some bytes: whether it fits in them and, where it does, its tag and where it ends.
-#[derive(Drop)]
+#[derive(Clone, Copy)]
 pub struct Framed {
     pub fits: bool,
     pub tag: u8,

@@ -12,7 +12,7 @@ use records::{Record, is_layer, names_in_list, names_of_hierarchy};
 use vocabulary::{LayerIndex, Reading};
 
 // One descriptor: none of the two kinds, one of them at a wrong length, or a record.
-#[derive(Drop)]
+#[derive(Clone, Copy)]
 pub enum Look {
     Skipped,
     WrongLength,
@@ -22,7 +22,7 @@ pub enum Look {
 
 // All descriptors of a stream: whether each fits, whether one of the two kinds has a wrong length, whether there is a second
 // record, and the first.
-#[derive(Drop)]
+#[derive(Clone, Copy)]
 pub struct Seen {
     pub fits: bool,
     pub wrong_length: bool,
@@ -33,7 +33,7 @@ pub struct Seen {
 
 // What is found in them: all that is seen but the embedded layers of the first record, and in their place where its descriptor ends, since an extension's
 // list are its last bytes. A walk keeps this, which is small, and whoever wants the list takes it from the bytes.
-#[derive(Drop)]
+#[derive(Clone, Copy)]
 pub struct Found {
     pub fits: bool,
     pub wrong_length: bool,
@@ -43,7 +43,7 @@ pub struct Found {
 }
 
 // What makes a stream a layer, if anything does, and the set of the layers that it names.
-#[derive(Drop)]
+#[derive(Clone, Copy)]
 pub struct Named {
     pub record: Record,
     pub names: u64,

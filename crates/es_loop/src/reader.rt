@@ -7,14 +7,14 @@ use super::verdict::{Verdict, judge};
 use loop_entries::{Entry, MOST_ENTRIES, blank_entries, entry_of, entry_size, read_stream};
 use vocabulary::{Reading, Refusal};
 
-#[derive(Drop)]
+#[derive(Clone, Copy)]
 pub enum Outcome {
     Accepted,
     Refused(Refusal),
 }
 
 // What reading a loop answers: the outcome and, where it is accepted, the number of entries and each entry in loop order.
-#[derive(Drop)]
+#[derive(Clone, Copy)]
 pub struct LoopRead {
     pub outcome: Outcome,
     pub count: usize,

@@ -13,7 +13,7 @@ use vocabulary::{Reading, Refusal};
 const DOES_NOT_FIT: usize = 2;
 
 // How many entries an accepted loop has, and whether it has the two views without a hierarchy descriptor; or the refusal.
-#[derive(Drop)]
+#[derive(Clone, Copy)]
 pub enum Verdict {
     Entries { count: usize, pair: bool },
     Refused(Refusal),

@@ -14,7 +14,7 @@ use descriptor_heads::{bit, descriptor_head};
 use vocabulary::{HierarchyChannel, LayerIndex, NuhLayerId, TemporalId};
 
 // Each field but the reserved bits and the list of embedded layers, which stands beside it.
-#[derive(Drop)]
+#[derive(Clone, Copy)]
 pub struct ExtensionRecord {
     pub dimension_bits: u16,
     pub layer_index: LayerIndex,

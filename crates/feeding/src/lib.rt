@@ -10,7 +10,7 @@ use packets::PACKET_BYTES;
 use unit_starts::Found;
 
 // How many bytes of a packet are carried, how many packets were whole, and what was found in them.
-#[derive(Drop)]
+#[derive(Clone, Copy)]
 pub struct Progress {
     pub part: usize,
     pub number: usize,

@@ -13,7 +13,7 @@ use assembling::assemble;
 
 // What was found of the heads: the first with no assembly and the first that shares a row with one before it, each the number of rows where there is none;
 // and where there is neither, how many units there are.
-#[derive(Drop)]
+#[derive(Clone, Copy)]
 pub struct Judged {
     pub unpaired: usize,
     pub shared: usize,

@@ -13,7 +13,7 @@ use descriptor_heads::{bit, descriptor_head};
 use vocabulary::{HierarchyChannel, LayerIndex, Reading};
 
 // Each field but the reserved bits. A flag at 0 (false) means "enhances".
-#[derive(Drop)]
+#[derive(Clone, Copy)]
 pub struct HierarchyRecord {
     pub no_view: bool,
     pub no_temporal: bool,

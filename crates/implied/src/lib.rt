@@ -9,7 +9,7 @@ use descriptors::{Named, Record, Seen};
 
 // What is kept of the entries so far: whether there was a 0x1B, whether there was a 0x20, and whether there was a second of either or one with a
 // hierarchy descriptor.
-#[derive(Drop)]
+#[derive(Clone, Copy)]
 pub struct Views {
     pub avc: bool,
     pub mvc: bool,

@@ -3,7 +3,7 @@ use vocabulary::Refusal;
 
 // The set of the closure's layer indices, the number of units, and how many closure rows the table has, which is how many places of the lists the units fill; or
 // why there is none.
-#[derive(Drop)]
+#[derive(Clone, Copy)]
 pub enum Joined {
     Units {
         closure: u64,

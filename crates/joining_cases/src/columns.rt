@@ -1,7 +1,7 @@
 // A column of the row table.
 
 // The values of a column, as many as `count`, in `list`.
-#[derive(Drop)]
+#[derive(Clone, Copy)]
 pub struct Column {
     pub count: u64,
     pub list: [u64; 600],

@@ -3,7 +3,7 @@ use super::columns::{Column, empty, extended};
 use cases::{Numbers, first_part, is_digit, number_or, numbers_of};
 
 // What a line has given so far. `heading` is the first letter of the last word that began with no digit: it says where numbers go.
-#[derive(Drop)]
+#[derive(Clone, Copy)]
 pub struct Case {
     pub readable: bool,
     pub heading: u8,

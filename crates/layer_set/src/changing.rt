@@ -9,7 +9,7 @@ use es_loop::{Entry, NO_FAULT, Outcome};
 use vocabulary::Refusal;
 
 // What a change answers: whether it was made, and the set after it, which is the one before it where it was refused.
-#[derive(Drop)]
+#[derive(Clone, Copy)]
 pub struct Changed {
     pub outcome: Outcome,
     pub set: LayerSet,

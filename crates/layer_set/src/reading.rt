@@ -9,7 +9,7 @@ use es_loop::{Outcome, Verdict};
 use vocabulary::Reading;
 
 // What is answered of a loop's bytes: the outcome and, where it is accepted, the set of its layers.
-#[derive(Drop)]
+#[derive(Clone, Copy)]
 pub struct SetRead {
     pub outcome: Outcome,
     pub set: LayerSet,

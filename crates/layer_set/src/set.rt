@@ -9,7 +9,7 @@ use es_loop::Entry;
 
 // A LAYER SET. By layer index: the layers as `closure` asks for them, each layer's entry, and the three stored values: its closure, how many indices are in it, and
 // whether one of them is absent. Where there is no layer of an index the entry is blank and the values are 0.
-#[derive(Drop)]
+#[derive(Clone, Copy)]
 pub struct LayerSet {
     pub layers: Layers,
     pub entries: [Entry; 64],
@@ -19,7 +19,7 @@ pub struct LayerSet {
 }
 
 // The same before what is stored was worked out.
-#[derive(Drop)]
+#[derive(Clone, Copy)]
 pub struct Placed {
     pub layers: Layers,
     pub entries: [Entry; 64],

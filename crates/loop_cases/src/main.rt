@@ -18,7 +18,7 @@ use cases::unreadable;
 use vocabulary::Reading;
 
 // The year that a case begins with.
-#[derive(Drop)]
+#[derive(Clone, Copy)]
 enum Year {
     Known(Reading),
     Unknown,

@@ -13,7 +13,7 @@ pub const MOST_BYTES: usize = 1008;
 pub const MOST_ENTRIES: usize = 201;
 
 // An entry as it is answered.
-#[derive(Drop)]
+#[derive(Clone, Copy)]
 pub struct Entry {
     pub stream_type: u8,
     pub pid: u16,
@@ -22,7 +22,7 @@ pub struct Entry {
 }
 
 // An entry as it is judged: whether it and its descriptors fit, and what was seen in them.
-#[derive(Drop)]
+#[derive(Clone, Copy)]
 pub struct Stream {
     pub fits: bool,
     pub stream_type: u8,

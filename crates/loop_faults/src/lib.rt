@@ -19,7 +19,7 @@ pub const NO_FAULT: usize = 10;
 const RECORDLESS: usize = 256;
 
 // A number that applies, and the entry at which it does. Both are words, so that a walk that keeps the lowest copies no room between them.
-#[derive(Drop)]
+#[derive(Clone, Copy)]
 pub struct Fault {
     pub number: usize,
     pub place: usize,

@@ -13,7 +13,7 @@ use es_loop::{Outcome, Verdict};
 use vocabulary::Reading;
 
 // What is answered of a loop's bytes: the outcome and, where it is accepted, its layers.
-#[derive(Drop)]
+#[derive(Clone, Copy)]
 pub struct LayersRead {
     pub outcome: Outcome,
     pub layers: Layers,

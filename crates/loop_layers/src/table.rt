@@ -11,7 +11,7 @@ use es_loop::{Entry, MOST_ENTRIES, Outcome, Verdict};
 use vocabulary::{HierarchyChannel, Reading};
 
 // The layers of a loop, and what else is asked of each, by layer index. Where `layers` has no layer of an index, the columns have 0.
-#[derive(Drop)]
+#[derive(Clone, Copy)]
 pub struct LayerTable {
     pub layers: Layers,
     pub pids: [u16; 64],
@@ -20,7 +20,7 @@ pub struct LayerTable {
 }
 
 // The same with the table of them.
-#[derive(Drop)]
+#[derive(Clone, Copy)]
 pub struct TableRead {
     pub outcome: Outcome,
     pub table: LayerTable,

@@ -14,7 +14,7 @@ use descriptors::Record;
 use loop_entries::elementary_pid;
 use vocabulary::Reading;
 
-#[derive(Drop)]
+#[derive(Clone, Copy)]
 pub struct Outline {
     pub fits: bool,
     pub stream_type: u8,

@@ -13,7 +13,7 @@ use es_loop::{Entry, Fault, lower, mark_next, no_fault};
 use loop_outlines::Outline;
 
 // Number 10 of the fault says that none applies.
-#[derive(Drop)]
+#[derive(Clone, Copy)]
 pub struct Weighed {
     pub size: usize,
     pub fault: Fault,

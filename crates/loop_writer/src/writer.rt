@@ -10,7 +10,7 @@ use es_loop::{Entry, MOST_BYTES, MOST_ENTRIES, NO_FAULT, refusal_of};
 use vocabulary::Refusal;
 
 // What writing a loop answers: how many bytes were written, or the refusal.
-#[derive(Drop)]
+#[derive(Clone, Copy)]
 pub enum Written {
     Bytes(usize),
     Refused(Refusal),

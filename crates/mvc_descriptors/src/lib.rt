@@ -18,7 +18,7 @@ pub const MVC_EXTENSION_TAG: u8 = 49;
 pub const MVC_EXTENSION_LENGTH: u8 = 8;
 
 // What the descriptors of a stream have of it: none, exactly one of the right length, or anything else.
-#[derive(Drop)]
+#[derive(Clone, Copy)]
 pub enum Found {
     Missing,
     One(MvcExtension),

@@ -10,7 +10,7 @@ ghost use Rattle.mvc_extension.specs.Ranges.{reversed_range, ranges_meet, wrong_
 use descriptor_heads::bit;
 
 // Each field but the reserved bits. Rates are in thousands of bits a second, 0 where none is told; the view order indices are a range, both ends in it.
-#[derive(Drop)]
+#[derive(Clone, Copy)]
 pub struct MvcExtension {
     pub average_bit_rate: u16,
     pub maximum_bitrate: u16,

@@ -8,14 +8,14 @@ ghost use Rattle.operation_points.specs.Tables.{reference as referenceTable, fla
 ghost use Rattle.operation_points.specs.Points.{head_of, first_point, points_filling, filling_of, reference_from, flags_from};
 
 // What stands before the points: the number of profile structures, which stand from the second byte on, and of points, and where these begin.
-#[derive(Drop)]
+#[derive(Clone, Copy)]
 pub struct Head {
     pub num_ptl: u8,
     pub operation_points_count: u8,
     pub points_at: usize,
 }
 
-#[derive(Drop)]
+#[derive(Clone, Copy)]
 pub enum HeadRead {
     Before(Head),
     HeadDoesNotFit,
@@ -26,7 +26,7 @@ pub const PROFILE_BYTES: usize = 12;
 
 // A point's fields, by the table's names; those that are not there are 0. Its references stand from its third byte on, its layer flags from
 // `flags_at` on, one byte each; `size` bytes are the point's.
-#[derive(Drop)]
+#[derive(Clone, Copy)]
 pub struct Point {
     pub target_ols: u8,
     pub es_count: u8,
@@ -43,7 +43,7 @@ pub struct Point {
 }
 
 // The point that some bytes begin with, or why there is none.
-#[derive(Drop)]
+#[derive(Clone, Copy)]
 pub enum FirstPoint {
     Read(Point),
     DoesNotFit,
@@ -51,7 +51,7 @@ pub enum FirstPoint {
 }
 
 // Whether a descriptor's fields fill it: exactly, or not (40), or an ES_count is reserved (41).
-#[derive(Drop)]
+#[derive(Clone, Copy)]
 pub enum Filling {
     Exact,
     Inexact,
@@ -59,14 +59,14 @@ pub enum Filling {
 }
 
 // A reference of a point.
-#[derive(Drop)]
+#[derive(Clone, Copy)]
 pub struct Reference {
     pub prepend_dependencies: bool,
     pub es_reference: u8,
 }
 
 // What a point says of one of its layers.
-#[derive(Drop)]
+#[derive(Clone, Copy)]
 pub struct LayerFlags {
     pub necessary_layer_flag: bool,
     pub output_layer_flag: bool,

@@ -29,7 +29,7 @@ mod whole;
 use cases::{Numbers, first_part, number_or, numbers_of, unreadable};
 
 // What is asked of a recording: by which call, with which numbers, and for which target.
-#[derive(Drop)]
+#[derive(Clone, Copy)]
 struct Question {
     kind: u8,
     numbers: Numbers,

@@ -9,7 +9,7 @@ pub const PACKET_BYTES: usize = 188;
 
 // What an adaptation field says. Its length is 0 where there is none; the indicator and the PCR are there only where the field reaches so far and ends
 // within the packet.
-#[derive(Drop)]
+#[derive(Clone, Copy)]
 pub struct Adaptation {
     pub adaptation_field_length: u8,
     pub discontinuity_indicator: bool,
@@ -17,7 +17,7 @@ pub struct Adaptation {
 }
 
 // A packet's fields, by the standard's names.
-#[derive(Drop)]
+#[derive(Clone, Copy)]
 pub struct Packet {
     pub sync_byte: u8,
     pub transport_error_indicator: bool,
@@ -30,7 +30,7 @@ pub struct Packet {
 }
 
 // A packet that was read, or bytes that are not as many as a packet has.
-#[derive(Drop)]
+#[derive(Clone, Copy)]
 pub enum Answer {
     Read(Packet),
     NotWhole,

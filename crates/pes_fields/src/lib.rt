@@ -9,7 +9,7 @@ use stamps::Stamp;
 
 // What the header data say beside PTS and DTS. The bool is whether the marker before the second extension's length is right, or
 // there is none; the stamp of a TREF has that in its own.
-#[derive(Drop)]
+#[derive(Clone, Copy)]
 pub enum Extension {
     DoesNotFit,
     WithoutTref(bool),

@@ -12,7 +12,7 @@ use vocabulary::Refusal;
 
 // What a header says of its component's times, whether a TREF stood in it, and the offset at which it ends: 9 plus PES_header_data_length,
 // stuffing included.
-#[derive(Drop)]
+#[derive(Clone, Copy)]
 pub struct Header {
     pub times: Times,
     pub tref_sent: bool,
@@ -20,7 +20,7 @@ pub struct Header {
 }
 
 // A header that was read, or why it is refused.
-#[derive(Drop)]
+#[derive(Clone, Copy)]
 pub enum Answer {
     Read(Header),
     Refused(Refusal),

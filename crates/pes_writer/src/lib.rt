@@ -11,7 +11,7 @@ use stamps::Times;
 use vocabulary::Refusal;
 
 // The number of bytes written, or why nothing was.
-#[derive(Drop)]
+#[derive(Clone, Copy)]
 pub enum Written {
     Bytes(usize),
     Refused(Refusal),

@@ -21,7 +21,7 @@ pub const MOST_FOUND: usize = 336;
 
 // What the loop has: whether every operation point descriptor in it is filled exactly, else 40 or 41; and the places in the loop of their payloads and of
 // their points, in order, each from the front of its array.
-#[derive(Drop)]
+#[derive(Clone, Copy)]
 pub struct Found {
     pub filling: Filling,
     pub descriptors: usize,

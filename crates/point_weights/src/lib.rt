@@ -10,14 +10,14 @@ use point_fields::{ROW, fields_size, row_too_wide};
 use vocabulary::Refusal;
 
 // How many bytes were written, or are to be; or why none is.
-#[derive(Drop)]
+#[derive(Clone, Copy)]
 pub enum Written {
     Bytes(usize),
     Refused(Refusal),
 }
 
 // What rows come to: whether one is too wide, or has a reserved count; how many references and layers they count; and the bytes of their fields.
-#[derive(Drop)]
+#[derive(Clone, Copy)]
 pub struct Weighed {
     pub wide: bool,
     pub reserved: bool,

@@ -17,7 +17,7 @@ use stream_lists::ListBuilt;
 use vocabulary::{Reading, Refusal};
 
 // Of all points: whether 42 applies to any, and how many references, layer flags and members of stream lists they have.
-#[derive(Drop)]
+#[derive(Clone, Copy)]
 pub struct Tally {
     pub absent: bool,
     pub references: usize,
@@ -27,7 +27,7 @@ pub struct Tally {
 
 // What is answered: the outcome and, where it is accepted, the layers in which the points' lists are built, where the points stand in the program's loop, and
 // how much there is of them.
-#[derive(Drop)]
+#[derive(Clone, Copy)]
 pub struct PointsRead {
     pub outcome: Outcome,
     pub layers: Layers,

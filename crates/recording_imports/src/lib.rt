@@ -15,7 +15,7 @@ use recordings::Recording;
 use vocabulary::{Reading, Refusal};
 
 // The number of rows; or the refusal, of the loop, of the target, of a packet, or 13; or that of a PES header, with the packet in which it stands.
-#[derive(Drop)]
+#[derive(Clone, Copy)]
 pub enum RowsRead {
     Rows(usize),
     Refused(Refusal),
@@ -23,7 +23,7 @@ pub enum RowsRead {
 }
 
 // The answer of the whole import: the units as joining has them, or the refusal, as above.
-#[derive(Drop)]
+#[derive(Clone, Copy)]
 pub enum Imported {
     Units {
         closure: u64,
@@ -35,7 +35,7 @@ pub enum Imported {
 }
 
 // A loop that a target was asked of: whether it has all that the target rests on, or the refusal; and the loop's layers.
-#[derive(Drop)]
+#[derive(Clone, Copy)]
 pub struct LoopAsked {
     pub outcome: Outcome,
     pub table: LayerTable,

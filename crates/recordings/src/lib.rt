@@ -10,7 +10,7 @@ use unit_starts::Found;
 use vocabulary::Refusal;
 
 // The number of rows; or a packet that is refused, a PES header that is refused with the packet in which it stands, or more rows than the columns hold.
-#[derive(Drop)]
+#[derive(Clone, Copy)]
 pub enum Recording {
     Rows(usize),
     Faulty(Refusal),

@@ -15,7 +15,7 @@ use extension::{ExtensionRecord, extension_fits, list_too_wide, put_extension};
 use hierarchy::{HierarchyRecord, hierarchy_fits, put_hierarchy};
 use vocabulary::{HierarchyChannel, LayerIndex};
 
-#[derive(Drop)]
+#[derive(Clone, Copy)]
 pub enum Record {
     NoRecord,
     Hierarchy(HierarchyRecord),

@@ -10,7 +10,7 @@ use clock::{HALF, TICKS};
 pub const MOST_ROWS: usize = 512;
 
 // The verdict on a table: in range and in order, or the first row that is not. A table of the wrong shape is out of range at row 0.
-#[derive(Drop)]
+#[derive(Clone, Copy)]
 pub enum Verdict {
     InOrder,
     OutOfRange(usize),

@@ -13,7 +13,7 @@ use vocabulary::Refusal;
 pub const KEPT: usize = 1;
 
 // A row of the table that joining takes, whether a TREF was sent, which joining does not read, and the number of the packet in which its unit starts.
-#[derive(Drop)]
+#[derive(Clone, Copy)]
 pub struct Row {
     pub layer: u8,
     pub decoding: u64,
@@ -23,7 +23,7 @@ pub struct Row {
 }
 
 // What a packet gives: a fault by its number, 30 to 33; a PES header that is refused; or a row.
-#[derive(Drop)]
+#[derive(Clone, Copy)]
 pub enum Event {
     Nothing,
     Fault(u8),

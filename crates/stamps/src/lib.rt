@@ -5,14 +5,14 @@ ghost use Rattle.stamps.specs.Tables.{tref, prefixed};
 ghost use Rattle.stamps.specs.Stamps.{dts_flag, stamp_of, stamps_of, time_field};
 
 // A time, and whether the bits that its field fixes are right.
-#[derive(Drop)]
+#[derive(Clone, Copy)]
 pub struct Stamp {
     pub marked: bool,
     pub time: u64,
 }
 
 // The times of a PES header. Decoding time is DTS, or PTS without a DTS; match time is TREF, or the decoding time without one.
-#[derive(Drop)]
+#[derive(Clone, Copy)]
 pub struct Times {
     pub pts: u64,
     pub decoding: u64,
@@ -20,7 +20,7 @@ pub struct Times {
 }
 
 // PTS and decoding time, and whether the bits that their fields fix are right.
-#[derive(Drop)]
+#[derive(Clone, Copy)]
 pub struct Stamps {
     pub marked: bool,
     pub pts: u64,

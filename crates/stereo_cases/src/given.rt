@@ -8,7 +8,7 @@ pub const ROW: usize = 80;
 pub const ROWS: usize = 16160;
 
 // What a line has given so far: `words` counts the first three of its words, `count` its entries.
-#[derive(Drop)]
+#[derive(Clone, Copy)]
 pub struct Given {
     pub readable: bool,
     pub words: usize,

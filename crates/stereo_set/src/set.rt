@@ -16,7 +16,7 @@ const BASE_TYPE: u8 = 0x1B;
 const SECOND_TYPE: u8 = 0x20;
 
 // What is answered: the outcome and, where it is accepted, the two layers' entries and their descriptors.
-#[derive(Drop)]
+#[derive(Clone, Copy)]
 pub struct StereoRead {
     pub outcome: Outcome,
     pub base: Entry,

@@ -8,14 +8,14 @@ use es_loop::Entry;
 use mvc_descriptors::Found;
 
 // An entry as it is answered, and what its descriptors have of the MVC extension descriptor.
-#[derive(Drop)]
+#[derive(Clone, Copy)]
 pub struct View {
     pub entry: Entry,
     pub found: Found,
 }
 
 // A count of 3 says that there are more than two.
-#[derive(Drop)]
+#[derive(Clone, Copy)]
 pub struct Layers {
     pub count: usize,
     pub first: View,

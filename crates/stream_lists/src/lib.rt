@@ -10,7 +10,7 @@ use closure::Layers;
 mod insertion;
 
 // A list of layer indices: the first `count` of `members`, with zeros behind them, and the same as a set.
-#[derive(Drop)]
+#[derive(Clone, Copy)]
 pub struct StreamList {
     pub present: u64,
     pub count: usize,
@@ -18,7 +18,7 @@ pub struct StreamList {
 }
 
 // The list of a point's references, or 42: one of them, or a dependency to be prepended, is no layer of the loop. The list is then empty.
-#[derive(Drop)]
+#[derive(Clone, Copy)]
 pub struct ListBuilt {
     pub absent: bool,
     pub list: StreamList,

@@ -10,14 +10,14 @@ use packets::PACKET_BYTES;
 use scanning::Event;
 
 // The lowest number so far, and the earliest packet at which it applies.
-#[derive(Drop)]
+#[derive(Clone, Copy)]
 pub struct Mark {
     pub number: u8,
     pub packet: usize,
 }
 
 // The lowest of 30 to 33, or 34; the lowest of 20 to 24, or 25; and the number of rows.
-#[derive(Drop)]
+#[derive(Clone, Copy)]
 pub struct Found {
     pub fault: Mark,
     pub refusal: Mark,

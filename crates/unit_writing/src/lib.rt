@@ -11,7 +11,7 @@ const TOLD_FILENO: i32 = 4;
 const LONGEST_LINE: usize = 2753;
 
 // How much of the buffer is filled, and whether all that was written was written whole.
-#[derive(Drop)]
+#[derive(Clone, Copy)]
 struct Filled {
     whole: bool,
     end: usize,

@@ -59,7 +59,7 @@ fn read_recording(
 }
 
 // What came of reading: what the loop was told to begin with, and whether the recording was read to its end.
-#[derive(Drop)]
+#[derive(Clone, Copy)]
 pub struct Fed {
     pub begun: u64,
     pub whole: bool,

@@ -4,7 +4,7 @@ ghost use Rattle.vocabulary.specs.Refusals.{number_of, place_of};
 
 use super::LayerIndex;
 
-#[derive(Drop)]
+#[derive(Clone, Copy)]
 pub enum Refusal {
     LoopTooLong,
     DoesNotFit(usize),

@@ -3,7 +3,7 @@ ghost use Rattle.std.specs.Prelude.{◌≡◌};
 ghost use Rattle.vocabulary.specs.StreamTypes.{known, may_stand_on};
 
 // The stations that know the stream types of 2009 (source 001), and those that know the types of 2015 (source 000).
-#[derive(Drop)]
+#[derive(Clone, Copy)]
 pub enum Reading {
     Edition2009,
     Edition2015,

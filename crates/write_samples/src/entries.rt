@@ -63,7 +63,7 @@ pub fn enhancement(
 }
 
 // The layers on which an extension's layer rests, and how many they are.
-#[derive(Drop)]
+#[derive(Clone, Copy)]
 pub struct Below {
     pub count: u8,
     pub layers: [LayerIndex; 63],
