@@ -1,6 +1,8 @@
 // Bytes laid into buffers that a caller lends. A list that is longer than the room for it is cut off at the
 // end of the buffer, or the caller knows that there is room. specs/Buffers.antt says what the buffer then holds, proofs/Laws.antt that
 // pieces laid one after another join.
+#![tactic(auto)]
+
 ghost use Rattle.std.specs.Prelude.{◌+◌, ◌≤◌, length};
 ghost use Rattle.buffers.specs.Buffers.{Laid};
 

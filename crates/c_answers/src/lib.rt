@@ -1,5 +1,7 @@
 // What every function for C has: its answer as one number of 64 bits, by which a caller has a count, or a refusal with its place; and readings by their
 // year. include/thoquenry.h says it in its own words.
+#![tactic(auto)]
+
 ghost use Rattle.std.specs.Prelude.{◌≡◌};
 ghost use Rattle.c_answers.specs.Answers.{answer_of, accepted as acceptedOf, refused as refusedOf, notACall, askedFor};
 

@@ -4,6 +4,8 @@
 //
 // Every other line is a case. What its words mean is said by the program; how a line ends, a word, a byte in hexadecimal and a decimal
 // number, and how an answer is told, is said here.
+#![tactic(auto)]
+
 ghost use Rattle.std.specs.Prelude.{◌+◌, min, ◌≡◌, length};
 ghost use Rattle.io.specs.Counts.{IsPrefixLen};
 ghost use Rattle.cases.specs.Parts.{bytes_before};

@@ -1,6 +1,8 @@
 // The rows that are claimed, as W-204 of document 02 has it: a closure row is claimed if a row of a closure layer that embeds its layer has a match time
 // equal to its decoding time. Each closure row that is not claimed heads a unit.
 // specs/Claims.antt has this as a definition that computes, specs/Meaning.antt in the request's words, and proofs/Meant.antt the proof that the two are one.
+#![tactic(auto)]
+
 ghost use Rattle.std.specs.Prelude.{false, ◌||◌, [], ◌≡◌, ◌≤◌, length, get_or};
 ghost use Rattle.rows.specs.Table.{table};
 ghost use Rattle.claims.specs.Claims.{claimed as claimed_of};

@@ -1,5 +1,7 @@
 // The 33-bit clock on which PTS, DTS and TREF count: how far one time lies ahead of another, whether it lies before the other,
 // and the lag between two times as a signed number. Times are taken modulo 2^33, so every u64 has an answer.
+#![tactic(auto)]
+
 ghost use Rattle.std.specs.Prelude.{◌≡◌};
 ghost use Rattle.clock.specs.Clock.{distance_of, is_before, lag_of};
 

@@ -1,6 +1,8 @@
 // What a target layer rests on: its closure, or the refusal 11 or 12 of document 01.
 // specs/Closures.antt has the answer as a definition that computes, specs/Meaning.antt what is right in the document's words, and
 // proofs/Meant.antt the proof that the two are one.
+#![tactic(auto)]
+
 ghost use Rattle.std.specs.Prelude.{◌≡◌, ◌<◌};
 ghost use Rattle.sets.specs.Sets.{has};
 ghost use Rattle.closure.specs.Closures.{closure_of, rested_on, named_by};

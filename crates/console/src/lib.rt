@@ -1,5 +1,7 @@
 // What the programs share at their edge: an input that is read, or told from one that cannot be; and what a recording looks like, where a loop
 // was expected. Of the bytes that are read no contract can speak.
+#![tactic(auto)]
+
 ghost use Rattle.std.specs.Prelude.{◌≡◌};
 ghost use Rattle.console.specs.Inputs.{Counted, looks_like_packets};
 

@@ -1,5 +1,7 @@
 // A packet on a layer's PID, after the one before it on that PID: skipped whole, a copy that counts once, a counter gap (31), what it is refused for by
 // itself (32, 33), or the start of a unit. The bytes of the packet before it are lent beside its own, so that nothing is kept here.
+#![tactic(auto)]
+
 ghost use Rattle.std.specs.Prelude.{◌≡◌, ◌+◌, ◌%◌, ◌≤◌, length};
 ghost use Rattle.packets.specs.Reading.{packet_bytes};
 ghost use Rattle.continuity.specs.Following.{difference_of, same_bytes, repeats, is_copy, next_counter, is_gap, alone_of, step_of, ordinary_fourth, ordinary_after};

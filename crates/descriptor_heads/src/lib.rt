@@ -2,6 +2,8 @@
 // descriptor has a room of its own, a crate that stands on this one: `hierarchy`, `extension`.
 //
 // proofs/Heads.antt has the head at unknown bytes, for whoever walks through descriptors; Bits.antt and Widths.antt are for whoever reads and writes one.
+#![tactic(auto)]
+
 ghost use Rattle.std.specs.Prelude.{◌≡◌};
 ghost use Rattle.syntax.specs.Filled.{bit_of, bytes_in};
 ghost use Rattle.descriptor_heads.specs.Head.{framed_of, head_table};

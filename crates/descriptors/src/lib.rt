@@ -3,6 +3,8 @@
 // is written. `records` has what both share, and `looking` finds them in the descriptor bytes of one stream.
 //
 // A stream's type is known to the reading here; which types are, and what is refused, the crates above decide.
+#![tactic(auto)]
+
 mod looking;
 
 pub use extension::{ExtensionRecord, no_layers};

@@ -1,6 +1,8 @@
 // The entries of a loop as rows of 80 numbers of 16 bits each, for callers who have numbers and slices alone; include/thoquenry.h has the layout. Here is
 // what a row means, and whether one has a value that is too wide (25). Rows are laid out in `row_laying`, an entry is made of one in `row_taking`, and a loop is
 // written from them in `row_writer`.
+#![tactic(auto)]
+
 ghost use Rattle.std.specs.Prelude.{◌≡◌, ◌≤◌, length, take};
 ghost use Rattle.combinators.specs.Lists.{any};
 ghost use Rattle.vocabulary.specs.declared.stream_types.Reading.TheVariants.{Edition2015};

@@ -1,6 +1,8 @@
 // The elementary-stream loop of a program map section, read in either edition: every entry with its record, or the refusal (1 to
 // 9) with its place. One entry is read in `loop_entries`, the two views without a hierarchy descriptor are found in `loop_views`, and an entry is judged in
 // `loop_faults`.
+#![tactic(auto)]
+
 mod reader;
 mod verdict;
 

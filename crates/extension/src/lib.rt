@@ -2,6 +2,8 @@
 // read from a payload, what of them is too wide for its fields, and how they are written.
 //
 // What the record means for a stream, and where it is found, is said in `descriptors`.
+#![tactic(auto)]
+
 ghost use Rattle.std.specs.Prelude.{◌≡◌, false, [], ◌∷◌, map, ◌≤◌, length, take};
 ghost use Rattle.combinators.specs.Lists.{any, gather};
 ghost use Rattle.combinators.specs.Padding.{pad_to};

@@ -1,6 +1,8 @@
 // A recording fed in pieces: the bytes of a packet that is not whole yet are carried from one piece to the next, and so are the last packets on the layers' PIDs.
 // What is known is a few numbers by value beside buffers that the caller lends, as large whatever the recording's length. Here are the two halves of a piece: what
 // goes to the packet that is not whole yet, and what starts where a packet does.
+#![tactic(auto)]
+
 ghost use Rattle.std.specs.Prelude.{◌≡◌, ◌+◌, ◌^◌, ◌≤◌, ◌<◌, length};
 ghost use Rattle.packets.specs.Reading.{packet_bytes};
 ghost use Rattle.recording_rows.specs.Columns.{columns, room_in};

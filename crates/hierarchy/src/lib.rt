@@ -1,6 +1,8 @@
 // The hierarchy descriptor, Table 2-49 (tag 4): its record, how it is read from a payload, what of it is too wide for its fields, and how it is written.
 //
 // What the record means for a stream, and where it is found, is said in `descriptors`.
+#![tactic(auto)]
+
 ghost use Rattle.std.specs.Prelude.{◌≡◌, false, ◌≤◌, length};
 ghost use Rattle.combinators.specs.Lists.{any, gather};
 ghost use Rattle.buffers.specs.Buffers.{Laid};

@@ -1,5 +1,7 @@
 // Two views and no hierarchy descriptor: the rule that makes a loop's only 0x1B and only 0x20 layers, where neither has a hierarchy descriptor. The
 // reader and the writer of a loop walk through the entries once for it, and keep no more than three bits of them.
+#![tactic(auto)]
+
 ghost use Rattle.std.specs.Prelude.{◌≡◌};
 ghost use Rattle.implied.specs.Rule.{is_view, given};
 ghost use Rattle.implied.specs.Walking.{no_views, avc_next, mvc_next, view_next, is_pair};

@@ -1,5 +1,7 @@
 // The answer of an import for C, with its summary: the set of the layer indices that the target rests on, and the number of units. Without room for the two numbers
 // the answer is 17 in place of the units, and every lower number as it is.
+#![tactic(auto)]
+
 ghost use Rattle.std.specs.Prelude.{◌≡◌, ◌≤◌, length};
 ghost use Rattle.packet_answers.specs.Answers.{importedAnswer};
 ghost use Rattle.import_summaries.specs.Summaries.{with_summary, summary_after};

@@ -1,6 +1,8 @@
 // The whole import in one call: the loop is read, its layers are taken, and the rows of a table are joined to units over the target's closure.
 // specs/Importing.antt has the answer as a definition that computes, specs/Meaning.antt what is right in the document's words, and
 // proofs/Meant.antt the proof that the two are one.
+#![tactic(auto)]
+
 ghost use Rattle.std.specs.Prelude.{◌≡◌};
 ghost use Rattle.rows.specs.Table.{table};
 ghost use Rattle.unit_lists.specs.Sequence.{lists};

@@ -25,6 +25,8 @@
 //
 // The three lists are printed to their ends, a '.' for each place that holds what it held before the call. A line of any other form is
 // answered by 'unreadable', and an input of more than 65,535 bytes, which is not read to its end, by 'too long'.
+#![tactic(auto)]
+
 ghost use Rattle.std.specs.Prelude.{◌≤◌};
 
 mod answers;

@@ -4,6 +4,8 @@
 // Each answers for every value that the types can hold, also for one that no six bits can: a writer may be handed any.
 //
 // Whether an entry is to be an implied layer is said of the whole loop (document 02, W-201): here it is given.
+#![tactic(auto)]
+
 ghost use Rattle.std.specs.Prelude.{◌≡◌, false, map, ◌≤◌, ◌<◌, take, replicate};
 ghost use Rattle.combinators.specs.Members.{member};
 ghost use Rattle.extension.specs.Extension.{layers_of};

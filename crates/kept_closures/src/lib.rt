@@ -1,5 +1,7 @@
 // What each layer rests on, kept with it while layers come and go, so that the answer to any target is at hand: nothing is worked out afresh but what a
 // change can have changed.
+#![tactic(auto)]
+
 ghost use Rattle.std.specs.Prelude.{cond, ◌≡◌, ◌<◌, set};
 ghost use Rattle.combinators.specs.Each.{each_below};
 ghost use Rattle.sets.specs.Sets.{has, added, without, only};

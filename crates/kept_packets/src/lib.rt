@@ -1,4 +1,6 @@
 // The last packet on each layer's PID, kept where the bytes in which it stands are about to go: 64 places of 188 bytes, in a buffer that the caller lends.
+#![tactic(auto)]
+
 ghost use Rattle.std.specs.Prelude.{[], ◌≡◌, ◌+◌, ◌*◌, ◌≤◌, ◌<◌, length};
 ghost use Rattle.packets.specs.Reading.{packet_bytes};
 ghost use Rattle.scanning.specs.Events.{layers, LastWithin, EndsWithin};

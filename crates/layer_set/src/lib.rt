@@ -3,6 +3,8 @@
 // and never taken from a caller.
 //
 // `set` is the set and how it is worked out from entries, `reading` the set of a loop's bytes, and `changing` the two changes and the answer to a target.
+#![tactic(auto)]
+
 mod changing;
 mod reading;
 mod set;

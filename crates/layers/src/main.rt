@@ -2,6 +2,8 @@
 // names, and writes its layers with what each rests on, or the refusal, to standard output. What goes wrong at the edge is told on standard
 // error: an argument that is no reading, an input that cannot be read, an output that cannot be written whole. No program here has an exit
 // status: the command `layers` beside the crates gives one.
+#![tactic(auto)]
+
 ghost use Rattle.layers.specs.Words.{Asks};
 
 use console::Input;

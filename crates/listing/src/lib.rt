@@ -1,4 +1,6 @@
 // The lines of the program `layers`, laid into a buffer: `put_loop` lays in all that the program prints, from the layer set of the loop.
+#![tactic(auto)]
+
 ghost use Rattle.std.specs.Prelude.{◌≡◌, ◌<◌};
 ghost use Rattle.text.specs.Text.{Laid};
 ghost use Rattle.listing.specs.Lines.{labelled, member as member_text, members, closure_text, layer_line, set_line, set_lines, set_text, refused_text, loop_text};

@@ -1,5 +1,7 @@
 // The whole import of a loop, a target and the packets of a recording, of any length, in columns and work space that the caller lends; the same for at most 512 rows, with
 // columns of its own; and the last step alone, for a recording that was read already. The crate `recording_imports` has the definitions, and the crate `recording_meaning` what is right.
+#![tactic(auto)]
+
 ghost use Rattle.std.specs.Prelude.{◌≡◌, min, length};
 ghost use Rattle.rows.specs.Table.{table, most_rows};
 ghost use Rattle.unit_lists.specs.Sequence.{lists};

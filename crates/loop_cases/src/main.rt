@@ -10,6 +10,8 @@
 // Each BYTES, after one blank or more, is HH, a byte as two hexadecimal digits, or HH*N, that byte N times, N in decimal. Nothing
 // after the year is the empty loop. A line of any other form is answered by 'unreadable', and an input of more than
 // 65,535 bytes, which is not read to its end, by 'too long'.
+#![tactic(auto)]
+
 ghost use Rattle.std.specs.Prelude.{◌≤◌, length};
 
 mod answers;

@@ -1,4 +1,6 @@
 // One entry of the elementary-stream loop: its head, and what a reading sees in its descriptors.
+#![tactic(auto)]
+
 ghost use Rattle.std.specs.Prelude.{◌≡◌, [], ◌+◌, ◌*◌, ◌%◌, ◌≤◌, length, take, drop};
 ghost use Rattle.framing.specs.Pieces.{whole};
 ghost use Rattle.descriptors.specs.Finding.{named_by};

@@ -1,5 +1,7 @@
 // The faults of an entry: the lowest number that applies at it, and the lowest of all entries so far. A loop is read and written by one step, which judges
 // an entry more.
+#![tactic(auto)]
+
 ghost use Rattle.std.specs.Prelude.{◌≡◌, true, false, ◌+◌, ◌≤◌, ◌<◌, length, get_or, replicate, set};
 ghost use Rattle.combinators.specs.Lists.{first_true};
 ghost use Rattle.records.specs.Records.{index_of};

@@ -1,4 +1,6 @@
 // The layers of a loop, straight from its bytes or from the entries that reading it answered; and what a target rests on.
+#![tactic(auto)]
+
 ghost use Rattle.std.specs.Prelude.{◌≡◌};
 ghost use Rattle.loop_layers.specs.Closures.{loop_closure};
 

@@ -1,5 +1,7 @@
 // One entry of the loop as it is judged: what was seen of it, but of the embedded layers no more than whether 9 applies. These stay where they are, in the
 // bytes of the entry; a walk that judges hands on a few words for each entry, and no list.
+#![tactic(auto)]
+
 ghost use Rattle.std.specs.Prelude.{◌≡◌, ◌≤◌, true, length, get_or, take, drop};
 ghost use Rattle.combinators.specs.Padding.{pad_to};
 ghost use Rattle.framing.specs.Pieces.{whole};

@@ -1,5 +1,7 @@
 // The walk before the one that judges: whether a loop has two views and neither has a hierarchy descriptor. It goes by the heads, and looks into the
 // descriptors of views alone.
+#![tactic(auto)]
+
 ghost use Rattle.std.specs.Prelude.{◌≡◌, ◌≤◌, length, take, drop};
 ghost use Rattle.framing.specs.Pieces.{whole};
 ghost use Rattle.implied.specs.Walking.{view_next};

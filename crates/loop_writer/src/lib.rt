@@ -3,6 +3,8 @@
 //
 // What is to be written is judged, and its size found, before the first byte is laid into the buffer. `write_loop` does so with entries in an array; what it
 // does with one entry, `weigh_next` and `put_entry`, and how it decides, serve whoever has them elsewhere.
+#![tactic(auto)]
+
 mod entry;
 mod passes;
 mod weighing;

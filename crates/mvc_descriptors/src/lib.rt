@@ -1,5 +1,7 @@
 // The MVC extension descriptor (tag 49) among the descriptors of a stream: found where exactly one stands there and has its length of 8, and written with its
 // head. `mvc_extension` has the record; which streams are looked into, the crates above decide.
+#![tactic(auto)]
+
 ghost use Rattle.std.specs.Prelude.{◌≡◌, true};
 ghost use Rattle.combinators.specs.Lists.{gather};
 ghost use Rattle.buffers.specs.Buffers.{Laid};

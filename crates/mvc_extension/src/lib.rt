@@ -2,6 +2,8 @@
 // it is too wide for its fields, the payload as it is written, and what of two of them is wrong together.
 //
 // It is read and written in the stereo set alone; in every other call a descriptor of this tag is skipped.
+#![tactic(auto)]
+
 ghost use Rattle.std.specs.Prelude.{◌≡◌, ◌≤◌, length};
 ghost use Rattle.syntax.specs.Table.{Fit, fits, write_table};
 ghost use Rattle.mvc_extension.specs.MvcExtension.{mvc_extension_descriptor, mvc_extension_of, mvc_extension_fields};

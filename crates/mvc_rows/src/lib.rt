@@ -1,5 +1,7 @@
 // The two MVC extension descriptors of a stereo set as rows of 8 numbers of 16 bits each, for callers who have numbers and slices alone; include/thoquenry.h has the
 // layout: one number for each field of the table, in its order.
+#![tactic(auto)]
+
 ghost use Rattle.std.specs.Prelude.{◌≡◌, true, not, ◌++◌, ◌≤◌, length, get_or};
 ghost use Rattle.buffers.specs.Buffers.{over};
 ghost use Rattle.syntax.specs.Table.{fits};

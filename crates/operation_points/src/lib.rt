@@ -2,6 +2,8 @@
 // from the bytes, with the places of their lists, and whether its fields fill it: 40, 41.
 // specs/Tables.antt has the table as data, specs/Points.antt what is answered, specs/Meaning.antt what is right in the table's words, and
 // proofs/Meant.antt the proof that the two are one.
+#![tactic(auto)]
+
 ghost use Rattle.std.specs.Prelude.{[], ◌∷◌, ◌≡◌, true, cond, ◌+◌, ◌*◌, ◌%◌, ◌≤◌, length, get_or, drop};
 ghost use Rattle.syntax.specs.Named.{read_by};
 ghost use Rattle.operation_points.specs.Tables.{reference as referenceTable, flags as flagsTable};

@@ -1,5 +1,7 @@
 // What the functions for C answer of a recording: the rows, or the units, as one number of 64 bits. A PES header that is refused has the number of its packet as
 // its place.
+#![tactic(auto)]
+
 ghost use Rattle.std.specs.Prelude.{◌≡◌};
 ghost use Rattle.c_answers.specs.Answers.{answer_of};
 ghost use Rattle.packet_answers.specs.Answers.{refusedAt, rowsAnswer, importedAnswer};

@@ -19,6 +19,8 @@
 // refusal is answered by its number and place, and 'room' and 'places' by all lists to their ends. Cases 'rows' and 'units' are asked again in pieces of 1 byte (701 where they
 // are long), 61, 188 and 1,000: where an answer or a list differs, a line more says so. A line of any other form is answered by 'unreadable', and an input of more than 65,535 bytes, which is not read
 // to its end, by 'too long'.
+#![tactic(auto)]
+
 ghost use Rattle.std.specs.Prelude.{◌≤◌, length};
 
 mod answers;

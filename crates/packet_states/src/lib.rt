@@ -2,6 +2,8 @@
 // call and come back. The bytes are the layer of each PID (8,192), the packet that is not whole yet (188), and the last packet of each layer (64 of 188). The numbers
 // are whether each layer has a last packet (64), how many bytes of a packet are carried, how many packets were whole, the lowest of 30 to 33 and its packet, the
 // lowest of 20 to 24 and its packet, the rows, and whether a row found no room. Any content is answered for: what is no state is told from what is one.
+#![tactic(auto)]
+
 ghost use Rattle.std.specs.Prelude.{◌≡◌, ◌+◌, ◌≤◌, ◌<◌, length, get_or, take};
 ghost use Rattle.std.proofs.lemmas.List.Edits.{sets};
 ghost use Rattle.combinators.specs.Lists.{any};

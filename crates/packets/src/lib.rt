@@ -1,5 +1,7 @@
 // One transport packet of 188 bytes: what its header and its adaptation field say, and what a packet is judged for by itself. Any bytes get an
 // answer; what a packet is to the packets before it is judged in the crate `continuity`.
+#![tactic(auto)]
+
 ghost use Rattle.std.specs.Prelude.{◌≡◌, ◌+◌, ◌*◌, ◌%◌, length};
 ghost use Rattle.packets.specs.Reading.{packet_bytes, adaptation_of, packet_of, read_of};
 ghost use Rattle.packets.specs.Judging.{lost_sync, is_skipped, with_payload, payload_at, adaptation_outside, starts_clear, header_within, is_outside, is_scrambled};

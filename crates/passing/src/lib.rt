@@ -1,5 +1,7 @@
 // The whole packets of one piece of a recording: they are walked through, the rows of the units that start in them are laid behind those that were laid before,
 // and the last packets on the layers' PIDs are kept, so that the bytes may go.
+#![tactic(auto)]
+
 ghost use Rattle.std.specs.Prelude.{◌≡◌, ◌+◌, ◌*◌, ◌/◌, ◌^◌, ◌≤◌, ◌<◌, length};
 ghost use Rattle.packets.specs.Reading.{packet_bytes};
 ghost use Rattle.recording_rows.specs.Columns.{columns, room_in};

@@ -1,5 +1,7 @@
 // A video PES header's times, PTS, DTS and TREF: read, written, and both beside each other. proofs/ has the laws that hold between the
 // two: what was written is read back, and what was read is written again.
+#![tactic(auto)]
+
 pub use pes_reader::{Answer, Header, read};
 pub use pes_writer::{Written, write};
 pub use stamps::Times;

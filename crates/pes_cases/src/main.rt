@@ -2,6 +2,8 @@
 // bytes of a header in hexadecimal, or PTS, decoding time, match time, 1 or 0 for a TREF or none, and the room of a buffer. The file
 // `stdin` has the cases, and `stdout` what every line has to say; both were worked out by hand from Table 2-21 of H.222.0, source 003 and
 // documents 01 and 02.
+#![tactic(auto)]
+
 ghost use Rattle.std.specs.Prelude.{◌≤◌};
 
 use cases::{number_or, numbers_of, say, say_number};

@@ -1,5 +1,7 @@
 // The header data of a PES packet, walked field by field in the order of Table 2-21, up to the second extension and its TREF. Each function
 // takes the bytes from its own field on.
+#![tactic(auto)]
+
 ghost use Rattle.std.specs.Prelude.{◌≡◌, ◌+◌, ◌*◌};
 ghost use Rattle.stamps.specs.Stamps.{dts_flag};
 ghost use Rattle.pes_fields.specs.Tables.{packet_flags};

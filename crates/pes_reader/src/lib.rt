@@ -1,5 +1,7 @@
 // Reads a video PES header for its times, PTS, DTS and TREF: which of the refusals 20 to 24 it meets, tested in that order, or its three times,
 // whether a TREF stood in it, and where it ends.
+#![tactic(auto)]
+
 ghost use Rattle.std.specs.Prelude.{◌≡◌, ◌≤◌, eqb, length};
 ghost use Rattle.syntax.specs.Table.{number};
 ghost use Rattle.pes_fields.specs.Tables.{packet_flags};

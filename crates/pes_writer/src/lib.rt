@@ -1,5 +1,7 @@
 // Writes a video PES header of three times, with a TREF exactly when its caller asks for one: 25, 17 and 24 tested in that order, or the header
 // written at the front of the buffer.
+#![tactic(auto)]
+
 ghost use Rattle.std.specs.Prelude.{◌≡◌, ◌+◌, ◌^◌, ◌≤◌, ◌<◌, length};
 ghost use Rattle.buffers.specs.Buffers.{Laid};
 ghost use Rattle.syntax.specs.Named.{write_by};

@@ -1,5 +1,7 @@
 // The layer of each PID, from the PIDs of all layers of a loop by their index, implied layers and those outside a target's closure too: a table of 8,192 bytes,
 // in which 255 stands for no layer.
+#![tactic(auto)]
+
 ghost use Rattle.std.specs.Prelude.{◌≡◌, cond, ◌<◌, length, set};
 ghost use Rattle.sets.specs.Sets.{has};
 ghost use Rattle.pid_layers.specs.PidLayers.{pids as pidsOf, layers_by_pid};

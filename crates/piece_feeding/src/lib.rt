@@ -1,4 +1,6 @@
 // A recording fed in pieces of any lengths, cut anywhere: the first bytes of a piece go to the packet that is not whole yet, and the others start where a packet does.
+#![tactic(auto)]
+
 ghost use Rattle.std.specs.Prelude.{◌≡◌, ◌+◌, ◌-◌, ◌^◌, ◌≤◌, ◌<◌, length};
 ghost use Rattle.packets.specs.Reading.{packet_bytes};
 ghost use Rattle.recording_rows.specs.Columns.{columns, room_in};

@@ -1,4 +1,6 @@
 // One operation point laid into a buffer, from a row of numbers and two lists of bytes (point_fields): its two lists with their counts, and its rates.
+#![tactic(auto)]
+
 ghost use Rattle.std.specs.Prelude.{◌≡◌, false, length};
 ghost use Rattle.combinators.specs.Lists.{any, gather};
 ghost use Rattle.buffers.specs.Buffers.{Laid};

@@ -15,6 +15,8 @@
 // Reading is answered by how many points there are, and a line for each list and each point, or by the refusal; a case `room` by all seven lists to their ends; writing by how many
 // bytes there are, or the refusal, and the room to its end. A line of any other form is answered by 'unreadable', and an input of more than 65,535 bytes, which is not read to its
 // end, by 'too long'.
+#![tactic(auto)]
+
 mod answers;
 mod reading;
 mod writing;

@@ -1,6 +1,8 @@
 // The HEVC operation point descriptors in the program's own descriptor loop (tag 63, extension tag 0x05): the loop framed by its descriptors' heads, those
 // among them found in order and judged, 40 and 41, the lowest over all of them; and where their payloads and their points begin.
 // specs/Descriptors.antt has what is answered; what is right in the words of W-205 is said of the whole program, in points_meaning.
+#![tactic(auto)]
+
 ghost use Rattle.std.specs.Prelude.{◌≡◌, ◌+◌, ◌*◌, ◌≤◌, length, drop};
 ghost use Rattle.point_descriptors.specs.Held.{Held};
 ghost use Rattle.point_descriptors.specs.Descriptors.{is_points, filling_if, worse as worseOf, payload_place, point_places, point_places_in, point_places_if, no_places, found_in};

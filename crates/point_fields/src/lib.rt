@@ -1,6 +1,8 @@
 // One operation point as its caller gives it, a row of numbers and two lists of bytes: whether a number is too wide for its field (25), how many bytes the
 // point takes, and the bytes of its fields, by the tables of operation_points. specs/WrittenParts.antt has how a table with loops and conditions is written,
 // specs/Fields.antt a point by these tables; `point_bytes` lays the whole of it into a buffer.
+#![tactic(auto)]
+
 ghost use Rattle.std.specs.Prelude.{◌≡◌, true, false, cond, [], ◌∷◌, ◌≤◌, ◌<◌, eqb, ltb, length};
 ghost use Rattle.buffers.specs.Buffers.{Laid};
 ghost use Rattle.syntax.specs.Table.{write_table};

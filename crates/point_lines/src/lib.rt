@@ -1,4 +1,6 @@
 // The lines of the program `points`, laid into a buffer: every operation point with its target_ols, its highest temporal sub-layer, its rates and its streams, or the refusal.
+#![tactic(auto)]
+
 ghost use Rattle.std.specs.Prelude.{[], ◌≡◌};
 ghost use Rattle.text.specs.Text.{Laid};
 ghost use Rattle.operation_points.specs.Values.{frame_rate_of, bit_rate_of, point_value};

@@ -1,5 +1,7 @@
 // All that the program `points` prints, laid into a buffer: the operation points of a program, each on a line, or the refusal. The line of one point is laid by the crate
 // `point_lines`.
+#![tactic(auto)]
+
 ghost use Rattle.std.specs.Prelude.{◌≤◌, map, length};
 ghost use Rattle.text.specs.Text.{Laid};
 ghost use Rattle.program_points.specs.Places.{value_at, IsPoint, AllPoints};

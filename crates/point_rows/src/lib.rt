@@ -1,5 +1,7 @@
 // The operation points of a program laid into lists that a caller lends; include/thoquenry.h has their layout. One function fills one list, from the places of the
 // payloads or of the points in the program's loop, and each knows that there is room: whether there is was decided before any of them.
+#![tactic(auto)]
+
 ghost use Rattle.std.specs.Prelude.{◌≡◌, cond, map, ◌+◌, ◌%◌, ◌≤◌, length};
 ghost use Rattle.combinators.specs.Lists.{gather};
 ghost use Rattle.buffers.specs.Buffers.{Laid};

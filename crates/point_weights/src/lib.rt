@@ -1,5 +1,7 @@
 // The points of an operation point descriptor judged and weighed from the rows that a caller lends, in one pass: 25, 41, and 25 again for a length above
 // 255, or how many bytes the descriptor takes. specs/Rows.antt has the verdict; proofs/Weights.antt that the pass finds it.
+#![tactic(auto)]
+
 ghost use Rattle.std.specs.Prelude.{◌≡◌, ◌+◌, ◌/◌, ◌≤◌, length};
 ghost use Rattle.combinators.specs.Lists.{any};
 ghost use Rattle.point_fields.specs.Fields.{reference_too_wide};

@@ -2,6 +2,8 @@
 // output, each with its target_ols, its highest temporal id, its rates, whether its list of streams is closed, and that list; or the refusal. What goes wrong at the edge is told on
 // standard error: an argument, of which it takes none, an input that cannot be read, an output that cannot be written whole. No program here has an exit status: the command
 // `points` beside the crates gives one, and opens descriptor 3.
+#![tactic(auto)]
+
 use console::Input;
 use libc::{STDERR_FILENO, STDIN_FILENO, STDOUT_FILENO};
 

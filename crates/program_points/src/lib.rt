@@ -3,6 +3,8 @@
 //
 // specs/Places.antt has what stands at a place of the program's loop, specs/Told.antt the answer; points_meaning has what is right in the words of W-205, and
 // the proof that the two are one.
+#![tactic(auto)]
+
 ghost use Rattle.std.specs.Prelude.{◌≡◌, map, ◌≤◌, length};
 ghost use Rattle.combinators.specs.Lists.{gather};
 ghost use Rattle.point_descriptors.specs.Descriptors.{program_filling, found_in};

@@ -1,5 +1,7 @@
 // From a loop and the packets of a recording to the rows of its layers, and what the whole import of loop, target and packets answers: the rows under a loop,
 // what a target asks of it, and the order in which refusals come. The loop is read by the 2015 reading. The crate `long_imports` joins the rows.
+#![tactic(auto)]
+
 ghost use Rattle.std.specs.Prelude.{◌≡◌, length};
 ghost use Rattle.unit_starts.specs.Finding.{rows_in};
 ghost use Rattle.recording_rows.specs.Columns.{columns};

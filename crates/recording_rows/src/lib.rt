@@ -1,4 +1,6 @@
 // The rows of a recording, out of the packets in which their units start: each header is read once more, and its row is laid into columns that the caller lends.
+#![tactic(auto)]
+
 ghost use Rattle.std.specs.Prelude.{[], ◌∷◌, map, ◌≡◌, ◌+◌, ◌≤◌, length};
 ghost use Rattle.std.proofs.lemmas.List.Edits.{sets};
 ghost use Rattle.syntax.specs.Filled.{bit_of};

@@ -1,6 +1,8 @@
 // The rows of a recording of transport packets, straight from its bytes: each unit that starts on a layer's PID is one, laid into columns that the caller lends,
 // or the refusal (30 to 33, 20 to 24, 13), with every column as it was. One walk over the packets judges them and notes where units start; the rows are then laid
 // from there alone.
+#![tactic(auto)]
+
 ghost use Rattle.std.specs.Prelude.{◌≡◌, min, length};
 ghost use Rattle.recording_rows.specs.Columns.{columns};
 ghost use Rattle.recordings.specs.Reading.{fault_of, header_refusal, answer_of, recording_of, rows_count, columns_after, number_of, place_of};

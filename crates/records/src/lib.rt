@@ -3,6 +3,8 @@
 //
 // A layer may also be implied: one view of two that have no hierarchy descriptor (document 02, W-201). It has no descriptor and no fields; its index and the
 // layers that it names follow from its stream type, which is therefore asked for with the record. Which loops imply layers is said elsewhere.
+#![tactic(auto)]
+
 ghost use Rattle.std.specs.Prelude.{◌≡◌, false, [], map, ◌≤◌, min, length, take};
 ghost use Rattle.combinators.specs.Lists.{any, gather};
 ghost use Rattle.buffers.specs.Buffers.{Laid};

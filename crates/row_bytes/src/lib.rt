@@ -1,4 +1,6 @@
 // The bytes of a row that is to be written, laid by its numbers where there is room for them: no entry is made of it.
+#![tactic(auto)]
+
 ghost use Rattle.std.specs.Prelude.{◌≡◌, false, ◌++◌, map, ◌≢◌, ◌+◌, ◌≤◌, length, get_or};
 ghost use Rattle.combinators.specs.Lists.{any};
 ghost use Rattle.buffers.specs.Buffers.{Laid};

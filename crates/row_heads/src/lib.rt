@@ -1,4 +1,6 @@
 // The first 16 numbers of a row: the stream type, the PID, and the fields of the record.
+#![tactic(auto)]
+
 ghost use Rattle.std.specs.Prelude.{◌≡◌};
 ghost use Rattle.syntax.specs.Filled.{bit_of};
 ghost use Rattle.entry_rows.specs.Rows.{fieldless_head, head_of};

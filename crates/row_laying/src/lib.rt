@@ -1,4 +1,6 @@
 // From a loop's bytes to rows: each entry's numbers are stored straight into the row that the caller lends, and no entry is made.
+#![tactic(auto)]
+
 ghost use Rattle.std.specs.Prelude.{◌≡◌, true, ◌++◌, map, ◌*◌, ◌≤◌, min, length, take, drop, replicate};
 ghost use Rattle.combinators.specs.Padding.{pad_to};
 ghost use Rattle.buffers.specs.Buffers.{over};

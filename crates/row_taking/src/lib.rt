@@ -1,4 +1,6 @@
 // From rows to entries: the entry of a row that has no value too wide, and what the rule on two views looks at of it.
+#![tactic(auto)]
+
 ghost use Rattle.std.specs.Prelude.{◌≡◌, false, map, ◌≤◌, length, take};
 ghost use Rattle.syntax.specs.Named.{by_names};
 ghost use Rattle.combinators.specs.Lists.{any};

@@ -1,4 +1,6 @@
 // A row that is to be written, judged and sized by its numbers: no entry is made of it, and its embedded layers stay where they are.
+#![tactic(auto)]
+
 ghost use Rattle.std.specs.Prelude.{◌≡◌, true, false, ◌≢◌, ◌+◌, ◌*◌, ◌≤◌, ◌<◌, length, get_or, set, replicate};
 ghost use Rattle.combinators.specs.Lists.{first_true};
 ghost use Rattle.records.specs.Records.{index_of};

@@ -1,4 +1,6 @@
 // A loop written from rows: they are weighed by their numbers, and then their bytes laid into the buffer. No entry is made of them.
+#![tactic(auto)]
+
 ghost use Rattle.std.specs.Prelude.{◌≡◌, false, ◌≤◌, length};
 ghost use Rattle.buffers.specs.Buffers.{Laid};
 ghost use Rattle.loop_writer.specs.Layout.{loop_bytes};

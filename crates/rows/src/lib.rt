@@ -1,5 +1,7 @@
 // The row table of document 01, 'Rows and units', and what is judged on single rows of it: their shape and range (13), and the time order of
 // each closure layer (14).
+#![tactic(auto)]
+
 ghost use Rattle.std.specs.Prelude.{false, [], ◌≡◌, ◌≤◌, length};
 ghost use Rattle.rows.specs.Table.{table, wrong_shape, outside, first_out_of_range, first_time, first_broken};
 ghost use Rattle.rows.specs.Verdicts.{verdict_of};

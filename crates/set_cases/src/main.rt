@@ -15,6 +15,8 @@
 // A change is answered by 'accepted' and the number of layers, or by 'refused', its number and place; then comes each layer, with its entry's numbers from
 // the record's kind to the last that the record has, its closure, how many indices are in it, and 'absent' where one of them is. A line of any other form
 // is answered by 'unreadable', and an input of more than 65,535 bytes, which is not read to its end, by 'too long'.
+#![tactic(auto)]
+
 ghost use Rattle.std.specs.Prelude.{◌≤◌};
 
 mod answers;

@@ -1,5 +1,7 @@
 // Sets of numbers below 64, such as layer indices, each held in one u64: i is a member when bit i is 1.
 // specs/Sets.antt says what each function answers, proofs/Laws.antt what that means.
+#![tactic(auto)]
+
 ghost use Rattle.std.specs.Prelude.{◌≡◌};
 ghost use Rattle.sets.specs.Sets.{has, added, without as withoutOf, below as belowOf, lowest as lowestOf, rest as rest_of, size as size_of};
 

@@ -1,5 +1,7 @@
 // How far the rows of a closure lie apart, as document 02 has it under W-204: for each row the signed 33-bit distance of its decoding time from that
 // of the first closure row in the table, as a key that orders as it does; and whether the distances of closure rows span 2^32 or more (18).
+#![tactic(auto)]
+
 ghost use Rattle.std.specs.Prelude.{[], ◌≡◌, ◌≤◌, length};
 ghost use Rattle.buffers.specs.Buffers.{over};
 ghost use Rattle.rows.specs.Table.{table};

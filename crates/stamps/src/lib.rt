@@ -1,5 +1,7 @@
 // The times of a PES header, PTS, DTS and TREF, each in its field of five bytes, read and written: three parts of its 33 bits, each with a
 // marker bit after it.
+#![tactic(auto)]
+
 ghost use Rattle.std.specs.Prelude.{◌≡◌, ◌+◌, ◌*◌, ◌/◌, ◌%◌, ◌^◌, ◌≤◌, ◌<◌, length};
 ghost use Rattle.stamps.specs.Tables.{tref, prefixed};
 ghost use Rattle.stamps.specs.Stamps.{dts_flag, stamp_of, stamps_of, time_field};

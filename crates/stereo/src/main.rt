@@ -1,6 +1,8 @@
 // Reads the elementary-stream loop of a program map section on standard input and writes its stereo set to standard output: the two layers with their PIDs, their ranges of
 // view order index and their rates, or the refusal. What goes wrong at the edge is told on standard error: an argument, of which it takes none, an input that cannot be
 // read, an output that cannot be written whole. No program here has an exit status: the command `stereo` beside the crates gives one.
+#![tactic(auto)]
+
 use console::Input;
 use libc::{STDERR_FILENO, STDIN_FILENO, STDOUT_FILENO};
 

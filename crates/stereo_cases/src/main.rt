@@ -17,6 +17,8 @@
 //
 // A value above the greatest of its type counts as that. A line of any other form is answered by 'unreadable', and an input of more than 65,535 bytes, which is
 // not read to its end, by 'too long'.
+#![tactic(auto)]
+
 ghost use Rattle.std.specs.Prelude.{◌≤◌};
 
 mod answers;

@@ -1,4 +1,6 @@
 // The lines of the program `stereo`, laid into a buffer: the two layers of a stereo set with their PIDs, their ranges of view order index and their rates, or the refusal.
+#![tactic(auto)]
+
 ghost use Rattle.std.specs.Prelude.{ℕ};
 ghost use Rattle.text.specs.Text.{Laid};
 ghost use Rattle.stereo_lines.specs.Lines.{layer_line, set_text, stereo_text};

@@ -3,6 +3,8 @@
 // number, 1 to 9, or with 44, 45 or 46.
 //
 // `views` keeps the layers of a loop, two of them whole; `set` judges two layers, whoever found them; `reader` finds them in a loop's bytes.
+#![tactic(auto)]
+
 mod reader;
 mod set;
 mod views;

@@ -2,6 +2,8 @@
 // writer's numbers first, with 20 bytes more for the two descriptors, then 44 and 46, and 17 last.
 //
 // Whoever calls this has tested 25 (`entry_rows::some_too_wide`, `mvc_rows::extension_too_wide`); the function for C in `thoquenry_stereo` does.
+#![tactic(auto)]
+
 mod entry;
 mod passes;
 mod writer;

@@ -2,6 +2,8 @@
 // dependencies that it asks to be prepended; and whether such a list is closed under embedding.
 // specs/Lists.antt has the answer as a definition that computes, specs/Meaning.antt what is right in the words of W-205, proofs/Meant.antt that the two
 // are one, and proofs/Union.antt what a closed list gives: the closures of its members.
+#![tactic(auto)]
+
 ghost use Rattle.std.specs.Prelude.{[], ◌≡◌};
 ghost use Rattle.stream_lists.specs.Lists.{asked as asked_of, no_layer, stream_list, list_built, escapes as escapesFrom, is_closed};
 

@@ -1,4 +1,6 @@
 // Rows joined for C, as far as they were read: the units with their summary, or the refusal, as one number of 64 bits.
+#![tactic(auto)]
+
 ghost use Rattle.std.specs.Prelude.{◌≡◌, length};
 ghost use Rattle.rows.specs.Table.{table};
 ghost use Rattle.unit_lists.specs.Sequence.{lists};

@@ -5,3 +5,4 @@
 // names (specs/Named.antt), and the laws that join the two are proved once, for every table (proofs/Laws.antt, NamedLaws.antt;
 // Number.antt for bytes as a number). proofs/Equations.antt brings a table at unknown bytes down to arithmetic. No code runs here: the
 // crates above read and write bytes, and their promises cite these definitions.
+#![tactic(auto)]

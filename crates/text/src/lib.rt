@@ -1,5 +1,7 @@
 // Text laid into a buffer, piece after piece: fixed texts, which are bytes as any other, and decimal numbers. A text that is longer than the
 // room for it is cut off at the end of the buffer.
+#![tactic(auto)]
+
 ghost use Rattle.buffers.specs.Buffers.{Laid};
 ghost use Rattle.text.specs.Text.{decimal};
 

@@ -1,6 +1,8 @@
 // The library that others link: loops, closures and times, and its version, for C and for whatever calls C. (The functions that join rows have a crate of their own.)
 // include/thoquenry.h documents each; specs/ has, for each, one definition of its answer and of what its buffers hold afterwards, over the definitions of the crates that
 // do the work.
+#![tactic(auto)]
+
 mod loops;
 mod times;
 mod version;

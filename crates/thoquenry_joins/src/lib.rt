@@ -1,5 +1,7 @@
 // Rows joined to units, for C: over layers that the caller gives, with work space of the caller's, and over the layers of a loop's bytes. include/thoquenry.h
 // documents each; specs/Joins.antt has, for each, one definition of its answer and of what its lists hold afterwards.
+#![tactic(auto)]
+
 ghost use Rattle.std.specs.Prelude.{◌≡◌, ◌≤◌, length};
 ghost use Rattle.rows.specs.Table.{table, most_rows};
 ghost use Rattle.unit_lists.specs.Sequence.{lists};

@@ -1,6 +1,8 @@
 // The whole import of a loop, a target and the packets of a recording for C, and for whatever calls C. include/thoquenry.h documents each function; the definitions of their
 // answers, and of what their lists hold afterwards, are `import_placed` of the crate `summed_joins` and `import_columns` of `recording_imports`. The loop is read by the 2015
 // reading. The call takes the steps of `long_imports::import_long` itself: what a step promises is of values at hand.
+#![tactic(auto)]
+
 ghost use Rattle.std.specs.Prelude.{◌≡◌, length};
 ghost use Rattle.rows.specs.Table.{most_rows};
 ghost use Rattle.unit_lists.specs.Sequence.{lists};

@@ -1,5 +1,7 @@
 // The rows of a recording for C, and for whatever calls C, in one call. include/thoquenry.h documents it; specs/Calls.antt has one definition of its answer and of what its
 // columns hold afterwards. The loop is read by the 2015 reading. The call takes the steps of `recording_imports::read_rows` itself: what a step promises is of values at hand.
+#![tactic(auto)]
+
 ghost use Rattle.std.specs.Prelude.{◌≡◌, length};
 ghost use Rattle.recording_rows.specs.Columns.{columns};
 ghost use Rattle.thoquenry_packets.specs.Calls.{rows_call};

@@ -1,5 +1,7 @@
 // A recording in pieces for C, and for whatever calls C: a state that is begun with a loop, fed piece after piece of any lengths, and asked. The caller owns the
 // state and the columns. include/thoquenry.h documents each function; specs/ has, for each, its answer and what its lists hold afterwards.
+#![tactic(auto)]
+
 ghost use Rattle.std.specs.Prelude.{◌≡◌, true, min, ◌≤◌, length};
 ghost use Rattle.recording_rows.specs.Columns.{columns};
 ghost use Rattle.packet_states.specs.States.{state_bytes, state_numbers, is_state};

@@ -1,5 +1,7 @@
 // An operation point descriptor written for C, and for whatever calls C. include/thoquenry.h documents the function; specs/ has one definition of its answer and
 // of what its buffer holds afterwards.
+#![tactic(auto)]
+
 ghost use Rattle.std.specs.Prelude.{◌≡◌};
 ghost use Rattle.c_answers.specs.Answers.{reply};
 ghost use Rattle.thoquenry_points_written.specs.Writing.{write_points};

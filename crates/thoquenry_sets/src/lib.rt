@@ -1,5 +1,7 @@
 // The functions for C on layer sets: read, a layer added, a layer removed, and the answer to a target. include/thoquenry.h documents each; specs/ has, for each, one
 // definition of its answer and of what its buffers hold afterwards. Buffers that hold no set are no call.
+#![tactic(auto)]
+
 ghost use Rattle.std.specs.Prelude.{◌≡◌, length};
 ghost use Rattle.c_answers.specs.Answers.{reply};
 ghost use Rattle.layer_set.specs.Sets.{stored_in};

@@ -1,5 +1,7 @@
 // The units of a recording that was fed, for C: the last step over the columns into which its pieces were fed. include/thoquenry.h documents the function; specs/ has
 // one definition of its answer and of what its lists hold afterwards.
+#![tactic(auto)]
+
 ghost use Rattle.std.specs.Prelude.{◌≡◌, length};
 ghost use Rattle.rows.specs.Table.{table};
 ghost use Rattle.unit_lists.specs.Sequence.{lists};

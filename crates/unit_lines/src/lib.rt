@@ -1,4 +1,6 @@
 // The lines of the program `units`, laid into a buffer: a unit, a row, a refusal.
+#![tactic(auto)]
+
 ghost use Rattle.std.specs.Prelude.{◌≤◌, ◌≡◌};
 ghost use Rattle.std.specs.Int.Signed.{mag};
 ghost use Rattle.text.specs.Text.{Laid};

@@ -1,5 +1,7 @@
 // The units in their order, as W-204 of document 02 has it: by the distance of the head's decoding time from that of the first closure row, then by lower layer, then by row;
 // and the three lists that hold them: row numbers, lags and sizes.
+#![tactic(auto)]
+
 ghost use Rattle.std.specs.Prelude.{[], ◌≡◌, ◌+◌, ◌-◌, ◌≤◌, length};
 ghost use Rattle.std.proofs.lemmas.List.Edits.{sets};
 ghost use Rattle.std.proofs.Math.Seq.{slice};

@@ -1,5 +1,7 @@
 // The packets of a recording, or of a part of one, in one walk: what is found in them, the lowest of 30 to 33 and of 20 to 24 each at its earliest packet and the
 // number of rows; and the packets in which units start, noted one after another in a list that the caller lends, as far as it has room.
+#![tactic(auto)]
+
 ghost use Rattle.std.specs.Prelude.{[], ◌∷◌, map, ◌≡◌, ◌+◌, ◌-◌, ◌*◌, ◌/◌, ◌^◌, ◌≤◌, ◌<◌, length};
 ghost use Rattle.std.proofs.lemmas.List.Edits.{sets};
 ghost use Rattle.packets.specs.Reading.{packet_bytes};

@@ -1,5 +1,7 @@
 // What the program `units` writes: units or rows, a line each, through a buffer; or a refusal. Once everything is written it tells the command beside the crates what was, on descriptor 4:
 // 'units', 'rows' or the refusal, or 'more' where there were more rows than places and it was asked to leave that to another run. So nothing that was half written is told as whole.
+#![tactic(auto)]
+
 ghost use Rattle.std.specs.Prelude.{◌≤◌, length};
 
 use libc::{STDERR_FILENO, STDOUT_FILENO};

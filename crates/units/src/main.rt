@@ -1,6 +1,7 @@
 // Reads an elementary-stream loop on descriptor 3 and a recording on standard input, and writes its units or its rows, a line each, or the refusal, to standard output. It holds
 // 65,536 rows, as many as find room within the ordinary 8 MB of stack; `units_long` holds more. What it does is said in the crate `units_program`, and the command `units` beside the
 // crates gives an exit status.
+#![tactic(auto)]
 
 use units_program::Question;
 

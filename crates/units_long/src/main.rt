@@ -1,4 +1,6 @@
 // As `units`, for 524,288 rows, more than an hour of two layers at 50 pictures a second each: it takes 49 MB of stack, for which the command `units` asks before it runs it.
+#![tactic(auto)]
+
 ghost use Rattle.std.specs.Prelude.{◌≡◌, length};
 
 use units_program::Question;

@@ -1,6 +1,8 @@
 // What the program `units` does, over a state, columns and work space that it is lent: how long a recording it takes is decided by whoever has the room. It reads the loop on
 // descriptor 3 and the recording on standard input, in large pieces, and writes a line for each unit, or for each row, or the refusal, to standard output. What goes wrong at the
 // edge is told on standard error. No program here has an exit status: the command `units` beside the crates, which opens descriptor 3, and 4 for what was written, gives one.
+#![tactic(auto)]
+
 mod asking;
 mod reading;
 

@@ -1,5 +1,7 @@
 // The words that every other crate uses: the four kinds of six-bit and three-bit numbers that must never stand for one another,
 // the two readings and the stream types each knows, the hierarchy types by stream, and the refusals.
+#![tactic(auto)]
+
 mod refusal;
 mod stream_types;
 

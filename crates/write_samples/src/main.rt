@@ -1,5 +1,7 @@
 // Writes the sample loops from their values, and prints each as hexadecimal bytes, or its refusal. What it prints is held to the file
 // 'stdout', which has the samples' own bytes.
+#![tactic(auto)]
+
 mod entries;
 mod shown;
 

@@ -1,0 +1,15 @@
+-- `digit` meets its contract.
+-- Assumes nothing.
+use native.Mathlib.Omega.{arith}
+use Rattle.cases.proofs.Digits.{digit_yes, digit_below, digit_above, value_yes, value_no}
+use borrow.Author.Rules.{rules}
+use Rattle.cases.proofs.numbers.digit.Goals as goal
+
+pub returns-in-48-to-57 : goal.returns-in-48-to-57
+returns-in-48-to-57 c = let a = c.args in (value_yes a.character (digit_yes a.character c.in-48-to-57.if-character-lt48-own.false c.in-48-to-57.if-character-lt58-own.true), omega arith)
+
+pub returns-in_default : goal.returns-in_default
+returns-in_default c = (value_no c.args.character (digit_below c.args.character c.in_default.if-character-lt48-own.true), omega arith)
+
+pub returns-in_default-2 : goal.returns-in_default-2
+returns-in_default-2 c = let a = c.args in (value_no a.character (digit_above a.character c.in_default.if-character-lt48-own.false c.in_default.if-character-lt58-own.false), omega arith)

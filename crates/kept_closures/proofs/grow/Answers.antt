@@ -1,0 +1,19 @@
+-- `grow` meets its contract: by whether the layer rests on the index.
+-- Assumes nothing.
+use mathlib.Core.Bool.{Bool, cond}
+use mathlib.Core.Path.{ap, sym, ◌∙◌}
+use lib.ListN.{get_or}
+use Rattle.sets.specs.Sets.{joined}
+use Rattle.kept_closures.specs.Kept.{columns, stored_at}
+use borrow.Author.Rules.{rules}
+use Rattle.kept_closures.proofs.grow.Goals as goal
+
+pub returns-then-member : goal.returns-then-member
+returns-then-member c =
+    let a = c.args in
+    c.keep.ensures ∙ ap (λ (b : Bool). cond b (stored_at a.present (joined (get_or a.closures.now a.upper 0) a.own) a.upper (columns a.closures.now a.sizes.now a.absents.now)) (columns a.closures.now a.sizes.now a.absents.now)) (sym (sym c.member.ensures ∙ c.if-member.true))
+
+pub returns-else-member : goal.returns-else-member
+returns-else-member c =
+    let a = c.args in
+    ap (λ (b : Bool). cond b (stored_at a.present (joined (get_or a.closures.now a.upper 0) a.own) a.upper (columns a.closures.now a.sizes.now a.absents.now)) (columns a.closures.now a.sizes.now a.absents.now)) (sym (sym c.member.ensures ∙ c.if-member.false))

@@ -1,0 +1,12 @@
+-- `keep` meets its contract: three stores.
+-- Assumes nothing.
+use Rattle.kept_closures.proofs.Steps.{size_small}
+use borrow.Author.Rules.{rules}
+use Rattle.kept_closures.proofs.keep.Goals as goal
+
+pub overflow_cast-sizes : goal.overflow_cast-sizes
+overflow_cast-sizes c = record { fits = rw c.size.ensures (size_small c.args.closure) }
+
+pub returns : goal.returns
+returns c =
+    rw (c.size.ensures, c.without.ensures)

@@ -1,0 +1,31 @@
+-- `operation_points::frame_rate` meets its contract. Assumes nothing.
+use mathlib.Core.Path.{◌≡◌, ap₂}
+use mathlib.Core.Bool.{true, false}
+use Prim.Native.Nat.{ℕ, ◌+◌, ◌*◌}
+use native.Mathlib.Omega.{arith}
+use borrow.Author.Tests.{not-true, not-false}
+use lib.ListN.{length}
+use Rattle.operation_points.proofs.Judging.{room_there}
+use borrow.Author.Rules.{rules}
+use Rattle.operation_points.proofs.frame_rate.Goals as goal
+
+pub returns-then-not-there : goal.returns-then-not-there
+returns-then-not-there c =
+    let a = c.args in
+    let absent : a.there ≡ false = c.if-not-there.true in
+    rw absent
+
+pub bounds-left-at : goal.bounds-left-at
+bounds-left-at c = omega (arith, room_there c.args.there c.args.at 2 (length c.args.left.now) (c.if-not-there.false) c.requires)
+
+pub bounds-left-at-2 : goal.bounds-left-at-2
+bounds-left-at-2 c = omega (arith, room_there c.args.there c.args.at 2 (length c.args.left.now) (c.if-not-there.false) c.requires)
+
+pub overflow_add-result : goal.overflow_add-result
+overflow_add-result c = omega (arith, c.shared_slice_known-3-1.given (c.args.at + 1))
+
+pub returns : goal.returns
+returns c =
+    let a = c.args in
+    let there : a.there ≡ true = c.if-not-there.false in
+    rw there (ap₂ (λ (x y : ℕ). x * 256 + y) c.narrow.ensures c.narrow-2.ensures)

@@ -1,0 +1,33 @@
+-- `put_references` meets its contract. The invariant: the references passed are laid in, after the empty text at the start.
+-- Assumes nothing.
+use Prim.Native.Nat.{◌-◌, ◌≤◌}
+use mathlib.Core.Path.{sym, ◌∙◌, ap}
+use lib.ListN.{length, take}
+use lib.Seq.{take_all}
+use Rattle.combinators.specs.Lists.{any, gather, any_none}
+use Rattle.buffers.specs.Buffers.{Laid}
+use Rattle.buffers.proofs.Laws.{laid_as, laid_length}
+use Rattle.buffers.proofs.Pieces.{pieces_start, pieces_next, pieces_end}
+use Rattle.point_fields.specs.Fields.{reference_bytes, reference_too_wide}
+use borrow.Author.Rules.{rules}
+use native.Mathlib.Omega.{arith}
+use Rattle.point_bytes.proofs.put_references.Goals as goal
+
+pub loop-i-init : goal.loop-i-init
+loop-i-init c = (omega arith, pieces_start c.args.references.now reference_bytes c.put-place.ensures)
+
+pub reference_byte-byte-requires : goal.reference_byte-byte-requires
+reference_byte-byte-requires c = let a = c.args in any_none a.references.now 0 reference_too_wide (length a.references.now) c.loop-i.i (omega arith) (omega arith) (ap (any reference_too_wide) (take_all (length a.references.now) a.references.now (omega arith)) ∙ c.requires)
+
+-- LEFT: no goal of today has the name slice-aggregate-put-2
+-- slice-aggregate-put-2 : tie.Need-slice-aggregate-put-2 invariant-loop decreases-loop
+-- slice-aggregate-put-2 c = search rules
+
+pub loop-i-preserved : goal.loop-i-preserved
+loop-i-preserved c = (omega arith, pieces_next c.args.references.now reference_bytes c.loop-i.i 0 (omega arith) c.loop-i.invariant.1 (laid_as c.reference_byte-byte.ensures c.put-place-in-loop-i.ensures))
+
+pub returns : goal.returns
+returns c = let a = c.args in laid_as (ap (gather reference_bytes) (take_all (length a.references.now) a.references.now (omega arith))) (pieces_end a.references.now reference_bytes c.loop-i.i (length a.references.now) (omega arith) c.put-place.ensures c.loop-i.invariant.1)
+
+pub shape_of-out : goal.shape_of-out
+shape_of-out c = laid_length (returns c)

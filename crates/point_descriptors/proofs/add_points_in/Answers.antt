@@ -1,0 +1,19 @@
+-- `add_points_in` meets its contract.
+-- Assumes nothing.
+use Rattle.point_descriptors.proofs.Walking.{nothing_held, no_head, points_by}
+use Rattle.operation_points.proofs.Judging.{head_within}
+use mathlib.Core.Path.{sym, ◌∙◌}
+use native.Mathlib.Omega.{arith}
+use borrow.Author.Rules.{rules}
+use Rattle.point_descriptors.proofs.add_points_in.Goals as goal
+
+pub add_points-requires : goal.add_points-requires
+add_points-requires c =
+    let within = head_within c.args.payload.now c.in-Before.before (sym c.read_head-head.ensures ∙ c.in-Before.is) in
+    (omega (arith, c.requires.0), within, c.requires.1, c.requires.2)
+
+pub returns-in-HeadDoesNotFit : goal.returns-in-HeadDoesNotFit
+returns-in-HeadDoesNotFit c = nothing_held c.args.places.now c.args.count _ (no_head c.args.base c.args.payload.now (sym c.in-HeadDoesNotFit.is ∙ c.read_head-head.ensures))
+
+pub returns-in-Before : goal.returns-in-Before
+returns-in-Before c = points_by c.args.places.now c.add_points.new.places c.args.count c.add_points.result c.args.base c.args.payload.now c.in-Before.before (sym c.in-Before.is ∙ c.read_head-head.ensures) c.add_points.ensures

@@ -1,0 +1,25 @@
+-- `weigh_next` meets its contract: a row that is too wide is not counted.
+-- Assumes nothing.
+use mathlib.Core.Path.{◌≡◌, sym, ◌∙◌}
+use Rattle.point_fields.proofs.Rows.{row_fits}
+use borrow.Author.Rules.{rules}
+use native.Mathlib.Omega.{arith}
+use Rattle.point_weights.proofs.weigh_next.Goals as goal
+
+pub returns-then-row_too_wide : goal.returns-then-row_too_wide
+returns-then-row_too_wide c = (rw (sym c.row_too_wide.ensures ∙ c.if-row_too_wide.true), omega arith, omega arith, omega arith)
+
+pub overflow_cast-result : goal.overflow_cast-result
+overflow_cast-result c = let f = (row_fits c.args.row.now (sym c.row_too_wide.ensures ∙ c.if-row_too_wide.false)) in omega arith
+
+pub overflow_add-result : goal.overflow_add-result
+overflow_add-result c = let f = (row_fits c.args.row.now (sym c.row_too_wide.ensures ∙ c.if-row_too_wide.false)) in omega arith
+
+pub overflow_cast-result-2 : goal.overflow_cast-result-2
+overflow_cast-result-2 c = let f = (row_fits c.args.row.now (sym c.row_too_wide.ensures ∙ c.if-row_too_wide.false)) in omega arith
+
+pub overflow_add-result-2 : goal.overflow_add-result-2
+overflow_add-result-2 c = let f = (row_fits c.args.row.now (sym c.row_too_wide.ensures ∙ c.if-row_too_wide.false)) in omega arith
+
+pub returns : goal.returns
+returns c = let f = (row_fits c.args.row.now (sym c.row_too_wide.ensures ∙ c.if-row_too_wide.false)) in (rw (sym c.row_too_wide.ensures ∙ c.if-row_too_wide.false, c.fields_size.ensures.0), omega arith, omega arith, omega (arith, c.fields_size.ensures.1))

@@ -1,0 +1,36 @@
+-- `weigh_points` meets its contract. The invariant: what the rows passed come to, continued over those that are left, is the answer.
+-- Assumes nothing.
+use Prim.Native.Nat.{ℕ, ◌+◌, ◌-◌, ◌*◌, ◌/◌, ◌≤◌}
+use mathlib.Core.Path.{◌≡◌, refl, sym, ◌∙◌, ap}
+use mathlib.Core.List.{List}
+use lib.ListN.{length, take, drop, length-take, length-drop}
+use Rattle.point_weights.specs.Rows.{twelves, rows_in}
+use Rattle.point_weights.specs.Weighing.{nothing_weighed, weighed_after}
+use Rattle.point_weights.proofs.Weights.{rows_start, rows_next, rows_none}
+use borrow.Author.Rules.{rules}
+use native.Mathlib.Omega.{arith}
+use Rattle.point_weights.proofs.weigh_points.Goals as goal
+
+pub loop-i-init : goal.loop-i-init
+loop-i-init c = let points = c.args.points.now in (omega arith, ap (weighed_after nothing_weighed) (rows_start points (length points / 12)), omega arith, omega arith, omega arith)
+
+pub weigh_next-weighed-requires : goal.weigh_next-weighed-requires
+weigh_next-weighed-requires c = (simp (length-take, length-drop) (omega arith), omega arith, omega arith, omega arith)
+
+pub loop-i-preserved : goal.loop-i-preserved
+loop-i-preserved c = let points = c.args.points.now in
+    let i = c.loop-i.i in
+    let next = c.weigh_next-weighed in (
+      omega arith,
+      ap (λ w. weighed_after w (twelves (length points / 12 - (i + 1)) (drop ((i + 1) * 12) points))) next.ensures.0
+          ∙ sym (ap (weighed_after c.loop-i.weighed) (rows_next points (length points / 12) i (omega arith)))
+          ∙ c.loop-i.invariant.1,
+      omega (arith, next.ensures.1),
+      omega (arith, next.ensures.2),
+      omega (arith, next.ensures.3),
+    )
+
+pub returns : goal.returns
+returns c = let points = c.args.points.now in
+    let loop = c.loop-i in
+    (sym (ap (weighed_after loop.weighed) (rows_none points (length points / 12) loop.i (omega arith))) ∙ loop.invariant.1, omega arith, omega arith, omega arith)

@@ -1,0 +1,16 @@
+-- `stream_lists::stream_list` meets its contract (Building has the turns). The measure is the number of references left. Assumes nothing.
+use Prim.Native.Nat.{ℕ, ◌-◌}
+use mathlib.Core.Bool.{true}
+use mathlib.Core.Path.{◌≡◌, sym, ap, ◌∙◌}
+use native.Mathlib.Omega.{arith}
+use lib.ListN.{length}
+use Rattle.sets.specs.Sets.{without}
+use Rattle.stream_lists.specs.declared.StreamList.{StreamList}
+use Rattle.stream_lists.proofs.Building.{Building, building_start, building_ready, building_refused, building_more, building_end}
+use Rattle.stream_lists.proofs.stream_list.Given as goal
+
+abbrev pub invariant-loop-at : goal.invariant-loop-at
+invariant-loop-at l = Building l.layers l.references l.members l.count l.present l.at
+
+abbrev pub decreases-loop-at : goal.decreases-loop-at
+decreases-loop-at l = length l.references - l.at
