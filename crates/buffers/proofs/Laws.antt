@@ -1,14 +1,14 @@
 -- The laws of lists in a buffer, for elements of any type. In order: stores one after another; a list laid in by a loop, or cut off; pieces
 -- one after another, as straight code and as a loop lays them; from the front, where there is room; stored place by place; parts of a buffer.
 -- Assumes nothing.
-use Prim.Native.Nat.{ℕ, zero, suc, ◌+◌, ◌-◌, ◌≤◌, ◌<◌, min}
+use Prim.Native.Nat.{ℕ, suc, ◌+◌, ◌-◌, ◌≤◌, ◌<◌, min}
 use mathlib.Core.List.{List, [], ◌∷◌, ◌++◌, append_assoc, append-nil}
 use mathlib.Core.Path.{◌≡◌, refl, sym, ap, ap₂, ◌∙◌, subst}
 use native.Mathlib.Decide.{dec_lt}
 use native.Mathlib.Nat.{add-zero, zero-add, add-suc, suc-add}
 use native.Mathlib.Numerals.{add-one}
 use native.Mathlib.Omega.{arith}
-use lib.ListN.{length, take, drop, set, get_or, replicate, length-append, length-drop, length-set, length-replicate, replicate-append-replicate, take-append-drop, drop_of_length-le}
+use lib.ListN.{length, take, drop, set, get_or, replicate, length-append, length-drop, length-replicate, replicate-append-replicate, take-append-drop, drop_of_length-le}
 use lib.Seq.{sets, length-sets, sets-eq, set_out, take-suc, take_all, take_at, drop_at, drop-drop, take-set-le, drop-set-add, take-append_seam, length-take-le}
 use Rattle.buffers.specs.Buffers.{over, Laid}
 

@@ -1,6 +1,6 @@
 -- That the computed distance and lag are the ones meant, and no other number is.
 -- Assumes nothing.
-use Rattle.std.proofs.Common.{◌≡◌, ℕ, ◌+◌, ◌-◌, ◌*◌, ◌/◌, ◌%◌, ◌<◌, ◌≤◌, Bool, true, false, ltb, leb, ℤ, pos, negsuc, ◌+ℤ◌, ◌-ℤ◌, ◌*ℤ◌, ◌≤ℤ◌, sym, refl, ap, arith, le→leb, leb→le, ltb-false, ltb-true, le-leb, leb-true}
+use Rattle.std.proofs.Common.{◌≡◌, ℕ, ◌+◌, ◌-◌, ◌*◌, ◌/◌, ◌%◌, ◌<◌, ◌≤◌, Bool, true, false, ltb, ℤ, pos, negsuc, ◌+ℤ◌, ◌-ℤ◌, ◌*ℤ◌, ◌≤ℤ◌, sym, refl, ap, arith, le→leb, leb→le, ltb-false, ltb-true, le-leb, leb-true}
 use Rattle.clock.specs.Clock.{ticks, half, distance_of, is_before, lag_of, signed, ForwardDistance, Lag}
 use Rattle.clock.proofs.Differences.{up, down, same, of_sum, of_multiple, of_times}
 

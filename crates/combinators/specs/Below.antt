@@ -1,10 +1,10 @@
 -- Searches over the numbers below a bound: whether a test holds at some of them or at every one, where it holds first, and how
 -- often. Each is one definition that computes, with the laws that say what it means.
 -- Assumes nothing.
-use Rattle.std.specs.Prelude.{ℕ, zero, suc, ◌+◌, ◌≤◌, ◌<◌, ◌≡◌, refl, Bool, true, false, cond, ◌&&◌, ◌||◌, ◌⊎◌, T, ltb}
-use Rattle.std.proofs.Common.{sym, ◌∙◌, ap, subst, inl, inr, ⊎_elim, arith, add-one, add-suc, suc-add, zero-add, eq-or-lt_of_le, not-suc-le-zero, le_of_suc-le-suc, lt-ltb, le-ltb, ltb-true, ltb-false}
+use Rattle.std.specs.Prelude.{ℕ, zero, suc, ◌+◌, ◌≤◌, ◌<◌, ◌≡◌, refl, Bool, true, false, cond, ◌&&◌, ◌||◌, ◌⊎◌}
+use Rattle.std.proofs.Common.{inl, inr, ⊎_elim, arith, add-one, add-suc, suc-add, zero-add, eq-or-lt_of_le, not-suc-le-zero, le_of_suc-le-suc}
 use Rattle.std.proofs.Math.Decide.{dec_lt}
-use Rattle.combinators.specs.Bools.{both_left, both_right, both_ways, neither_left, neither_right, either_left, either_right, T_true, true_T}
+use Rattle.combinators.specs.Bools.{both_left, both_right, both_ways, neither_left, neither_right, either_left, either_right}
 
 -- some number below n passes the test
 abbrev pub some : (ℕ → Bool) → ℕ → Bool

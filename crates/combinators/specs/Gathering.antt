@@ -1,7 +1,7 @@
 -- An array filled from the front with the numbers below a bound that pass a test, as a loop gathers them one after another. The array has a place for each of them, and
 -- may have fewer than there are numbers.
 -- Assumes nothing.
-use Rattle.std.specs.Prelude.{ℕ, ◌+◌, ◌≤◌, ◌<◌, ◌≡◌, refl, Bool, true, false, List, [], ◌∷◌, ◌++◌, length, set, replicate}
+use Rattle.std.specs.Prelude.{ℕ, ◌+◌, ◌≤◌, ◌<◌, ◌≡◌, refl, Bool, true, false, List, [], ◌∷◌, length, set, replicate}
 use Rattle.std.proofs.Common.{sym, ◌∙◌, ap, arith, length-append}
 use Rattle.std.proofs.Math.Nat.{sub-zero}
 use Rattle.combinators.specs.Below.{count, count_less}

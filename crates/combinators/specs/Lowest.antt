@@ -1,9 +1,8 @@
 -- 'Several at once: the lowest number that applies, at the earliest place.' A test says whether a number applies at a place.
 -- Assumes nothing.
-use Rattle.std.specs.Prelude.{ℕ, zero, suc, ◌+◌, ◌≤◌, ◌<◌, ◌≡◌, refl, Bool, true, false, cond, ◌⊎◌}
-use Rattle.std.proofs.Common.{sym, ◌∙◌, ap, subst, inl, inr, ⊎_elim, arith, eq-or-lt_of_le, not-suc-le-zero, le_of_suc-le-suc}
-use Rattle.std.proofs.Math.Decide.{dec_lt}
-use Rattle.combinators.specs.Below.{some, seek, First, first_seek, seek_first, seek_inside, some_at, at_none, none_at, some_which}
+use Rattle.std.specs.Prelude.{ℕ, ◌+◌, ◌≤◌, ◌<◌, ◌≡◌, Bool, true, false}
+use Rattle.std.proofs.Common.{⊎_elim, arith, eq-or-lt_of_le, not-suc-le-zero}
+use Rattle.combinators.specs.Below.{some, seek, First, first_seek, seek_first, seek_inside, some_at, at_none, none_at}
 
 -- the lowest of the numbers below `numbers` that applies at one of the places, or `numbers` where none does
 abbrev pub lowest_number : (ℕ → ℕ → Bool) → ℕ → ℕ → ℕ

@@ -1,7 +1,7 @@
 -- Lists in which no number stands twice. Such a list of numbers below a bound is no longer than the bound: `once_short`.
 -- Assumes nothing.
 use Rattle.std.specs.Prelude.{ℕ, zero, suc, ◌≤◌, ◌<◌, ◌≡◌, refl, Bool, true, false, cond, ◌||◌, List, [], ◌∷◌, ◌++◌, ◌⊎◌, eqb, length, get_or}
-use Rattle.std.proofs.Common.{sym, ◌∙◌, ap, true≢false, inl, inr, arith, eq-or-lt_of_le, not-suc-le-zero, le_of_suc-le-suc, eq-eqb, ne_eqb}
+use Rattle.std.proofs.Common.{sym, ◌∙◌, ap, inl, inr, arith, eq-or-lt_of_le, not-suc-le-zero, le_of_suc-le-suc, eq-eqb, ne_eqb}
 use Rattle.std.proofs.lemmas.Bool.{eqb-false}
 use Rattle.combinators.specs.Bools.{neither_left, neither_right}
 use Rattle.combinators.specs.Below.{count, count_short, count_alike}

@@ -1,7 +1,7 @@
 -- Arrays filled from the front: a list, and after it as many blanks as the array has room for.
 -- Assumes nothing.
 use Rattle.std.specs.Prelude.{ℕ, zero, suc, ◌+◌, ◌-◌, ◌≤◌, ◌<◌, ◌≡◌, refl, List, [], ◌∷◌, ◌++◌, map, length, get_or, set, replicate, take}
-use Rattle.std.proofs.Common.{sym, ◌∙◌, ap, append_assoc, arith, add-one, length-append, take-suc, length-take-le}
+use Rattle.std.proofs.Common.{◌∙◌, append_assoc, arith, add-one, length-append, take-suc, length-take-le}
 use Rattle.std.proofs.lemmas.List.{map-append, length-map, length-replicate, set_at}
 use Rattle.std.proofs.Math.ListN.{get_or-append}
 

@@ -1,8 +1,8 @@
 -- Bytes cut into pieces. A piece is a head of a fixed number of bytes, and a body whose length the head gives. Where bytes are left
 -- over that hold no whole piece, the last item says so.
 -- Assumes nothing.
-use Rattle.std.specs.Prelude.{ℕ, zero, suc, ◌+◌, ◌-◌, ◌≤◌, ◌<◌, ◌≡◌, refl, Bool, true, false, cond, List, [], ◌∷◌, ◌++◌, leb, length, take, drop}
-use Rattle.std.proofs.Common.{sym, ◌∙◌, ap, subst, append_assoc, arith, not-suc-le-zero, le_of_suc-le-suc, le-leb, length-append, length-drop, length-take, take-append-drop, take_at, drop_at, drop-drop, length-take-le}
+use Rattle.std.specs.Prelude.{ℕ, zero, suc, ◌+◌, ◌-◌, ◌≤◌, ◌<◌, ◌≡◌, refl, cond, List, [], ◌∷◌, ◌++◌, leb, length, take, drop}
+use Rattle.std.proofs.Common.{sym, ◌∙◌, ap, subst, arith, le-leb, length-append, length-drop, take-append-drop, take_at, drop_at, drop-drop, length-take-le}
 use Rattle.std.proofs.Math.Decide.{dec_le}
 use Rattle.std.proofs.lemmas.Bool.{lt-leb}
 

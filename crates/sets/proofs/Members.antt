@@ -17,7 +17,7 @@ use Rattle.combinators.specs.Bools.{both_left, both_right, both_ways, same_test}
 use Rattle.combinators.specs.Members.{member, member_at, member_which}
 use Rattle.combinators.specs.Once.{Once, once_places}
 use Rattle.combinators.specs.Those.{length_those}
-use Rattle.sets.specs.Sets.{has, only, without, below, lowest, size, rest, members_of}
+use Rattle.sets.specs.Sets.{has, only, below, lowest, size, rest, members_of}
 use Rattle.sets.proofs.Laws.{has_none, has_within, has_without, has_only, has_below, same_members, lowest_member, lowest_least, without_within}
 
 -- ---- a list that rises has no number twice, and its members are the numbers of which the statement holds

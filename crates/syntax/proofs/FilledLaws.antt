@@ -2,10 +2,10 @@
 -- Assumes nothing.
 use Prim.Native.Nat.{ℕ}
 use mathlib.Core.Path.{◌≡◌, refl, ap₂}
-use mathlib.Core.Bool.{Bool, true, false, not}
+use mathlib.Core.Bool.{true, false}
 use mathlib.Core.List.{List, [], ◌∷◌, ◌++◌}
 use borrow.Author.Tests.{not-false}
-use Rattle.syntax.specs.Table.{Table, fits, Fit, Sound}
+use Rattle.syntax.specs.Table.{fits, Sound}
 use Rattle.syntax.specs.Named.{have_lines}
 use Rattle.syntax.specs.Filled.{Filled, values_in, bytes_in, too_wide_in, Writes, nothing, table_then}
 use Rattle.syntax.proofs.Laws.{fits_fit}

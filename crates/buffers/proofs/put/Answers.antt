@@ -1,5 +1,4 @@
 -- `put` meets its contract: as much of the list as there is room for is laid in whole. Assumes nothing.
-use borrow.Author.Rules.{rules}
 use mathlib.Core.Path.{sym}
 use lib.Seq.{length-take-le}
 use native.Mathlib.Omega.{arith}

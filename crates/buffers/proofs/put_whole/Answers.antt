@@ -1,10 +1,9 @@
 -- `put_whole` meets its contract. The invariant: the first i bytes are laid in. Assumes nothing.
-use Prim.Native.Nat.{ℕ, ◌+◌, ◌-◌, ◌≤◌, ◌<◌}
+use Prim.Native.Nat.{ℕ, ◌+◌, ◌<◌}
 use mathlib.Core.List.{List}
-use mathlib.Core.Path.{◌≡◌, refl, ap, ◌∙◌}
+use mathlib.Core.Path.{refl, ap, ◌∙◌}
 use native.Mathlib.Omega.{arith}
-use lib.ListN.{length, take, set, get_or, length-set}
-use lib.Seq.{sets}
+use lib.ListN.{length, set, get_or, length-set}
 use Rattle.buffers.proofs.Laws.{one_more, laid_whole}
 use Rattle.buffers.proofs.put_whole.Goals as goal
 

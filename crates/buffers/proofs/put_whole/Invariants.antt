@@ -1,11 +1,8 @@
 -- `put_whole` meets its contract. The invariant: the first i bytes are laid in. Assumes nothing.
-use Prim.Native.Nat.{ℕ, ◌+◌, ◌-◌, ◌≤◌, ◌<◌}
-use mathlib.Core.List.{List}
-use mathlib.Core.Path.{◌≡◌, refl, ap, ◌∙◌}
-use native.Mathlib.Omega.{arith}
-use lib.ListN.{length, take, set, get_or, length-set}
+use Prim.Native.Nat.{◌-◌, ◌≤◌}
+use mathlib.Core.Path.{◌≡◌}
+use lib.ListN.{length, take}
 use lib.Seq.{sets}
-use Rattle.buffers.proofs.Laws.{one_more, laid_whole}
 use Rattle.buffers.proofs.put_whole.Given as goal
 
 abbrev pub invariant-loop-i : goal.invariant-loop-i

@@ -1,6 +1,6 @@
 -- `clock::before` meets its contract: it tests the forward distance back, as the definition does.
 -- Assumes nothing.
-use Rattle.std.proofs.Common.{leb, ap, rules}
+use Rattle.std.proofs.Common.{leb, ap}
 use Rattle.clock.specs.Clock.{half}
 use Rattle.clock.proofs.before.Goals as goal
 

@@ -1,6 +1,6 @@
 -- `clock::lag` meets its contract: the test of the distance picks the case of the definition, and both cases fit an i64.
 -- Assumes nothing.
-use Rattle.std.proofs.Common.{◌≡◌, ℕ, ◌<◌, Bool, ltb, pos, ◌-ℤ◌, sym, ap, ◌∙◌, arith, w64, SFits, rules, le-ltb, lt-ltb}
+use Rattle.std.proofs.Common.{◌≡◌, ℕ, ◌<◌, Bool, ltb, pos, ◌-ℤ◌, sym, ap, ◌∙◌, arith, w64, SFits, le-ltb, lt-ltb}
 use mir.ValLaws.{to_z_pos, to_z-of_z}
 use Rattle.clock.specs.Clock.{ticks, half, signed}
 use Rattle.clock.proofs.Laws.{one_turn_less}

@@ -2,7 +2,6 @@
 -- Assumes nothing.
 use native.Mathlib.Omega.{arith}
 use Rattle.descriptor_heads.proofs.Heads.{framed_short, framed_none, framed_some}
-use borrow.Author.Rules.{rules}
 use Rattle.descriptor_heads.proofs.first_descriptor.Goals as goal
 
 pub returns-then-left-lt2 : goal.returns-then-left-lt2

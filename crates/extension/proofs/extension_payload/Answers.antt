@@ -3,7 +3,6 @@
 use native.Mathlib.Omega.{arith}
 use Rattle.syntax.proofs.Equations.{bounds}
 use Rattle.extension.proofs.Payloads.{extension_written}
-use borrow.Author.Rules.{rules}
 use Rattle.extension.proofs.extension_payload.Goals as goal
 
 pub overflow_mul-result : goal.overflow_mul-result

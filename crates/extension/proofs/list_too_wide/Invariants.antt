@@ -1,14 +1,12 @@
 -- `list_too_wide` meets its contract. The invariant: none of the layers passed is too wide.
 -- Assumes nothing.
 use Prim.Native.Nat.{◌-◌, ◌≤◌}
-use mathlib.Core.Bool.{false, ◌||◌}
-use mathlib.Core.Path.{◌≡◌, refl, sym, ◌∙◌, ap₂}
-use native.Mathlib.Omega.{arith}
+use mathlib.Core.Bool.{false}
+use mathlib.Core.Path.{◌≡◌}
 use lib.ListN.{take}
-use Rattle.combinators.specs.Lists.{any, any_map, any_next, any_found}
+use Rattle.combinators.specs.Lists.{any}
 use Rattle.syntax.specs.Filled.{too_wide_in}
 use Rattle.extension.specs.Extension.{layer_table}
-use borrow.Author.Rules.{rules}
 use Rattle.extension.proofs.list_too_wide.Given as goal
 
 abbrev pub invariant-loop-i : goal.invariant-loop-i

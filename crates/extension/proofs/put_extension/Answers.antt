@@ -3,7 +3,6 @@
 use Rattle.buffers.proofs.Laws.{laid_then, laid_as}
 use native.Mathlib.Omega.{arith}
 use Rattle.extension.proofs.Widths.{extension_fit, layers_fit, count_small}
-use borrow.Author.Rules.{rules}
 use Rattle.extension.proofs.put_extension.Goals as goal
 
 pub overflow_add-extension : goal.overflow_add-extension

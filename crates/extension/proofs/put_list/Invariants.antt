@@ -1,17 +1,11 @@
 -- `put_list` meets its contract. The invariant: the layers passed are laid in, after the empty text at the start.
 -- Assumes nothing.
 use Rattle.buffers.specs.Buffers.{Laid}
-use Rattle.buffers.proofs.Laws.{laid_as, laid_length}
 use Prim.Native.Nat.{◌-◌, ◌≤◌}
-use mathlib.Core.Path.{sym, ◌∙◌}
-use native.Mathlib.Omega.{arith}
 use lib.ListN.{take}
-use Rattle.buffers.proofs.Pieces.{pieces_start, pieces_next, pieces_end}
-use Rattle.combinators.specs.Lists.{gather, gather_map, any_map, any_none}
-use Rattle.syntax.specs.Filled.{bytes_in, too_wide_in}
+use Rattle.combinators.specs.Lists.{gather}
+use Rattle.syntax.specs.Filled.{bytes_in}
 use Rattle.extension.specs.Extension.{layer_table}
-use Rattle.descriptor_heads.proofs.Widths.{fit_in}
-use borrow.Author.Rules.{rules}
 use Rattle.extension.proofs.put_list.Given as goal
 
 abbrev pub invariant-loop-i : goal.invariant-loop-i

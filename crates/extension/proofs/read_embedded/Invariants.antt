@@ -1,15 +1,10 @@
 -- `read_embedded` meets its contract. The loop's invariant: the array holds the layers of the bytes passed, and blanks.
 -- Assumes nothing.
-use Prim.Native.Nat.{ℕ, ◌≤◌, ◌-◌}
-use borrow.Author.Rules.{rules}
-use mathlib.Core.Path.{◌≡◌, ◌∙◌, ap}
-use native.Mathlib.Omega.{arith}
-use mathlib.Core.List.{List}
-use lib.ListN.{length, take, get_or}
-use lib.Seq.{take_all}
-use Rattle.combinators.specs.Padding.{pad_to, store_map}
-use Rattle.extension.specs.Extension.{no_layer, layers_of, layer_index_of}
-use Rattle.extension.proofs.Bytes.{layer_byte}
+use Prim.Native.Nat.{◌≤◌, ◌-◌}
+use mathlib.Core.Path.{◌≡◌}
+use lib.ListN.{length, take}
+use Rattle.combinators.specs.Padding.{pad_to}
+use Rattle.extension.specs.Extension.{no_layer, layers_of}
 use Rattle.extension.proofs.read_embedded.Given as goal
 
 abbrev pub invariant-loop-i : goal.invariant-loop-i

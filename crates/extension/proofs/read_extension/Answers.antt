@@ -2,7 +2,6 @@
 -- Assumes nothing.
 use native.Mathlib.Omega.{arith}
 use Rattle.extension.proofs.Bytes.{extension_bytes}
-use borrow.Author.Rules.{rules}
 use Rattle.extension.proofs.read_extension.Goals as goal
 
 pub overflow_mul-result : goal.overflow_mul-result

@@ -3,7 +3,6 @@
 use mathlib.Core.Path.{ap, sym}
 use Rattle.vocabulary.specs.declared.stream_types.Reading.{Reading}
 use Rattle.hierarchy.specs.Hierarchy.{first_bit}
-use borrow.Author.Rules.{rules}
 use Rattle.hierarchy.proofs.no_view.Goals as goal
 
 pub returns-in-Edition2015 : goal.returns-in-Edition2015

@@ -2,7 +2,6 @@
 -- Assumes nothing.
 use Rattle.buffers.proofs.Laws.{laid_then, laid_as}
 use Rattle.hierarchy.proofs.Widths.{hierarchy_fit}
-use borrow.Author.Rules.{rules}
 use Rattle.hierarchy.proofs.put_hierarchy.Goals as goal
 
 pub hierarchy_payload-payload-requires : goal.hierarchy_payload-payload-requires

@@ -2,7 +2,6 @@
 -- Assumes nothing.
 use native.Mathlib.Omega.{arith}
 use Rattle.hierarchy.proofs.Bytes.{hierarchy_bytes}
-use borrow.Author.Rules.{rules}
 use Rattle.hierarchy.proofs.read_hierarchy.Goals as goal
 
 pub returns : goal.returns

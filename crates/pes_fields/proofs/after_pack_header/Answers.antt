@@ -1,6 +1,5 @@
 -- `pes_fields::after_pack_header` meets its contract: two fields are one of both their bytes, and the second extension goes to
 -- its own function. Assumes nothing.
-use borrow.Author.Rules.{rules}
 use borrow.Author.Tests.{eq-eqb, ne_eqb}
 use native.Mathlib.Omega.{arith}
 use Prim.Native.Nat.{ℕ, ◌+◌, ◌*◌}

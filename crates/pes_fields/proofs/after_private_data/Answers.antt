@@ -1,6 +1,5 @@
 -- `pes_fields::after_private_data` meets its contract: the pack header's length byte and as many bytes are one field.
 -- Assumes nothing.
-use borrow.Author.Rules.{rules}
 use borrow.Author.Tests.{eq-eqb, ne_eqb}
 use native.Mathlib.Omega.{arith}
 use Prim.Native.Nat.{ℕ, ◌+◌, ◌/◌, ◌%◌}

@@ -1,6 +1,5 @@
 -- `pes_fields::before_extension` meets its contract: each flag is the part of the byte that the table has for it.
 -- Assumes nothing.
-use borrow.Author.Rules.{rules}
 use native.Mathlib.Omega.{arith}
 use Prim.Native.Nat.{◌/◌, ◌%◌, ◌^◌}
 use mathlib.Core.Path.{◌≡◌, ap}

@@ -1,6 +1,5 @@
 -- `pes_fields::extension_field` meets its contract: each test settles one test of the definition, and TREF is read by its own
 -- function. Assumes nothing.
-use borrow.Author.Rules.{rules}
 use borrow.Author.Tests.{le-leb, lt-leb}
 use native.Mathlib.Omega.{arith}
 use mathlib.Core.Path.{ap, ◌∙◌}

@@ -1,6 +1,5 @@
 -- `pes_fields::header_data` meets its contract: the fields before the extension are one of all their bytes, and the extension
 -- goes to its own function. Assumes nothing.
-use borrow.Author.Rules.{rules}
 use borrow.Author.Tests.{eq-eqb, ne_eqb}
 use native.Mathlib.Omega.{arith}
 use Prim.Native.Nat.{ℕ, ◌%◌}

@@ -1,6 +1,5 @@
 -- `pes_fields::second_extension` meets its contract: the two tests are those of the definition, and the field within the
 -- length goes to its own function. Assumes nothing.
-use borrow.Author.Rules.{rules}
 use borrow.Author.Tests.{le-leb, lt-leb}
 use native.Mathlib.Omega.{arith}
 use Prim.Native.Nat.{ℕ, ◌+◌, ◌-◌}

@@ -2,7 +2,6 @@
 -- Assumes nothing.
 use mathlib.Core.Path.{ap, sym}
 use Rattle.records.specs.Records.{channel_of}
-use borrow.Author.Rules.{rules}
 use Rattle.records.proofs.channel.Goals as goal
 
 pub returns-in-NoRecord : goal.returns-in-NoRecord

@@ -1,6 +1,5 @@
 -- `records::implied_names` meets its contract: the branch says whether it is the second view, which names the first.
 -- Assumes nothing.
-use borrow.Author.Rules.{rules}
 use borrow.Author.Tests.{ne_eqb}
 use Rattle.records.proofs.implied_names.Goals as goal
 

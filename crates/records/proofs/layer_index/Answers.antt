@@ -3,7 +3,6 @@
 use mathlib.Core.Path.{◌∙◌, ap, sym}
 use Rattle.records.specs.declared.Record.{Record}
 use Rattle.records.specs.Records.{index_of}
-use borrow.Author.Rules.{rules}
 use Rattle.records.proofs.layer_index.Goals as goal
 
 pub returns-in-NoRecord : goal.returns-in-NoRecord

@@ -8,7 +8,6 @@ use Rattle.vocabulary.specs.declared.LayerIndex.{LayerIndex}
 use Rattle.records.specs.declared.Record.{Record}
 use Rattle.records.specs.Records.{plain, with_indices, names_of}
 use Rattle.records.proofs.Naming.{all_listed}
-use borrow.Author.Rules.{rules}
 use Rattle.records.proofs.names.Goals as goal
 
 pub returns-in-Hierarchy : goal.returns-in-Hierarchy

@@ -1,7 +1,6 @@
 -- `records::names_in` meets its contract. The loop's invariant: the set is that of the indices passed.
 -- Assumes nothing.
-use Prim.Native.Nat.{ℕ, ◌≤◌, ◌-◌}
-use borrow.Author.Rules.{rules}
+use Prim.Native.Nat.{ℕ}
 use mathlib.Core.Path.{◌≡◌, ◌∙◌, ap, refl}
 use mathlib.Core.List.{map}
 use native.Mathlib.Omega.{arith}

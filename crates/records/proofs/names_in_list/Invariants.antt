@@ -1,18 +1,11 @@
 -- `records::names_in_list` meets its contract. The loop's invariant: the set so far, with the layers of the bytes left, is the set of all.
 -- Assumes nothing.
-use Prim.Native.Nat.{ℕ, ◌+◌, ◌-◌, ◌≤◌}
-use borrow.Author.Rules.{rules}
-use mathlib.Core.Path.{◌≡◌, refl, sym, ◌∙◌, ap}
-use mathlib.Core.List.{List, ◌∷◌, map}
-use native.Mathlib.Numerals.{add-one}
-use native.Mathlib.Omega.{arith}
-use lib.ListN.{length, get_or, drop, drop_of_length-le}
-use lib.Seq.{drop-cons}
-use Rattle.sets.specs.Sets.{added}
-use Rattle.vocabulary.specs.declared.LayerIndex.{LayerIndex}
+use Prim.Native.Nat.{◌-◌, ◌≤◌}
+use mathlib.Core.Path.{◌≡◌}
+use mathlib.Core.List.{map}
+use lib.ListN.{length, drop}
 use Rattle.extension.specs.Extension.{layers_of}
 use Rattle.records.specs.Records.{plain, with_indices}
-use Rattle.extension.proofs.Bytes.{layer_byte}
 use Rattle.records.proofs.names_in_list.Given as goal
 
 abbrev pub invariant-loop-i : goal.invariant-loop-i

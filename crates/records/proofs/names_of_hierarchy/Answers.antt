@@ -1,7 +1,6 @@
 -- `records::names_of_hierarchy` meets its contract: a base layer names nothing, and any other its one embedded layer.
 -- Assumes nothing.
 use mathlib.Core.Path.{◌∙◌, sym}
-use borrow.Author.Rules.{rules}
 use Rattle.records.proofs.names_of_hierarchy.Goals as goal
 
 pub returns-then-is_base : goal.returns-then-is_base

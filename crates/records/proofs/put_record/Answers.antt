@@ -6,7 +6,6 @@ use Rattle.combinators.specs.Lists.{any, gather}
 use Rattle.records.specs.declared.Record.{Record}
 use Rattle.syntax.specs.Filled.{bytes_in, too_wide_in}
 use Rattle.records.specs.Records.{record_tables}
-use borrow.Author.Rules.{rules}
 use Rattle.records.proofs.put_record.Goals as goal
 
 -- LEFT: no goal of today has the name slice-aggregate-put

@@ -11,7 +11,6 @@ use Rattle.syntax.specs.Filled.{bytes_in, too_wide_in}
 use Rattle.records.specs.Records.{record_tables}
 use Rattle.extension.proofs.Widths.{count_small}
 use Rattle.records.proofs.Sizes.{record_size_lem}
-use borrow.Author.Rules.{rules}
 use Rattle.records.proofs.record_size.Goals as goal
 
 pub returns-in-Extension : goal.returns-in-Extension

@@ -13,7 +13,6 @@ use Rattle.syntax.specs.Filled.{too_wide_in}
 use Rattle.records.specs.Records.{record_tables}
 use Rattle.hierarchy.proofs.Widths.{hierarchy_wide}
 use Rattle.extension.proofs.Widths.{extension_fine, extension_wide}
-use borrow.Author.Rules.{rules}
 use Rattle.records.proofs.record_too_wide.Goals as goal
 
 pub list_too_wide-requires : goal.list_too_wide-requires

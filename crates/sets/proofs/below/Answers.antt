@@ -3,7 +3,6 @@
 use Prim.Native.Nat.{◌%◌, ◌<◌}
 use mathlib.Core.Path.{ap, sym, subst}
 use native.Mathlib.Nat.{mod-eq_of_lt, lt_of_lt_of_le}
-use borrow.Author.Rules.{rules}
 use lib.Pow.{pow_mono, pow_pos}
 use Rattle.sets.proofs.Laws.{one_shifted}
 use Rattle.sets.proofs.below.Goals as goal

@@ -1,7 +1,6 @@
 -- `sets::member` meets its contract: below 64 the test is the definition itself, and a set of 64 bits has no member from 64 on.
 -- Assumes nothing.
 use mathlib.Core.Path.{sym}
-use borrow.Author.Rules.{rules}
 use Rattle.sets.proofs.Laws.{has_beyond}
 use Rattle.sets.proofs.member.Goals as goal
 

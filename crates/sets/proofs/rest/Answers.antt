@@ -1,6 +1,5 @@
 -- `sets::rest` meets its contract: one less than the set has its lowest 1 taken, and ones below it.
 -- Assumes nothing.
-use borrow.Author.Rules.{rules}
 use Rattle.sets.proofs.Members.{rest_is}
 use Rattle.sets.proofs.rest.Goals as goal
 

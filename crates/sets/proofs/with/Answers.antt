@@ -1,7 +1,6 @@
 -- `sets::with` meets its contract: the two cases of the definition are the two ways of the code.
 -- Assumes nothing.
 use mathlib.Core.Path.{ap}
-use borrow.Author.Rules.{rules}
 use borrow.Author.Tests.{le-ltb, lt-ltb}
 use lib.Bits.{bit_or}
 use Rattle.sets.proofs.Laws.{one_shifted}

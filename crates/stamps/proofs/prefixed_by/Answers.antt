@@ -1,6 +1,5 @@
 -- `stamps::prefixed_by` meets its contract: the prefix is the upper half of the first byte, and the rest is an unprefixed time.
 -- Assumes nothing.
-use borrow.Author.Rules.{rules}
 use Prim.Native.Nat.{◌/◌}
 use mathlib.Core.Path.{ap, ap₂, ◌∙◌}
 use mathlib.Core.Bool.{◌&&◌}

@@ -1,6 +1,5 @@
 -- `stamps::pts_and_dts` meets its contract: the test of PTS_DTS_flags picks the case of the definition, and each field is read
 -- by its own function. Assumes nothing.
-use borrow.Author.Rules.{rules}
 use borrow.Author.Tests.{ne_eqb}
 use native.Mathlib.Omega.{arith}
 use Prim.Native.Nat.{ℕ, ◌+◌, ◌*◌, ◌≤◌}

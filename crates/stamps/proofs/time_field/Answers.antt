@@ -1,6 +1,5 @@
 -- `stamps::time_field` meets its contract: byte by byte the table's number, by arithmetic.
 -- Assumes nothing.
-use borrow.Author.Rules.{rules}
 use mathlib.Core.Path.{sym}
 use Rattle.stamps.proofs.StampLaws.{field_of_time}
 use Rattle.stamps.proofs.time_field.Goals as goal

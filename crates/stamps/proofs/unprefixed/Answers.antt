@@ -1,6 +1,5 @@
 -- `stamps::unprefixed` meets its contract: the markers and the time, read off the lent bytes, are those that the table reads off
 -- their number. Assumes nothing.
-use borrow.Author.Rules.{rules}
 use mathlib.Core.Path.{ap₂, ◌∙◌}
 use Rattle.stamps.proofs.StampLaws.{stamp, markers_of_bytes, time_of_bytes}
 use Rattle.stamps.proofs.unprefixed.Goals as goal

@@ -1,6 +1,5 @@
 -- `vocabulary::number` meets its contract: which case was matched says which number it has.
 -- Assumes nothing.
-use borrow.Author.Rules.{rules}
 use mathlib.Core.Path.{ap, sym}
 use Rattle.vocabulary.specs.Refusals.{number_of}
 use Rattle.vocabulary.proofs.refusal.number.Goals as goal

@@ -1,6 +1,5 @@
 -- `vocabulary::place` meets its contract: which case was matched says where its place stands.
 -- Assumes nothing.
-use borrow.Author.Rules.{rules}
 use mathlib.Core.Path.{ap, sym}
 use Rattle.vocabulary.specs.Refusals.{place_of}
 use Rattle.vocabulary.proofs.refusal.place.Goals as goal

@@ -7,7 +7,6 @@ use Rattle.combinators.specs.Members.{no_member, range_member}
 use Rattle.vocabulary.specs.declared.stream_types.Reading.{Reading}
 use Rattle.vocabulary.specs.declared.stream_types.Reading.TheVariants.{Edition2009, Edition2015}
 use Rattle.vocabulary.specs.StreamTypes.{known, known_types}
-use borrow.Author.Rules.{rules}
 use Rattle.vocabulary.proofs.stream_types.knows.Goals as goal
 
 pub returns-in_default : goal.returns-in_default

@@ -2,9 +2,8 @@
 -- bit of the constant table is what document 01's list has; past either bound the list has nothing.
 -- Assumes nothing.
 use Prim.Native.Nat.{ℕ, ◌/◌, ◌%◌, ◌^◌}
-use borrow.Author.Rules.{rules}
 use native.Mathlib.Omega.{arith}
-use mathlib.Core.Path.{◌≡◌, ◌∙◌, ap, sym, refl}
+use mathlib.Core.Path.{◌≡◌, ap, sym, refl}
 use mathlib.Core.Bool.{Bool, true, beq}
 use mathlib.Core.List.{List, [], ◌∷◌}
 use lib.Dec.{eqb}

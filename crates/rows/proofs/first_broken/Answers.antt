@@ -1,0 +1,85 @@
+-- `rows::first_broken` meets its contract. The invariant, what is known of the order after some rows, and each turn are in Order.
+-- The measure is the number of rows left. Assumes nothing.
+use Prim.Native.Nat.{ℕ, ◌≤◌, ◌<◌, ◌-◌}
+use mathlib.Core.List.{[]}
+use mathlib.Core.Logic.{⊎_elim}
+use mathlib.Core.Path.{◌≡◌, sym, ◌∙◌}
+use native.Mathlib.Omega.{arith}
+use borrow.Author.Rules.{rules}
+use lib.ListN.{length, get_or}
+use Rattle.sets.proofs.Laws.{has_within}
+use Rattle.rows.specs.Table.{table}
+use Rattle.rows.proofs.Order.{Ordered, ordered_start, ordered_other, broken_no_farther, broken_too_far, ordered_more, ordered_end}
+use Rattle.rows.proofs.first_broken.Goals as goal
+use Rattle.rows.proofs.first_broken.Goals.{Then-member}
+
+-- a member of the closure is below 64
+layer_below : (c : Then-member)
+    → get_or c.args.indices.now c.loop-row.row 0 < 64
+layer_below c =
+    has_within 64 c.ranges.closure.fits
+    (sym c.member.ensures ∙ c.if-member.true)
+
+pub loop-row-init : goal.loop-row-init
+loop-row-init c = ordered_start _ _ c.ranges.closure.fits
+
+pub overflow_cast-layer : goal.overflow_cast-layer
+overflow_cast-layer c = omega (arith, c.shared_slice_known-in-loop-row-1.given c.loop-row.row)
+
+pub offset_bounds-least-layer : goal.offset_bounds-least-layer
+offset_bounds-least-layer c = omega (arith, layer_below (goal.at.offset_bounds-least-layer c).Then-member)
+
+pub bounds-least-layer : goal.bounds-least-layer
+bounds-least-layer c = omega (arith, layer_below (goal.at.bounds-least-layer c).Then-member)
+
+pub offset_bounds-firsts-layer : goal.offset_bounds-firsts-layer
+offset_bounds-firsts-layer c = omega (arith, layer_below (goal.at.offset_bounds-firsts-layer c).Then-member)
+
+pub bounds-firsts-layer : goal.bounds-firsts-layer
+bounds-firsts-layer c = omega (arith, layer_below (goal.at.bounds-firsts-layer c).Then-member)
+
+pub offset_bounds-least-layer-then-member : goal.offset_bounds-least-layer-then-member
+offset_bounds-least-layer-then-member c = omega (arith, layer_below (goal.at.offset_bounds-least-layer-then-member c).Then-member)
+
+pub bounds-least-layer-then-member : goal.bounds-least-layer-then-member
+bounds-least-layer-then-member c = omega (arith, layer_below (goal.at.bounds-least-layer-then-member c).Then-member)
+
+pub returns-then-far-least : goal.returns-then-far-least
+returns-then-far-least c =
+    let at = c.loop-row in
+    broken_no_farther _ _ at.row _ _ at.invariant c.loop-row-test.true
+    (sym c.member.ensures ∙ c.if-member.true) _ _
+    c.first_time-first.ensures c.distance-far.ensures c.if-far-least.true
+
+pub returns-then-far-ge-HALF : goal.returns-then-far-ge-HALF
+returns-then-far-ge-HALF c =
+    let at = c.loop-row in
+    broken_too_far _ _ at.row _ _ at.invariant c.loop-row-test.true
+    (sym c.member.ensures ∙ c.if-member.true) _ _
+    c.first_time-first.ensures c.distance-far.ensures c.if-far-ge-HALF.true
+
+pub offset_bounds-firsts-layer-then-member : goal.offset_bounds-firsts-layer-then-member
+offset_bounds-firsts-layer-then-member c = omega (arith, layer_below (goal.at.offset_bounds-firsts-layer-then-member c).Then-member)
+
+pub bounds-firsts-layer-then-member : goal.bounds-firsts-layer-then-member
+bounds-firsts-layer-then-member c = omega (arith, layer_below (goal.at.bounds-firsts-layer-then-member c).Then-member)
+
+pub offset_bounds-least-layer-then-member-2 : goal.offset_bounds-least-layer-then-member-2
+offset_bounds-least-layer-then-member-2 c = omega (arith, layer_below (goal.at.offset_bounds-least-layer-then-member-2 c).Then-member)
+
+pub bounds-least-layer-then-member-2 : goal.bounds-least-layer-then-member-2
+bounds-least-layer-then-member-2 c = omega (arith, layer_below (goal.at.bounds-least-layer-then-member-2 c).Then-member)
+
+pub loop-row-preserved : goal.loop-row-preserved
+loop-row-preserved c =
+    let at = c.loop-row in
+    let more = c.loop-row-test.true in
+    let small = c.ranges.closure.fits in
+    ⊎_elim
+    (λ w. rw (w.6, w.7) (ordered_more _ _ at.row _ _ at.invariant more (sym c.member.ensures ∙ w.0.taken) _ _
+    w.2.ensures w.3.ensures small w.4.left w.5.left))
+    (λ w. rw (w.1, w.2) (ordered_other _ _ at.row _ _ at.invariant more (sym c.member.ensures ∙ w.0.left)))
+    c.if-member.branch
+
+pub returns : goal.returns
+returns c = ordered_end _ _ _ _ _ c.loop-row.invariant c.loop-row-test.false

@@ -1,0 +1,16 @@
+-- `rows::first_out_of_range` meets its contract. The invariant: no row before this one is out of range. The measure is the
+-- number of rows left. Assumes nothing.
+use Prim.Native.Nat.{ℕ, ◌≤◌, ◌<◌, ◌-◌}
+use mathlib.Core.Bool.{false}
+use mathlib.Core.Path.{◌≡◌}
+use lib.ListN.{length}
+use Rattle.rows.specs.Table.{table, out_of_range}
+use Rattle.rows.proofs.first_out_of_range.Given as goal
+
+abbrev pub invariant-loop-row : goal.invariant-loop-row
+invariant-loop-row l =
+    (l.row ≤ length l.indices)
+    × ((k : ℕ) → k < l.row → out_of_range (table l.indices l.decodings l.matches) k ≡ false)
+
+abbrev pub decreases-loop-row : goal.decreases-loop-row
+decreases-loop-row l = length l.indices - l.row

@@ -1,0 +1,10 @@
+-- `rows::first_time` meets its contract: the two ways of the code are the two cases of the definition.
+-- Assumes nothing.
+use borrow.Author.Tests.{eq-eqb, ne_eqb}
+use Rattle.rows.proofs.first_time.Goals as goal
+
+pub returns-then-least-eq0 : goal.returns-then-least-eq0
+returns-then-least-eq0 c = rw (eq-eqb _ _ c.if-least-eq0.true)
+
+pub returns : goal.returns
+returns c = rw (ne_eqb _ _ c.if-least-eq0.false)
