@@ -13,7 +13,7 @@ use lib.Dec.{eqb, ltb}
 use lib.ListN.{length, get_or, set, replicate, length-set, length-replicate, get_or-replicate}
 use lib.Seq.{get_or-set_same, get_or-set_other}
 use Rattle.clock.specs.Clock.{distance_of}
-use Rattle.combinators.specs.Below.{seek_first, seek_here}
+use Rattle.combinators.proofs.Seeking.{seek_first, seek_here}
 use Rattle.combinators.specs.Bools.{both_left, both_right}
 use Rattle.rows.specs.Table.{Table, rows_in, layer_of, decoding_of, match_of, first_row, ahead}
 use Rattle.row_index.specs.Index.{Rising}

@@ -12,7 +12,8 @@ use lib.Dec.{ltb}
 use lib.ListN.{get_or}
 use Rattle.closure.specs.declared.Layers.{Layers}
 use Rattle.combinators.specs.Gathering.{Gathered, gathered_same}
-use Rattle.combinators.specs.Below.{count, seek_first, count_fewer}
+use Rattle.combinators.specs.Below.{count, count_fewer}
+use Rattle.combinators.proofs.Seeking.{seek_first}
 use Rattle.combinators.specs.Bools.{both_left, both_right}
 use Rattle.sets.specs.Sets.{has, without, below, lowest}
 use Rattle.sets.proofs.Laws.{has_without, has_below, lowest_least}

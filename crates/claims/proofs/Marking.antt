@@ -13,7 +13,8 @@ use lib.ListN.{length, get_or, set, length-set}
 use lib.Seq.{get_or-set_same, get_or-set_other, ext_get_or}
 use Rattle.closure.specs.declared.Layers.{Layers}
 use Rattle.closure.specs.Closures.{named_by}
-use Rattle.combinators.specs.Below.{some, seek_first}
+use Rattle.combinators.specs.Below.{some}
+use Rattle.combinators.proofs.Seeking.{seek_first}
 use Rattle.combinators.specs.Bools.{both_left, both_right, same_test}
 use Rattle.sets.specs.Sets.{has, lowest, rest}
 use Rattle.sets.proofs.Laws.{has_none, lowest_member}

@@ -10,7 +10,8 @@ use native.Mathlib.Omega.{arith}
 use borrow.Author.Tests.{not-true}
 use lib.ListN.{get_or}
 use Rattle.combinators.specs.Bools.{both_left, both_right, same_test}
-use Rattle.combinators.specs.Below.{some, seek, some_at, none_at, at_none, seek_first, seek_inside, first_seek}
+use Rattle.combinators.specs.Below.{some, seek, some_at, none_at, at_none}
+use Rattle.combinators.proofs.Seeking.{seek_first, seek_inside, first_seek}
 use Rattle.sets.specs.Sets.{has}
 use Rattle.sets.proofs.Laws.{same_members, has_within}
 use Rattle.vocabulary.specs.declared.LayerIndex.{LayerIndex}

@@ -8,7 +8,8 @@ use native.Mathlib.Numerals.{add-one}
 use native.Mathlib.Omega.{arith}
 use borrow.Author.Tests.{lt-ltb, le-ltb}
 use lib.ListN.{get_or}
-use Rattle.combinators.specs.Below.{some, seek, at_none, some_at, seek_first, first_seek}
+use Rattle.combinators.specs.Below.{some, seek, at_none, some_at}
+use Rattle.combinators.proofs.Seeking.{seek_first, first_seek}
 use Rattle.sets.specs.Sets.{has, joined, without, below, lowest}
 use Rattle.sets.proofs.Laws.{one_shifted, has_none, has_within, has_without, lowest_member, without_within}
 use Rattle.vocabulary.specs.declared.refusal.Refusal.TheVariants.{NoSuchLayer, EmbeddedLayerAbsent}

@@ -2,7 +2,7 @@
 -- often. Each is one definition that computes, with the laws that say what it means.
 -- Assumes nothing.
 use Rattle.std.specs.Prelude.{ℕ, zero, suc, ◌+◌, ◌≤◌, ◌<◌, ◌≡◌, refl, Bool, true, false, cond, ◌&&◌, ◌||◌, ◌⊎◌}
-use Rattle.std.proofs.Common.{inl, inr, ⊎_elim, arith, add-one, add-suc, suc-add, zero-add, eq-or-lt_of_le, not-suc-le-zero, le_of_suc-le-suc}
+use Rattle.std.proofs.Common.{inl, inr, ⊎_elim, arith, add-one, add-suc, suc-add, eq-or-lt_of_le, not-suc-le-zero, le_of_suc-le-suc}
 use Rattle.std.proofs.Math.Decide.{dec_lt}
 use Rattle.combinators.specs.Bools.{both_left, both_right, both_ways, neither_left, neither_right, either_left, either_right}
 
@@ -89,7 +89,7 @@ module _ (test : ℕ → Bool) where
       go (no h) (yes l) = both_ways (g.found (omega (arith, f.within))) (f.before k l)
       go (no h) (no l) = omega arith
 
-  seek_from_first : (i n : ℕ) → ((j : ℕ) → j < i → test j ≡ false) → First test (i + n) (seek_from test i n)
+  pub seek_from_first : (i n : ℕ) → ((j : ℕ) → j < i → test j ≡ false) → First test (i + n) (seek_from test i n)
   seek_from_first i zero f = record { within = omega arith; before = f; found = λ h. absurd (omega arith) }
   seek_from_first i (suc n) f = go (test i) refl (seek_from_first (suc i) n)
     where
@@ -100,27 +100,6 @@ module _ (test : ℕ → Bool) where
       go false p later =
           rw (p, seek_from, add-suc i n, ← suc-add i n)
           (later (λ j h. ⊎_elim (λ (q : j ≡ i). rw q p) (λ l. f j l) (last_or_below h)))
-
-  pub seek_first : (n : ℕ) → First test n (seek test n)
-  seek_first n = rw zero-add at (seek_from_first 0 n (λ j h. absurd (not-suc-le-zero h)))
-
-  pub first_seek : (n k : ℕ) → First test n k → k ≡ seek test n
-  first_seek n k f = first_unique n k (seek test n) f (seek_first n)
-
-  -- a search as a loop does it: nothing before k passes, and k is where it stops
-  pub seek_here : (n k : ℕ) → k < n → ((j : ℕ) → j < k → test j ≡ false) → test k ≡ true → k ≡ seek test n
-  seek_here n k h f e = first_seek n k (record { within = omega arith; before = f; found = λ l. e })
-
-  pub seek_end : (n k : ℕ) → k ≡ n → ((j : ℕ) → j < k → test j ≡ false) → k ≡ seek test n
-  seek_end n k h f = first_seek n k (record { within = omega arith; before = f; found = λ l. absurd (omega arith) })
-
-  -- where some number passes, the search stops below the bound
-  pub seek_inside : (n : ℕ) → some test n ≡ true → seek test n < n
-  seek_inside n e = go (some_which test n e) (dec_lt (seek test n) n)
-    where
-      go : (k : ℕ) × (k < n) × (test k ≡ true) → Dec (seek test n < n) → seek test n < n
-      go w (yes h) = h
-      go w (no h) = both_ways w.2 ((seek_first n).before w.0 (omega (arith, w.1, (seek_first n).within)))
 
 -- ---- counts
 

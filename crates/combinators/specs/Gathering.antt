@@ -1,12 +1,12 @@
 -- An array filled from the front with the numbers below a bound that pass a test, as a loop gathers them one after another. The array has a place for each of them, and
 -- may have fewer than there are numbers.
 -- Assumes nothing.
-use Rattle.std.specs.Prelude.{ℕ, ◌+◌, ◌≤◌, ◌<◌, ◌≡◌, refl, Bool, true, false, List, [], ◌∷◌, length, set, replicate}
-use Rattle.std.proofs.Common.{sym, ◌∙◌, ap, arith, length-append}
+use Rattle.std.specs.Prelude.{ℕ, ◌+◌, ◌≤◌, ◌<◌, ◌≡◌, refl, Bool, true, false, List, length, replicate}
+use Rattle.std.proofs.Common.{sym, ◌∙◌, ap, arith}
 use Rattle.std.proofs.Math.Nat.{sub-zero}
 use Rattle.combinators.specs.Below.{count, count_less}
-use Rattle.combinators.specs.Padding.{pad_to, store_pad_to}
-use Rattle.combinators.specs.Those.{those, those_more, those_same, length_those}
+use Rattle.combinators.specs.Padding.{pad_to}
+use Rattle.combinators.specs.Those.{those, those_same, length_those}
 
 -- After n numbers the array holds those of them that pass, then blanks, and the count is how many they are.
 pub record Gathered (test : ℕ → Bool) (bound size n passed : ℕ) (array : List ℕ) : Type 0 where
@@ -22,16 +22,6 @@ module _ (test : ℕ → Bool) (bound size : ℕ) where
     -- there is room for one more, where there is room for all
     pub gathered_room : count test bound ≤ size → test n ≡ true → passed < size
     gathered_room few e = omega (arith, known.counted, length_those test n, count_less test n bound inside e)
-
-    pub gathered_more : count test bound ≤ size → test n ≡ true → Gathered test bound size (n + 1) (passed + 1) (set array passed n)
-    gathered_more few e =
-        record {
-          within = omega arith;
-          counted = ap (λ (c : ℕ). c + 1) known.counted ∙ sym (length-append (those test n) (n ∷ [])) ∙ ap length (sym (those_more test n e));
-          filled = ap (λ (l : List ℕ). set l passed n) known.filled
-              ∙ store_pad_to size 0 n (those test n) passed (sym known.counted) (gathered_room few e)
-              ∙ ap (pad_to size 0) (sym (those_more test n e));
-        }
 
     pub gathered_same : test n ≡ false → Gathered test bound size (n + 1) passed array
     gathered_same e =

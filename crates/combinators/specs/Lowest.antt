@@ -2,7 +2,7 @@
 -- Assumes nothing.
 use Rattle.std.specs.Prelude.{ℕ, ◌+◌, ◌≤◌, ◌<◌, ◌≡◌, Bool, true, false}
 use Rattle.std.proofs.Common.{⊎_elim, arith, eq-or-lt_of_le, not-suc-le-zero}
-use Rattle.combinators.specs.Below.{some, seek, First, first_seek, seek_first, seek_inside, some_at, at_none, none_at}
+use Rattle.combinators.specs.Below.{some, seek, First}
 
 -- the lowest of the numbers below `numbers` that applies at one of the places, or `numbers` where none does
 abbrev pub lowest_number : (ℕ → ℕ → Bool) → ℕ → ℕ → ℕ
@@ -57,35 +57,4 @@ module _ (applies : ℕ → ℕ → Bool) (numbers : ℕ) where
         inside = λ l. let i = b.inside l in omega arith;
         holds = λ l. b.holds l;
         earlier = λ l k m. b.earlier l k m;
-      }
-
-  -- After every place: the number and the place are those that the definitions give.
-  pub lowest_number_lem : (places number place : ℕ) → Lowest applies numbers places number place → number ≡ lowest_number applies numbers places
-  lowest_number_lem places number place b =
-      first_seek (λ n. some (applies n) places) numbers number
-      (record {
-        within = b.within;
-        before = λ n h. at_none (applies n) places (λ k l. b.lower n k h l);
-        found = λ h. some_at (applies number) places place (b.inside h) (b.holds h);
-      })
-
-  pub earliest_place_lem : (places number place : ℕ) → Lowest applies numbers places number place → number < numbers
-      → place ≡ earliest_place applies number places
-  earliest_place_lem places number place b h =
-      first_seek (applies number) places place
-      (record { within = (let i = b.inside h in omega arith); before = b.earlier h; found = λ l. b.holds h })
-
-  -- The definitions meet what is said above, so the two are one.
-  pub lowest_is : (places : ℕ) → Lowest applies numbers places (lowest_number applies numbers places)
-      (earliest_place applies (lowest_number applies numbers places) places)
-  lowest_is places =
-      let number : ℕ = lowest_number applies numbers places in
-      let f = seek_first (λ n. some (applies n) places) numbers in
-      let g = seek_first (applies number) places in
-      record {
-        within = f.within;
-        lower = λ n k h l. none_at (applies n) places (f.before n h) k l;
-        inside = λ h. seek_inside (applies number) places (f.found h);
-        holds = λ h. g.found (seek_inside (applies number) places (f.found h));
-        earlier = λ h. g.before;
       }

@@ -1,8 +1,8 @@
 -- Arrays filled from the front: a list, and after it as many blanks as the array has room for.
 -- Assumes nothing.
-use Rattle.std.specs.Prelude.{ℕ, zero, suc, ◌+◌, ◌-◌, ◌≤◌, ◌<◌, ◌≡◌, refl, List, [], ◌∷◌, ◌++◌, map, length, get_or, set, replicate, take}
-use Rattle.std.proofs.Common.{◌∙◌, append_assoc, arith, add-one, length-append, take-suc, length-take-le}
-use Rattle.std.proofs.lemmas.List.{map-append, length-map, length-replicate, set_at}
+use Rattle.std.specs.Prelude.{ℕ, zero, suc, ◌-◌, ◌≤◌, ◌<◌, ◌≡◌, refl, List, [], ◌∷◌, ◌++◌, length, get_or, set, replicate}
+use Rattle.std.proofs.Common.{append_assoc, arith, length-append}
+use Rattle.std.proofs.lemmas.List.{length-replicate, set_at}
 use Rattle.std.proofs.Math.ListN.{get_or-append}
 
 module _ {A : Type 0} where
@@ -26,11 +26,3 @@ module _ {A : Type 0} where
       go (suc r) p =
           let q : n - length (l ++ x ∷ []) ≡ r = simp (length-append l (x ∷ [])) (omega arith) in
           rw (p, q, append_assoc l (x ∷ []) (replicate r blank)) (set_at l blank (replicate r blank) x i e)
-
--- a list's first i elements, each taken by f, and one more
-pub store_map : {A B : Type 0} (n : ℕ) (blank : A) (f : B → A) (l : List B) (i : ℕ) (d : B) → i < length l → i < n
-    → set (pad_to n blank (map f (take i l))) i (f (get_or l i d)) ≡ pad_to n blank (map f (take (i + 1) l))
-store_map n blank f l i d h k =
-    let filled : length (map f (take i l)) ≡ i = length-map (take i l) f ∙ length-take-le i l (omega arith) in
-    store_pad_to n blank (f (get_or l i d)) (map f (take i l)) i filled k
-    ∙ rw (add-one i, take-suc l i d h, map-append f (take i l) (get_or l i d ∷ []))

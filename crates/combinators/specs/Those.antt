@@ -6,7 +6,7 @@ use mathlib.Core.Logic.{⊎_elim}
 use Rattle.std.proofs.Math.Decide.{dec_lt}
 use Rattle.std.proofs.Math.ListN.{get_or-append}
 use Rattle.std.proofs.lemmas.List.{get_or_at}
-use Rattle.combinators.specs.Below.{count, seek, seek_here}
+use Rattle.combinators.specs.Below.{count}
 
 abbrev pub those : (ℕ → Bool) → ℕ → List ℕ
 those test zero = []
@@ -124,22 +124,6 @@ module _ (test : ℕ → Bool) where
           rw (one_more n e, get_or_at (those test n) n [] 0 p last) (sym (length_those n) ∙ last)
       go false e ih (yes l) = rw (no_more n e) (ih l)
       go false e ih (no l) = absurd (let same = ap length (no_more n e) in omega arith)
-
-  -- the first of them is where a search stops
-  pub those_first : (n : ℕ) → 0 < length (those test n) → get_or (those test n) 0 0 ≡ seek test n
-  those_first n h =
-      let w = those_at n 0 h in
-      seek_here test n (get_or (those test n) 0 0) w.below (λ j l. go j l (test j) refl) w.passes
-    where
-      before_first : (j p : ℕ) → j < get_or (those test n) 0 0 → p < length (those test n) → get_or (those test n) p 0 ≡ j → ⊥
-      before_first j zero l q e = omega arith
-      before_first j (suc p) l q e = let rise = those_rise n 0 (suc p) (omega arith) q in omega arith
-
-      go : (j : ℕ) → j < get_or (those test n) 0 0 → (b : Bool) → test j ≡ b → test j ≡ false
-      go j l true e =
-          let inside = (those_at n 0 h).below in
-          let w = those_which n j (omega arith) e in absurd (before_first j w.0 l w.1 w.2)
-      go j l false e = e
 
   -- a lower one comes earlier
   pub those_earlier : (n i j : ℕ) → i < length (those test n) → j < length (those test n) → get_or (those test n) j 0 < get_or (those test n) i 0 → j < i

@@ -4,7 +4,8 @@ use Rattle.std.specs.Prelude.{ℕ, ◌≤◌, ◌≡◌, true, false, List, ◌+
 use Rattle.std.proofs.Common.{sym, ◌∙◌, ap, subst, arith}
 use Rattle.combinators.specs.Lists.{any}
 use Rattle.combinators.specs.Padding.{pad_to}
-use Rattle.framing.specs.Pieces.{Item, Cuts, cut, cuts_unique}
+use Rattle.framing.specs.Pieces.{Item, Cuts, cut}
+use Rattle.framing.proofs.Pieces.{cuts_unique}
 use Rattle.syntax.specs.Table.{AreBytes, fits}
 use Rattle.vocabulary.specs.declared.stream_types.Reading.{Reading}
 use Rattle.vocabulary.specs.declared.stream_types.Reading.TheVariants.{Edition2015}

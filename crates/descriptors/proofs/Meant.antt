@@ -10,7 +10,8 @@ use native.Mathlib.Decide.{dec_le}
 use borrow.Author.Tests.{lt-ltb, eq-eqb, ne_eqb, eqb-true, eqb-false}
 use lib.Dec.{eqb, ltb}
 use lib.ListN.{length}
-use Rattle.framing.specs.Pieces.{Item, whole, broken, cut, cut_cuts, cuts_unique}
+use Rattle.framing.specs.Pieces.{Item, whole, broken, cut}
+use Rattle.framing.proofs.Pieces.{cut_cuts, cuts_unique}
 use Rattle.vocabulary.specs.declared.stream_types.Reading.{Reading}
 use Rattle.vocabulary.specs.declared.stream_types.Reading.TheVariants.{Edition2009, Edition2015}
 use Rattle.descriptor_heads.specs.Head.{descriptor_tag, descriptor_length}

@@ -10,7 +10,8 @@ use native.Mathlib.Omega.{arith}
 use borrow.Author.Tests.{lt-ltb, ltb-true}
 use lib.Dec.{ltb}
 use lib.ListN.{length, get_or, length-map}
-use Rattle.combinators.specs.Below.{First, seek, some_at, seek_first, seek_inside}
+use Rattle.combinators.specs.Below.{First, seek, some_at}
+use Rattle.combinators.proofs.Seeking.{seek_first, seek_inside}
 use Rattle.combinators.specs.Bools.{apart, both_ways}
 use Rattle.combinators.specs.Lists.{Nth, nth_inside, nth_get_d, get_d_nth, get_d_map, gather}
 use Rattle.framing.specs.Pieces.{Item, Cuts}

@@ -6,7 +6,8 @@ use mathlib.Core.List.{List, map}
 use native.Mathlib.Omega.{arith}
 use native.Mathlib.Decide.{dec_lt}
 use lib.ListN.{length}
-use Rattle.framing.specs.Pieces.{Item, cut, cuts_unique}
+use Rattle.framing.specs.Pieces.{Item, cut}
+use Rattle.framing.proofs.Pieces.{cuts_unique}
 use Rattle.vocabulary.specs.declared.stream_types.Reading.{Reading}
 use Rattle.loop_entries.specs.declared.Stream.{Stream}
 use Rattle.loop_entries.specs.Entries.{es_info_length, stream_of, marked_streams}

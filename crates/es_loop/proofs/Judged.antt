@@ -8,7 +8,8 @@ use native.Mathlib.Omega.{arith}
 use borrow.Author.Tests.{lt-ltb, ltb-false}
 use lib.Dec.{ltb}
 use lib.ListN.{length}
-use Rattle.combinators.specs.Lowest.{Lowest, lowest_number, earliest_place, lowest_number_lem, earliest_place_lem, lowest_is}
+use Rattle.combinators.specs.Lowest.{Lowest, lowest_number, earliest_place}
+use Rattle.combinators.proofs.Lowest.{lowest_number_lem, earliest_place_lem, lowest_is}
 use Rattle.vocabulary.specs.declared.stream_types.Reading.{Reading}
 use Rattle.vocabulary.specs.declared.refusal.Refusal.{Refusal}
 use Rattle.vocabulary.specs.declared.refusal.Refusal.TheVariants.{LoopTooLong}

@@ -13,9 +13,11 @@ use lib.ListN.{length, get_or, length-map}
 use Rattle.combinators.specs.Below.{some_at, some_which, some_same}
 use Rattle.combinators.specs.Bools.{both_left, both_right, apart, both_ways, false_unless, either_way}
 use Rattle.combinators.specs.Lists.{Nth, here, there, nth_inside, get_d_nth, nth_map, nth_of_map, get_d_map, any, any_true, any_which, gather, handled}
-use Rattle.combinators.specs.Lowest.{Lowest, lowest_number, earliest_place, lowest_is}
+use Rattle.combinators.specs.Lowest.{Lowest, lowest_number, earliest_place}
+use Rattle.combinators.proofs.Lowest.{lowest_is}
 use Rattle.combinators.specs.Padding.{pad_to}
-use Rattle.framing.specs.Pieces.{Item, whole, broken, Cuts, nothing_left, does_not_fit as cut_short, piece, cut, cut_cuts, cuts_unique}
+use Rattle.framing.specs.Pieces.{Item, whole, broken, Cuts, nothing_left, does_not_fit as cut_short, piece, cut}
+use Rattle.framing.proofs.Pieces.{cut_cuts, cuts_unique}
 use Rattle.syntax.proofs.Laws.{read_before}
 use Rattle.vocabulary.specs.declared.LayerIndex.{LayerIndex}
 use Rattle.vocabulary.specs.declared.stream_types.Reading.{Reading}

@@ -11,7 +11,8 @@ use borrow.Author.Count.{below_more}
 use lib.Dec.{eqb}
 use lib.ListN.{length, get_or, set, take, drop, length-append, length-set}
 use lib.Seq.{slice, sets, get_or-set_same, get_or-set_other, append_snoc, length-sets, length-take-le, sets-eq, take_at}
-use Rattle.combinators.specs.Below.{count, count_more, count_same, seek_here, seek_end}
+use Rattle.combinators.specs.Below.{count, count_more, count_same}
+use Rattle.combinators.proofs.Seeking.{seek_here, seek_end}
 use Rattle.combinators.specs.Lists.{any, any_same}
 use Rattle.combinators.specs.Members.{member, member_last}
 use Rattle.combinators.specs.Once.{Small}

@@ -17,7 +17,7 @@ use Rattle.closure.specs.Meaning.{RestsOn, WholeClosure}
 use Rattle.closure.proofs.Meant.{below_64}
 use Rattle.closure.proofs.Reached.{member_rests_on, rests_on_member}
 use Rattle.combinators.specs.Ascending.{Ascending, those_ascending, ascending_one}
-use Rattle.combinators.specs.Below.{seek_first}
+use Rattle.combinators.proofs.Seeking.{seek_first}
 use Rattle.combinators.specs.Bools.{both_left, both_right}
 use Rattle.combinators.specs.Lists.{any, Nth, any_true, any_which, nth_get_d, get_d_nth, nth_inside, get_d_map}
 use Rattle.combinators.specs.Members.{member, member_at, member_which}

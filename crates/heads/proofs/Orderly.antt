@@ -14,7 +14,7 @@ use Rattle.closure.specs.declared.Closure.TheVariants.{Complete}
 use Rattle.closure.specs.Closures.{closure_of}
 use Rattle.closure.specs.Meaning.{by, WholeClosure, Answers, no_such_layer, absent, complete}
 use Rattle.closure.proofs.Meant.{closure_meant}
-use Rattle.combinators.specs.Below.{seek_first}
+use Rattle.combinators.proofs.Seeking.{seek_first}
 use Rattle.combinators.specs.Bools.{neither_left}
 use Rattle.sets.specs.Sets.{has}
 use Rattle.clock.specs.Clock.{ticks}

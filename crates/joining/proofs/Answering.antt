@@ -10,7 +10,7 @@ use lib.Dec.{ltb}
 use lib.ListN.{length, take, replicate, length-append}
 use lib.Seq.{get_or-take, take-append_seam, ext_get_or, length-take-le}
 use Rattle.closure.specs.declared.Layers.{Layers}
-use Rattle.combinators.specs.Below.{seek_first}
+use Rattle.combinators.proofs.Seeking.{seek_first}
 use Rattle.combinators.specs.Each.{each_below, length_each, each_at}
 use Rattle.combinators.specs.Bools.{neither_left, neither_right}
 use Rattle.combinators.specs.Padding.{pad_to}

@@ -1,7 +1,7 @@
 -- The answer from what is kept is the answer of `closure`.
 -- Assumes nothing.
 use Prim.Native.Nat.{ℕ, ◌^◌, ◌≤◌, ◌<◌}
-use mathlib.Core.Bool.{Bool, true, false, not, cond, ◌&&◌}
+use mathlib.Core.Bool.{Bool, true, false, cond, ◌&&◌}
 use mathlib.Core.List.{List}
 use mathlib.Core.Path.{◌≡◌, refl, sym, ap, ap₂, ◌∙◌, subst}
 use native.Mathlib.Omega.{arith}
@@ -14,12 +14,11 @@ use Rattle.sets.specs.Sets.{has, without, below, lowest}
 use Rattle.sets.proofs.Laws.{has_below, below_within, same_members}
 use Rattle.vocabulary.specs.declared.refusal.Refusal.TheVariants.{NoSuchLayer, EmbeddedLayerAbsent}
 use Rattle.closure.specs.declared.Layers.{Layers}
-use Rattle.closure.specs.declared.Closure.{Closure}
 use Rattle.closure.specs.declared.Closure.TheVariants.{Complete, Refused}
 use Rattle.closure.specs.Closures.{is_layer, rested_on, closure_of}
 use Rattle.closure.proofs.Reached.{member_rests_on, rests_on_at_most}
 use Rattle.closure.proofs.Scan.{no_layer_lem, none_missing, one_missing, empty_none_missing, some_missing, lowest_missing}
-use Rattle.kept_closures.specs.Kept.{Columns, fresh_of, lacks_one, FreshAt, Kept, answer_kept}
+use Rattle.kept_closures.specs.Kept.{Columns, FreshAt, Kept, answer_kept}
 
 -- a closure is a set of 64 indices
 pub closure_small : (layers : Layers) (target : ℕ) → target < 64 → rested_on layers target < 2 ^ 64

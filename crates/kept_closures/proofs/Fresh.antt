@@ -1,26 +1,26 @@
 -- A closure put together from what is kept is the one that would be worked out afresh; and what is worked out afresh after a layer was added.
 -- Assumes nothing.
-use Prim.Native.Nat.{ℕ, zero, suc, ◌<◌, ◌≤◌, ◌^◌}
-use mathlib.Core.Bool.{Bool, true, false, not, cond, ◌&&◌, ◌||◌, true≢false}
+use Prim.Native.Nat.{ℕ, zero, suc, ◌<◌, ◌≤◌}
+use mathlib.Core.Bool.{Bool, true, false, not, cond, ◌&&◌, ◌||◌}
 use mathlib.Core.List.{List}
 use mathlib.Core.Logic.{◌⊎◌, inl, inr, ◌≢◌}
 use mathlib.Core.Path.{◌≡◌, refl, sym, ap, ap₂, ◌∙◌, subst}
 use native.Mathlib.Omega.{arith}
 use native.Mathlib.Decide.{ℕ_discrete}
-use borrow.Author.Tests.{eqb-true, eqb-false, eq-eqb, ne_eqb, ltb-true, lt-ltb}
-use lib.Dec.{eqb, ltb}
-use lib.ListN.{length, get_or, set}
+use borrow.Author.Tests.{eqb-true, eq-eqb, ne_eqb, lt-ltb}
+use lib.Dec.{eqb}
+use lib.ListN.{length, get_or}
 use lib.Seq.{get_or-set_same}
 use Rattle.combinators.specs.Bools.{both_left, both_right, either_left, either_right, either_which, both_ways, same_test, false_unless}
 use Rattle.combinators.specs.Below.{some, some_at, some_which, some_same}
-use Rattle.sets.specs.Sets.{has, joined, only, added, without}
-use Rattle.sets.proofs.Laws.{has_none, has_joined, has_only, has_without, has_added, same_members, has_within}
+use Rattle.sets.specs.Sets.{has, joined, only, without}
+use Rattle.sets.proofs.Laws.{has_none, has_joined, has_only, has_without, same_members}
 use Rattle.closure.specs.declared.Layers.{Layers}
 use Rattle.closure.specs.Closures.{is_layer, rested_on}
-use Rattle.closure.specs.Meaning.{Names, RestsOn, itself, by}
-use Rattle.closure.proofs.Reached.{member_rests_on, rests_on_member, rests_on_at_most, layer_below_64}
+use Rattle.closure.specs.Meaning.{RestsOn, itself}
+use Rattle.closure.proofs.Reached.{member_rests_on, rests_on_member, rests_on_at_most}
 use Rattle.kept_closures.specs.Kept.{fresh_of, lacks_one, with_layer, united, closure_over}
-use Rattle.kept_closures.proofs.Resting.{rests_then, First, none, named, rests_first, first_rests, Now, before, through, rests_now, now_rests, is_there, still_layer, was_layer}
+use Rattle.kept_closures.proofs.Resting.{First, none, named, rests_first, first_rests, Now, before, through, rests_now, now_rests, is_there, still_layer, was_layer}
 
 -- ---- what is put together
 

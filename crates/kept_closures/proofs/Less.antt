@@ -1,6 +1,6 @@
 -- What is kept when a layer goes: the layers without it, with it added, are those that there were, so that what is known of adding says what goes with it.
 -- Assumes nothing.
-use Prim.Native.Nat.{ℕ, zero, suc, ◌+◌, ◌-◌, ◌≤◌, ◌<◌}
+use Prim.Native.Nat.{ℕ, zero, suc, ◌+◌, ◌≤◌, ◌<◌}
 use mathlib.Core.Bool.{Bool, true, false, not, cond, ◌&&◌, ◌||◌}
 use mathlib.Core.List.{List}
 use mathlib.Core.Logic.{◌≢◌}
@@ -10,15 +10,15 @@ use native.Mathlib.Decide.{ℕ_discrete}
 use borrow.Author.Tests.{eq-eqb, ne_eqb, lt-ltb}
 use lib.Dec.{eqb, ltb}
 use lib.ListN.{length, get_or, set, length-set}
-use lib.Seq.{get_or-set_other, set-set, set-get_or}
-use Rattle.combinators.specs.Bools.{both_ways, both_right, either_right, false_unless}
+use lib.Seq.{set-set, set-get_or}
+use Rattle.combinators.specs.Bools.{both_ways, both_right, either_right}
 use Rattle.sets.specs.Sets.{has, joined, only, added, without}
 use Rattle.sets.proofs.Laws.{has_none, has_joined, has_only, has_without, same_members}
 use Rattle.closure.specs.declared.Layers.{Layers}
 use Rattle.closure.specs.Closures.{is_layer, rested_on}
 use Rattle.closure.specs.Meaning.{itself}
 use Rattle.closure.proofs.Reached.{rests_on_member}
-use Rattle.kept_closures.specs.Kept.{Columns, columns, fresh_of, lacks_one, stored_at, FreshAt, Places, Kept, with_layer, without_layer, closure_over, shrunk_at, shrunk_by, columns_removed}
+use Rattle.kept_closures.specs.Kept.{Columns, fresh_of, lacks_one, stored_at, FreshAt, Kept, with_layer, without_layer, closure_over, shrunk_at, shrunk_by, columns_removed}
 use Rattle.kept_closures.proofs.Resting.{was_layer}
 use Rattle.kept_closures.proofs.Fresh.{put_together, fresh_same, fresh_more, same_absent, not_above}
 use Rattle.kept_closures.proofs.Steps.{Halfway, by_storing, by_leaving, at_first, stepped}

@@ -8,7 +8,6 @@ use mathlib.Core.Path.{◌≡◌, refl, sym, ap, ap₂, ◌∙◌}
 use native.Mathlib.Decide.{ℕ_discrete}
 use native.Mathlib.Omega.{arith}
 use borrow.Author.Tests.{ltb-true, lt-ltb}
-use lib.Bits.{bit_or}
 use lib.Dec.{eqb, ltb}
 use lib.ListN.{get_or}
 use Rattle.combinators.specs.Below.{some, some_at, some_which, some_same}

@@ -1,23 +1,20 @@
 -- The steps of the functions: what is kept while a layer comes.
 -- Assumes nothing.
-use Prim.Native.Nat.{ℕ, zero, suc, ◌+◌, ◌-◌, ◌*◌, ◌%◌, ◌^◌, ◌<◌, ◌≤◌}
-use mathlib.Core.Bool.{Bool, true, false, not, cond, ◌||◌}
-use mathlib.Core.List.{List}
+use Prim.Native.Nat.{ℕ, zero, suc, ◌+◌, ◌-◌, ◌<◌, ◌≤◌}
+use mathlib.Core.Bool.{Bool, true, false, cond}
 use mathlib.Core.Logic.{◌≢◌}
 use mathlib.Core.Path.{◌≡◌, refl, sym, ap, ap₂, ◌∙◌, subst}
 use native.Mathlib.Omega.{arith}
 use native.Mathlib.Decide.{ℕ_discrete}
 use native.Mathlib.Nat.{lt_of_le_of_lt}
-use lib.Dec.{eqb}
-use lib.ListN.{length, get_or, set, length-set}
+use lib.ListN.{length, get_or, length-set}
 use lib.Seq.{get_or-set_same, get_or-set_other}
-use Rattle.combinators.specs.Below.{count, count_short}
-use Rattle.sets.specs.Sets.{has, joined, only, without, size}
-use Rattle.sets.proofs.Laws.{has_none, has_joined, same_members, one_shifted}
+use Rattle.combinators.specs.Below.{count_short}
+use Rattle.sets.specs.Sets.{has, joined, size}
+use Rattle.sets.proofs.Laws.{has_none}
 use Rattle.closure.specs.declared.Layers.{Layers}
 use Rattle.closure.specs.Closures.{is_layer, rested_on}
-use Rattle.kept_closures.specs.Kept.{Columns, columns, fresh_of, lacks_one, stored_at, FreshAt, Places, Kept, with_layer, with_named, united, closure_over, grown_at, steps_from, columns_added}
-use Rattle.kept_closures.proofs.Resting.{is_there}
+use Rattle.kept_closures.specs.Kept.{Columns, fresh_of, lacks_one, stored_at, FreshAt, Places, Kept, with_layer, closure_over, grown_at, steps_from, columns_added}
 use Rattle.kept_closures.proofs.Fresh.{fresh_same, fresh_more, fresh_own, rested_own, same_absent, not_above}
 
 -- ---- what is kept

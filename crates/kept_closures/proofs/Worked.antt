@@ -4,20 +4,19 @@
 use Prim.Native.Nat.{ℕ, ◌+◌, ◌<◌, ◌≤◌}
 use mathlib.Core.Bool.{Bool, true, false, not, cond, ◌&&◌}
 use mathlib.Core.List.{List}
-use mathlib.Core.Path.{◌≡◌, refl, sym, ap, ap₂, ◌∙◌, subst}
+use mathlib.Core.Path.{◌≡◌, refl, sym, ap, ap₂, ◌∙◌}
 use native.Mathlib.Decide.{ℕ_discrete}
 use native.Mathlib.Omega.{arith}
 use borrow.Author.Tests.{lt-ltb}
 use lib.Dec.{eqb, ltb}
 use lib.ListN.{length, get_or, set, replicate, length-set, get_or-replicate}
 use lib.Seq.{get_or-set_same, get_or-set_other}
-use Rattle.combinators.specs.Bools.{both_ways}
 use Rattle.combinators.specs.Each.{each_below, length_each, each_at, each_only}
 use Rattle.sets.specs.Sets.{has, without, size}
 use Rattle.sets.proofs.Laws.{has_none, has_without, same_members}
 use Rattle.closure.specs.declared.Layers.{Layers}
 use Rattle.closure.specs.Closures.{is_layer, rested_on}
-use Rattle.kept_closures.specs.Kept.{Columns, columns, layers_by, fresh_of, lacks_one, stored_at, FreshAt, Places, Kept, closure_over, steps_from, fresh_columns, worked_by, no_columns}
+use Rattle.kept_closures.specs.Kept.{Columns, columns, layers_by, fresh_of, lacks_one, stored_at, FreshAt, Kept, closure_over, steps_from, fresh_columns, worked_by, no_columns}
 use Rattle.kept_closures.proofs.Fresh.{put_together}
 use Rattle.kept_closures.proofs.Steps.{Halfway, by_storing, by_leaving, all_stepped}
 

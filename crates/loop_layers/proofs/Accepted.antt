@@ -13,7 +13,8 @@ use lib.ListN.{length, get_or, take}
 use Rattle.combinators.specs.Below.{none_at}
 use Rattle.combinators.specs.Bools.{neither_left, either_way}
 use Rattle.combinators.specs.Lists.{Nth, nth_inside, nth_get_d, nth_of_map, gather}
-use Rattle.combinators.specs.Lowest.{lowest_number, earliest_place, lowest_is}
+use Rattle.combinators.specs.Lowest.{lowest_number, earliest_place}
+use Rattle.combinators.proofs.Lowest.{lowest_is}
 use Rattle.combinators.specs.Members.{member, member_which}
 use Rattle.framing.specs.Pieces.{Item, whole, broken, cut}
 use Rattle.vocabulary.specs.declared.stream_types.Reading.{Reading}

@@ -5,7 +5,8 @@ use Rattle.std.proofs.Common.{sym, ◌∙◌, ap, ap₂, subst, append-nil, appe
 use Rattle.combinators.specs.Bools.{neither_left, neither_right, both_ways, false_unless}
 use Rattle.combinators.specs.Lists.{Nth, here, there, any, gather}
 use Rattle.combinators.specs.Padding.{pad_to}
-use Rattle.framing.specs.Pieces.{Item, whole, cut, Cuts, nothing_left, piece, cuts_unique}
+use Rattle.framing.specs.Pieces.{Item, whole, cut, Cuts, nothing_left, piece}
+use Rattle.framing.proofs.Pieces.{cuts_unique}
 use Rattle.syntax.specs.Table.{read_table, write_table, Fit, Sound}
 use Rattle.syntax.proofs.Laws.{read_before, read_write, length_written}
 use Rattle.vocabulary.specs.declared.LayerIndex.{LayerIndex}

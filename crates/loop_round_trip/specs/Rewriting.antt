@@ -9,9 +9,11 @@ use Rattle.std.proofs.Math.ListN.{get_or-eq_default}
 use Rattle.descriptor_heads.proofs.Bits.{bit_there}
 use Rattle.combinators.specs.Bools.{both_left, neither_left, neither_right}
 use Rattle.combinators.specs.Lists.{Nth, here, there, nth_inside, nth_map, get_d_nth, get_d_map, any, gather}
-use Rattle.combinators.specs.Lowest.{lowest_number, earliest_place, lowest_is}
+use Rattle.combinators.specs.Lowest.{lowest_number, earliest_place}
+use Rattle.combinators.proofs.Lowest.{lowest_is}
 use Rattle.combinators.specs.Padding.{pad_to, length_pad_to}
-use Rattle.framing.specs.Pieces.{Item, whole, broken, cut, Cuts, nothing_left, does_not_fit, piece, cut_cuts}
+use Rattle.framing.specs.Pieces.{Item, whole, broken, cut, Cuts, nothing_left, does_not_fit, piece}
+use Rattle.framing.proofs.Pieces.{cut_cuts}
 use Rattle.syntax.specs.Table.{Table, AreBytes, number, bytes, read_table, write_table, fixed_hold, Sound, fits}
 use Rattle.syntax.proofs.Laws.{write_read, read_fits, fit_fits}
 use Rattle.syntax.proofs.Number.{drop_bytes}

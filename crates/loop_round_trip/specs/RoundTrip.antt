@@ -11,7 +11,8 @@ use Rattle.std.proofs.lemmas.List.{length-map, get_or-replicate}
 use Rattle.std.proofs.Math.Seq.{take-append_seam}
 use Rattle.combinators.specs.Bools.{neither_left, neither_right}
 use Rattle.combinators.specs.Lists.{Nth, here, there, nth_inside, nth_get_d, any, handled}
-use Rattle.combinators.specs.Lowest.{Lowest, lowest_number, earliest_place, lowest_is}
+use Rattle.combinators.specs.Lowest.{Lowest, lowest_number, earliest_place}
+use Rattle.combinators.proofs.Lowest.{lowest_is}
 use Rattle.combinators.specs.Padding.{pad_to}
 use Rattle.vocabulary.specs.declared.stream_types.Reading.TheVariants.{Edition2015}
 use Rattle.vocabulary.specs.declared.refusal.Refusal.{Refusal}

@@ -10,7 +10,8 @@ use lib.Dec.{ltb}
 use lib.ListN.{length, take, drop}
 use Rattle.combinators.specs.Bools.{either_way, or_else}
 use Rattle.combinators.specs.Lists.{any}
-use Rattle.combinators.specs.Lowest.{earliest_place, lowest_number_lem, earliest_place_lem}
+use Rattle.combinators.specs.Lowest.{earliest_place}
+use Rattle.combinators.proofs.Lowest.{lowest_number_lem, earliest_place_lem}
 use Rattle.buffers.specs.Buffers.{Laid}
 use Rattle.buffers.proofs.Laws.{laid_over_lem}
 use Rattle.vocabulary.specs.declared.refusal.Refusal.{Refusal}

@@ -12,7 +12,8 @@ use borrow.Author.Tests.{eq-eqb, ne_eqb, eqb-true, eqb-false}
 use lib.Dec.{eqb}
 use lib.ListN.{length}
 use Rattle.combinators.specs.Lists.{Nth, here, there, nth_inside, nth_one, gather}
-use Rattle.framing.specs.Pieces.{Item, whole, broken, Cuts, cut, cut_cuts, cuts_unique}
+use Rattle.framing.specs.Pieces.{Item, whole, broken, Cuts, cut}
+use Rattle.framing.proofs.Pieces.{cut_cuts, cuts_unique}
 use Rattle.descriptor_heads.specs.Head.{descriptor_tag, descriptor_length}
 use Rattle.descriptor_heads.proofs.Heads.{by_tag}
 use Rattle.mvc_extension.specs.declared.MvcExtension.{MvcExtension}

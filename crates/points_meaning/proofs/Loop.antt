@@ -11,7 +11,8 @@ use lib.Dec.{eqb, ltb}
 use lib.ListN.{length, get_or, drop}
 use Rattle.combinators.specs.Bools.{both_left, both_right, both_ways, apart, false_unless}
 use Rattle.combinators.specs.Lists.{Nth, here, there, nth_inside}
-use Rattle.framing.specs.Pieces.{Item, whole, broken, Cuts, nothing_left, does_not_fit, piece, cut_cuts}
+use Rattle.framing.specs.Pieces.{Item, whole, broken, Cuts, nothing_left, does_not_fit, piece}
+use Rattle.framing.proofs.Pieces.{cut_cuts}
 use Rattle.descriptor_heads.specs.Head.{descriptor_tag, descriptor_length}
 use Rattle.descriptor_heads.proofs.Heads.{by_tag}
 use Rattle.operation_points.specs.declared.Filling.{Filling}

@@ -9,7 +9,8 @@ use native.Mathlib.Omega.{arith}
 use lib.ListN.{length}
 use Rattle.combinators.specs.Bools.{both_ways}
 use Rattle.combinators.specs.Lists.{any, gather}
-use Rattle.framing.specs.Pieces.{Item, cut_cuts, cuts_unique}
+use Rattle.framing.specs.Pieces.{Item}
+use Rattle.framing.proofs.Pieces.{cut_cuts, cuts_unique}
 use Rattle.vocabulary.specs.declared.refusal.Refusal.TheVariants.{UnknownReference}
 use Rattle.vocabulary.specs.declared.stream_types.Reading.TheVariants.{Edition2015}
 use Rattle.descriptor_heads.specs.Head.{descriptor_length}

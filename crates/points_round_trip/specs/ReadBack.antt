@@ -10,7 +10,8 @@ use Rattle.std.proofs.Math.ListN.{length-append}
 use Rattle.std.proofs.lemmas.List.{length-map}
 use Rattle.combinators.specs.Lists.{Nth, here, there, gather}
 use Rattle.combinators.specs.Bools.{both_ways}
-use Rattle.framing.specs.Pieces.{Item, whole, Cuts, nothing_left, piece, cut, cuts_unique}
+use Rattle.framing.specs.Pieces.{Item, whole, Cuts, nothing_left, piece, cut}
+use Rattle.framing.proofs.Pieces.{cuts_unique}
 use Rattle.syntax.specs.Table.{AreBytes, Fit}
 use Rattle.syntax.specs.Named.{given_to, by_names, read_by, write_by}
 use Rattle.syntax.proofs.Laws.{read_fits, written_unique}

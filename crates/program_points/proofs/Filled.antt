@@ -11,7 +11,8 @@ use lib.Dec.{ltb}
 use lib.ListN.{length, take, drop, replicate, length-append, length-map}
 use lib.Seq.{take_at, drop_at, get_or-drop}
 use Rattle.combinators.specs.Lists.{gather, gather_map}
-use Rattle.framing.specs.Pieces.{Item, whole, broken, Cuts, nothing_left, does_not_fit, piece, cut_cuts}
+use Rattle.framing.specs.Pieces.{Item, whole, broken, Cuts, nothing_left, does_not_fit, piece}
+use Rattle.framing.proofs.Pieces.{cut_cuts}
 use Rattle.syntax.specs.Table.{AreBytes}
 use Rattle.descriptor_heads.specs.Head.{descriptor_tag, descriptor_length}
 use Rattle.descriptor_heads.proofs.Heads.{by_tag}

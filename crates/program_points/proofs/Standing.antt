@@ -12,7 +12,8 @@ use lib.Dec.{eqb, leb}
 use lib.ListN.{length, get_or, take, drop, length-append, length-drop, length-map, take-append-drop}
 use lib.Seq.{drop-drop, drop_at, length-take-le, get_or-drop}
 use Rattle.combinators.specs.Lists.{gather, gather_append}
-use Rattle.framing.specs.Pieces.{Item, whole, broken, Cuts, nothing_left, does_not_fit, piece, cut_cuts}
+use Rattle.framing.specs.Pieces.{Item, whole, broken, Cuts, nothing_left, does_not_fit, piece}
+use Rattle.framing.proofs.Pieces.{cut_cuts}
 use Rattle.syntax.specs.Table.{AreBytes}
 use Rattle.syntax.specs.Named.{given_to, by_names, read_by}
 use Rattle.syntax.proofs.Laws.{read_before}

@@ -11,8 +11,10 @@ use lib.Dec.{eqb, leb, ltb}
 use lib.ListN.{length, get_or, drop, length-drop}
 use Rattle.combinators.specs.Bools.{apart, both_left, both_right, both_ways, false_unless}
 use Rattle.combinators.specs.Lists.{Nth, nth_inside, get_d_nth, next}
-use Rattle.combinators.specs.Lowest.{Lowest, earliest_place, lowest_number_lem, earliest_place_lem}
-use Rattle.framing.specs.Pieces.{Item, whole, broken, Cuts, cut_cuts, cuts_unique}
+use Rattle.combinators.specs.Lowest.{Lowest, earliest_place}
+use Rattle.combinators.proofs.Lowest.{lowest_number_lem, earliest_place_lem}
+use Rattle.framing.specs.Pieces.{Item, whole, broken, Cuts}
+use Rattle.framing.proofs.Pieces.{cut_cuts, cuts_unique}
 use Rattle.vocabulary.specs.declared.refusal.Refusal.{Refusal}
 use Rattle.vocabulary.specs.declared.refusal.Refusal.TheVariants.{LoopTooLong, DoesNotFit, RepeatedPid, WrongLength, SecondRecord, TypeNotAllowed, WrongFlags, RepeatedLayerIndex, WrongEmbeddedIndex, NoSuchLayer, EmbeddedLayerAbsent, OutOfRange, TimeOrderBroken, Unpaired, UsedTwice, NoRoom, SpanTooWide, NotVideoHeader, NoPts, FieldsDoNotFit, WrongMarker, PtsBeforeDts, TooWide, LostSync, CounterGap, OutsidePacket, Scrambled, PointsDoNotFit, ReservedEsCount, UnknownReference, NotStereoSet, WrongMvcExtension, RangesMeet}
 use Rattle.vocabulary.specs.Refusals.{number_of, place_of}

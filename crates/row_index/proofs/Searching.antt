@@ -10,9 +10,10 @@ use borrow.Author.Tests.{eq-eqb, ne_eqb, eqb-true}
 use lib.Dec.{eqb}
 use lib.ListN.{length, get_or}
 use Rattle.clock.specs.Clock.{distance_of}
-use Rattle.combinators.specs.Below.{seek_here, seek_end}
+use Rattle.combinators.proofs.Seeking.{seek_here, seek_end}
 use Rattle.combinators.specs.Bools.{both_left, both_right}
-use Rattle.combinators.specs.Those.{length_those, those_at, those_which, those_rise, those_first}
+use Rattle.combinators.specs.Those.{length_those, those_at, those_which, those_rise}
+use Rattle.combinators.proofs.Seeking.{those_first}
 use Rattle.rows.specs.Table.{table, first_row, ahead}
 use Rattle.row_index.specs.Index.{is_of, rows_of, start_of, Sorted, Rising, Climbing, Reached}
 use Rattle.row_index.specs.Index.{row_at}

@@ -6,7 +6,8 @@ use mathlib.Core.Bool.{Bool, true, false, true≢false}
 use mathlib.Core.Path.{◌≡◌, sym, ◌∙◌}
 use native.Mathlib.Decide.{dec_lt}
 use native.Mathlib.Omega.{arith}
-use Rattle.combinators.specs.Below.{seek, seek_first}
+use Rattle.combinators.specs.Below.{seek}
+use Rattle.combinators.proofs.Seeking.{seek_first}
 use Rattle.rows.specs.Table.{Table, rows_in}
 use Rattle.rows.specs.Meaning.{FirstRow, NoRow}
 

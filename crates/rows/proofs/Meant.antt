@@ -15,7 +15,8 @@ use Rattle.clock.specs.Clock.{ticks, half, distance_of}
 use Rattle.clock.proofs.Laws.{distance_is, distance_only}
 use Rattle.closure.specs.declared.Layers.{Layers}
 use Rattle.closure.specs.Meaning.{RestsOn, WholeClosure}
-use Rattle.combinators.specs.Below.{some_at, some_which, none_at, seek_first, seek_inside}
+use Rattle.combinators.specs.Below.{some_at, some_which, none_at}
+use Rattle.combinators.proofs.Seeking.{seek_first, seek_inside}
 use Rattle.combinators.specs.Bools.{both_left, both_right, neither_left, neither_right, either_left, either_right, false_unless}
 use Rattle.sets.specs.Sets.{has}
 use Rattle.rows.specs.Table.{Table, rows_in, layer_of, decoding_of, match_of, wrong_shape, out_of_range, first_out_of_range, first_row, ahead, passed, breaks_order, first_broken}

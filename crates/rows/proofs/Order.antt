@@ -13,7 +13,8 @@ use lib.Dec.{eqb, leb, ltb}
 use lib.ListN.{length, get_or, set, replicate, length-set, length-replicate, get_or-replicate}
 use lib.Seq.{get_or-set_same, get_or-set_other}
 use Rattle.clock.specs.Clock.{half, distance_of}
-use Rattle.combinators.specs.Below.{none_at, seek_here, seek_end}
+use Rattle.combinators.specs.Below.{none_at}
+use Rattle.combinators.proofs.Seeking.{seek_here, seek_end}
 use Rattle.sets.specs.Sets.{has}
 use Rattle.sets.proofs.Laws.{has_within}
 use Rattle.rows.specs.Table.{Table, rows_in, layer_of, decoding_of, first_row, first_time, ahead, passed, breaks_order, first_broken}

@@ -15,7 +15,8 @@ use lib.Bits.{bit_and, bit_or, bit_xor, and_shr, or_shr, xor_shr, and_mod, or_mo
 use lib.Count.{ones, ones_in, ones_cat, count_trailing_zeros, under, trailing_le}
 use lib.Dec.{eqb, ltb, eqb-suc-suc}
 use lib.Pow.{pow_pos, pow_mono, pow-lt, shr-shr, shl_exact, field, mod-mod-pow, mod-pow-add}
-use Rattle.combinators.specs.Below.{some, count, seek_first, seek_inside, first_seek, none_at}
+use Rattle.combinators.specs.Below.{some, count, none_at}
+use Rattle.combinators.proofs.Seeking.{seek_first, seek_inside, first_seek}
 use Rattle.sets.specs.Sets.{has, joined, only, added, without, below, lowest, size}
 
 -- ---- a bit is 0 or 1

@@ -14,7 +14,8 @@ use Rattle.clock.specs.Clock.{ticks, half, lag_of, Lag}
 use Rattle.clock.proofs.Laws.{lag_is, lag_only}
 use Rattle.closure.specs.declared.Layers.{Layers}
 use Rattle.closure.specs.Meaning.{WholeClosure}
-use Rattle.combinators.specs.Below.{seek_first, seek_here, seek_inside, some_at}
+use Rattle.combinators.specs.Below.{some_at}
+use Rattle.combinators.proofs.Seeking.{seek_first, seek_here, seek_inside}
 use Rattle.rows.specs.Table.{Table, rows_in, layer_of, decoding_of}
 use Rattle.spans.specs.Spans.{is_closure_row, first_closure_row, start_of, key_at, least_key, greatest_key, wide_span}
 use Rattle.spans.specs.Meaning.{ClosureRow, FirstClosureRow, Distance, SpansTooFar}

@@ -14,7 +14,7 @@ use lib.Seq.{sets, take_all}
 use Rattle.buffers.specs.Buffers.{over}
 use Rattle.buffers.proofs.Laws.{one_more, sets_over}
 use Rattle.clock.specs.Clock.{ticks}
-use Rattle.combinators.specs.Below.{seek_here, seek_end}
+use Rattle.combinators.proofs.Seeking.{seek_here, seek_end}
 use Rattle.combinators.specs.Lists.{get_d_map, get_d_nth}
 use Rattle.rows.specs.Table.{Table, rows_in, decoding_of}
 use Rattle.spans.specs.Spans.{is_closure_row, start_of, key_of, key_at, keys_of, lowered, raised, least_key, greatest_key}

@@ -5,7 +5,8 @@ use Rattle.std.proofs.Common.{sym, ◌∙◌, ap, ap₂, subst, append-nil, appe
 use borrow.Author.Tests.{eq-eqb}
 use Rattle.descriptor_heads.proofs.Bits.{bit_there}
 use Rattle.combinators.specs.Lists.{Nth, here, there, nth_inside, gather, gather_append}
-use Rattle.framing.specs.Pieces.{Item, whole, broken, cut, Cuts, nothing_left, does_not_fit, piece, cut_cuts, cuts_unique}
+use Rattle.framing.specs.Pieces.{Item, whole, broken, cut, Cuts, nothing_left, does_not_fit, piece}
+use Rattle.framing.proofs.Pieces.{cut_cuts, cuts_unique}
 use Rattle.syntax.specs.Table.{Table, AreBytes, Sound, Fit, number, bytes, read_table, write_table, fits, fixed_hold}
 use Rattle.syntax.specs.Named.{by_names}
 use Rattle.syntax.specs.Filled.{bytes_in}

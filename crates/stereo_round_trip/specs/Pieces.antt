@@ -4,7 +4,8 @@ use Rattle.std.specs.Prelude.{ℕ, ◌+◌, ◌≡◌, refl, ◌⊎◌, Bool, tr
 use Rattle.std.proofs.Common.{sym, ◌∙◌, ap, ap₂, subst, inl, inr, append-nil, append_assoc, arith, length-append}
 use Rattle.combinators.specs.Bools.{neither_left, neither_right}
 use Rattle.combinators.specs.Lists.{Nth, here, there, any, gather}
-use Rattle.framing.specs.Pieces.{Item, whole, Cuts, nothing_left, piece, cut, cuts_unique}
+use Rattle.framing.specs.Pieces.{Item, whole, Cuts, nothing_left, piece, cut}
+use Rattle.framing.proofs.Pieces.{cuts_unique}
 use Rattle.syntax.specs.Table.{Sound, Fit, read_table, write_table, fits}
 use Rattle.syntax.specs.Named.{by_names}
 use Rattle.syntax.specs.Filled.{bytes_in}

@@ -8,7 +8,8 @@ use Rattle.std.proofs.Math.Seq.{take-append_seam}
 use Rattle.combinators.specs.Bools.{apart, neither_left, neither_right}
 use Rattle.combinators.specs.Lists.{Nth, here, there, nth_map, nth_of_map, any, gather}
 use Rattle.combinators.specs.Padding.{pad_to}
-use Rattle.framing.specs.Pieces.{Item, whole, Cuts, cut, cuts_unique}
+use Rattle.framing.specs.Pieces.{Item, whole, Cuts, cut}
+use Rattle.framing.proofs.Pieces.{cuts_unique}
 use Rattle.syntax.specs.Table.{fits}
 use Rattle.syntax.specs.Filled.{Filled, bytes_in}
 use Rattle.vocabulary.specs.declared.stream_types.Reading.TheVariants.{Edition2015}

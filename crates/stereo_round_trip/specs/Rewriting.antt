@@ -4,7 +4,8 @@ use Rattle.std.specs.Prelude.{ℕ, zero, suc, ◌+◌, ◌≤◌, ◌≡◌, ref
 use Rattle.std.proofs.Common.{sym, ◌∙◌, ap, ap₂, subst, inl, inr, append-nil, append_assoc, arith, length-append, length-take}
 use Rattle.combinators.specs.Bools.{apart, both_ways, false_unless}
 use Rattle.combinators.specs.Lists.{Nth, here, there, nth_map, nth_one, nth_get_d, any, gather}
-use Rattle.framing.specs.Pieces.{Item, whole, broken, cut, Cuts, nothing_left, does_not_fit, piece, cuts_unique}
+use Rattle.framing.specs.Pieces.{Item, whole, broken, cut, Cuts, nothing_left, does_not_fit, piece}
+use Rattle.framing.proofs.Pieces.{cuts_unique}
 use Rattle.syntax.specs.Table.{AreBytes, Sound, read_table, write_table, fits}
 use Rattle.syntax.specs.Filled.{Filled, bytes_in}
 use Rattle.vocabulary.specs.declared.stream_types.Reading.TheVariants.{Edition2015}

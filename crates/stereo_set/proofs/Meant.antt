@@ -12,7 +12,8 @@ use lib.Dec.{eqb}
 use lib.ListN.{length, get_or}
 use Rattle.combinators.specs.Bools.{apart, both_ways, both_left, both_right, false_unless}
 use Rattle.combinators.specs.Lists.{Nth, nth_inside, nth_get_d, nth_one, nth_map, nth_of_map}
-use Rattle.framing.specs.Pieces.{Item, whole, broken, Cuts, cut, cut_cuts, cuts_unique}
+use Rattle.framing.specs.Pieces.{Item, whole, broken, Cuts, cut}
+use Rattle.framing.proofs.Pieces.{cut_cuts, cuts_unique}
 use Rattle.vocabulary.specs.declared.refusal.Refusal.{Refusal}
 use Rattle.vocabulary.specs.declared.refusal.Refusal.TheVariants.{NotStereoSet, WrongMvcExtension, RangesMeet}
 use Rattle.vocabulary.specs.declared.stream_types.Reading.TheVariants.{Edition2015}

@@ -8,7 +8,8 @@ use native.Mathlib.Omega.{arith}
 use borrow.Author.Tests.{lt-ltb, le-ltb, ltb-true}
 use lib.Dec.{ltb}
 use lib.ListN.{length, drop}
-use Rattle.combinators.specs.Lowest.{earliest_place, lowest_number_lem, earliest_place_lem}
+use Rattle.combinators.specs.Lowest.{earliest_place}
+use Rattle.combinators.proofs.Lowest.{lowest_number_lem, earliest_place_lem}
 use Rattle.buffers.specs.Buffers.{Laid}
 use Rattle.buffers.proofs.Laws.{laid_over_lem}
 use Rattle.vocabulary.specs.declared.refusal.Refusal.{Refusal}

@@ -13,7 +13,7 @@ use lib.ListN.{length, take, length-append}
 use Rattle.buffers.specs.Buffers.{Laid}
 use Rattle.buffers.proofs.Laws as Laying
 pub use Rattle.buffers.proofs.Laws.{laid_then, laid_as, laid_nothing, laid_within, laid_length}
-use Rattle.combinators.specs.Below.{seek_first, first_seek}
+use Rattle.combinators.proofs.Seeking.{seek_first, first_seek}
 use Rattle.io.specs.Digits.{IsDigitCount, last_digits, hex_digit_ascii}
 use Rattle.text.specs.Text.{texts, decimal, decimal_width}
 

@@ -4,7 +4,8 @@
 use Rattle.std.specs.Prelude.{ℕ, zero, suc, ◌+◌, ◌≤◌, ◌≡◌, refl, Bool, true, false, cond, ◌&&◌, ◌||◌, List, [], ◌∷◌, ◌++◌, eqb, leb, ltb, length, take, drop}
 use Rattle.std.proofs.Common.{arith, ltb-false, length-take, length-append}
 use Rattle.std.proofs.lemmas.List.{length-map}
-use Rattle.combinators.specs.Below.{some, seek, seek_first, count_short}
+use Rattle.combinators.specs.Below.{some, seek, count_short}
+use Rattle.combinators.proofs.Seeking.{seek_first}
 use Rattle.combinators.specs.Bools.{neither_left, neither_right, either_way, or_else}
 use Rattle.combinators.specs.Lists.{any}
 use Rattle.combinators.specs.Lowest.{lowest_number, earliest_place}

@@ -9,7 +9,7 @@ use borrow.Author.Rules.{rules}
 use borrow.Author.Tests.{eq-eqb, ne_eqb}
 use lib.ListN.{length}
 use Rattle.io.proofs.Counting.{prefix_len_of_le}
-use Rattle.combinators.specs.Below.{seek_here, seek_end}
+use Rattle.combinators.proofs.Seeking.{seek_here, seek_end}
 use Rattle.cases.specs.Parts.{is_mark}
 use Rattle.cases.proofs.before.Goals as goal
 

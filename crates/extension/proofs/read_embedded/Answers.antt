@@ -6,7 +6,8 @@ use native.Mathlib.Omega.{arith}
 use mathlib.Core.List.{List}
 use lib.ListN.{get_or}
 use lib.Seq.{take_all}
-use Rattle.combinators.specs.Padding.{pad_to, store_map}
+use Rattle.combinators.specs.Padding.{pad_to}
+use Rattle.combinators.proofs.Padding.{store_map}
 use Rattle.extension.specs.Extension.{no_layer, layers_of, layer_index_of}
 use Rattle.extension.proofs.Bytes.{layer_byte}
 use Rattle.extension.proofs.read_embedded.Goals as goal

@@ -10,7 +10,7 @@ use borrow.Author.Count.{below_more}
 use borrow.Author.Rules.{rules}
 use borrow.Author.Tests.{not-true, not-false}
 use lib.ListN.{length}
-use Rattle.combinators.specs.Below.{seek_here, seek_end}
+use Rattle.combinators.proofs.Seeking.{seek_here, seek_end}
 use Rattle.rows.specs.Table.{table}
 use Rattle.heads.specs.Units.{frame, unpaired}
 use Rattle.heads.proofs.Tested.{head_tested, head_layer, is_unpaired, no_head}

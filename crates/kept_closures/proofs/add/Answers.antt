@@ -3,7 +3,6 @@
 use Prim.Native.Nat.{ℕ}
 use mathlib.Core.Path.{refl, ap, ap₂, ◌∙◌}
 use Rattle.kept_closures.specs.Kept.{Columns, columns, stored_at, grown_above, columns_added}
-use borrow.Author.Rules.{rules}
 use Rattle.kept_closures.proofs.add.Goals as goal
 
 pub returns : goal.returns

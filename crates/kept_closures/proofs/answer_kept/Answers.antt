@@ -4,10 +4,9 @@ use Prim.Native.Nat.{◌<◌}
 use mathlib.Core.Bool.{Bool, ◌&&◌}
 use mathlib.Core.Path.{sym, ap, ap₂, ◌∙◌}
 use native.Mathlib.Omega.{arith}
-use borrow.Author.Tests.{lt-ltb, le-ltb, not-true, not-false}
+use borrow.Author.Tests.{lt-ltb, le-ltb}
 use Rattle.sets.specs.Sets.{has, lowest}
 use Rattle.kept_closures.proofs.Answered.{not_there, one_absent_there, all_there}
-use borrow.Author.Rules.{rules}
 use Rattle.kept_closures.proofs.answer_kept.Goals as goal
 
 pub returns-then-target-ge64 : goal.returns-then-target-ge64

@@ -1,10 +1,7 @@
 -- `closure_at` meets its contract: by whether there is a layer of the index.
 -- Assumes nothing.
-use Prim.Native.Nat.{ℕ}
 use mathlib.Core.Bool.{Bool, cond}
 use mathlib.Core.Path.{sym, ap, ◌∙◌}
-use borrow.Author.Rules.{rules}
-use borrow.Author.Tests.{not-true, not-false}
 use Rattle.kept_closures.specs.Kept.{closure_over}
 use Rattle.kept_closures.proofs.closure_at.Goals as goal
 

@@ -1,9 +1,8 @@
 -- `closure_over` meets its contract. The invariant: what is put together so far, and what comes of those that are left (Putting). The measure is the number of
 -- members left. Assumes nothing.
 use Prim.Native.Nat.{ℕ, ◌<◌}
-use mathlib.Core.Path.{◌≡◌, sym, subst}
+use mathlib.Core.Path.{sym, subst}
 use native.Mathlib.Omega.{arith}
-use borrow.Author.Rules.{rules}
 use lib.ListN.{length}
 use Rattle.sets.specs.Sets.{members_of}
 use Rattle.sets.proofs.Members.{fewer_left}

@@ -1,9 +1,7 @@
 -- `every_closure` meets its contract: what is worked out of the lower indices is what the next rests on (Worked).
 -- Assumes nothing.
-use Prim.Native.Nat.{◌-◌, ◌≤◌, ◌<◌}
 use native.Mathlib.Omega.{arith}
-use Rattle.kept_closures.specs.Kept.{layers_by}
-use Rattle.kept_closures.proofs.Worked.{Worked, each_start, each_next, each_end}
+use Rattle.kept_closures.proofs.Worked.{each_start, each_next, each_end}
 use Rattle.kept_closures.proofs.every_closure.Goals as goal
 
 pub loop-index-init : goal.loop-index-init

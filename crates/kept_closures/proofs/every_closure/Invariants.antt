@@ -1,9 +1,8 @@
 -- `every_closure` meets its contract: what is worked out of the lower indices is what the next rests on (Worked).
 -- Assumes nothing.
-use Prim.Native.Nat.{◌-◌, ◌≤◌, ◌<◌}
-use native.Mathlib.Omega.{arith}
+use Prim.Native.Nat.{◌-◌, ◌≤◌}
 use Rattle.kept_closures.specs.Kept.{layers_by}
-use Rattle.kept_closures.proofs.Worked.{Worked, each_start, each_next, each_end}
+use Rattle.kept_closures.proofs.Worked.{Worked}
 use Rattle.kept_closures.proofs.every_closure.Given as goal
 
 abbrev pub invariant-loop-index : goal.invariant-loop-index

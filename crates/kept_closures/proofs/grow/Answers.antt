@@ -5,7 +5,6 @@ use mathlib.Core.Path.{ap, sym, ◌∙◌}
 use lib.ListN.{get_or}
 use Rattle.sets.specs.Sets.{joined}
 use Rattle.kept_closures.specs.Kept.{columns, stored_at}
-use borrow.Author.Rules.{rules}
 use Rattle.kept_closures.proofs.grow.Goals as goal
 
 pub returns-then-member : goal.returns-then-member

@@ -3,7 +3,7 @@
 use Prim.Native.Nat.{ℕ, ◌+◌, ◌-◌, ◌≤◌, ◌<◌}
 use mathlib.Core.Path.{◌≡◌, ap, ◌∙◌}
 use native.Mathlib.Omega.{arith}
-use Rattle.kept_closures.specs.Kept.{columns, grown_at, grown_above, steps_from}
+use Rattle.kept_closures.specs.Kept.{columns, grown_at, steps_from}
 use Rattle.kept_closures.proofs.Steps.{step_turn, step_end}
 use Rattle.kept_closures.proofs.grow_all.Goals as goal
 

@@ -1,7 +1,6 @@
 -- `keep` meets its contract: three stores.
 -- Assumes nothing.
 use Rattle.kept_closures.proofs.Steps.{size_small}
-use borrow.Author.Rules.{rules}
 use Rattle.kept_closures.proofs.keep.Goals as goal
 
 pub overflow_cast-sizes : goal.overflow_cast-sizes

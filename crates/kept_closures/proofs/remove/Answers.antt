@@ -6,7 +6,6 @@ use lib.ListN.{set}
 use Rattle.sets.specs.Sets.{without}
 use Rattle.sets.proofs.Laws.{one_shifted}
 use Rattle.kept_closures.specs.Kept.{Columns, columns, stored_at, shrunk_above, columns_removed}
-use borrow.Author.Rules.{rules}
 use Rattle.kept_closures.proofs.remove.Goals as goal
 
 pub returns : goal.returns

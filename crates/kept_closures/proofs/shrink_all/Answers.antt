@@ -3,7 +3,7 @@
 use Prim.Native.Nat.{ℕ, ◌+◌, ◌-◌, ◌≤◌, ◌<◌}
 use mathlib.Core.Path.{◌≡◌, ap, ◌∙◌}
 use native.Mathlib.Omega.{arith}
-use Rattle.kept_closures.specs.Kept.{columns, shrunk_by, shrunk_above, steps_from}
+use Rattle.kept_closures.specs.Kept.{columns, shrunk_by, steps_from}
 use Rattle.kept_closures.proofs.Steps.{step_turn, step_end}
 use Rattle.kept_closures.proofs.shrink_all.Goals as goal
 

@@ -1,10 +1,8 @@
 -- `shrink_all` meets its contract: what is left to be done gives what is asked for.
 -- Assumes nothing.
-use Prim.Native.Nat.{ℕ, ◌+◌, ◌-◌, ◌≤◌, ◌<◌}
-use mathlib.Core.Path.{◌≡◌, ap, ◌∙◌}
-use native.Mathlib.Omega.{arith}
+use Prim.Native.Nat.{◌-◌, ◌≤◌}
+use mathlib.Core.Path.{◌≡◌}
 use Rattle.kept_closures.specs.Kept.{columns, shrunk_by, shrunk_above, steps_from}
-use Rattle.kept_closures.proofs.Steps.{step_turn, step_end}
 use Rattle.kept_closures.proofs.shrink_all.Given as goal
 
 abbrev pub invariant-loop-upper : goal.invariant-loop-upper

@@ -1,9 +1,9 @@
 -- `work_out` meets its contract: what is left to be worked out gives what is asked for.
 -- Assumes nothing.
-use Prim.Native.Nat.{ℕ, ◌+◌, ◌-◌, ◌≤◌, ◌<◌}
-use mathlib.Core.Path.{◌≡◌, ap, ◌∙◌}
+use Prim.Native.Nat.{◌+◌, ◌-◌, ◌≤◌, ◌<◌}
+use mathlib.Core.Path.{ap, ◌∙◌}
 use native.Mathlib.Omega.{arith}
-use Rattle.kept_closures.specs.Kept.{columns, layers_by, steps_from, worked_by, fresh_columns}
+use Rattle.kept_closures.specs.Kept.{columns, layers_by, steps_from, worked_by}
 use Rattle.kept_closures.proofs.Steps.{step_turn, step_end}
 use Rattle.kept_closures.proofs.Worked.{worked_out}
 use Rattle.kept_closures.proofs.work_out.Goals as goal

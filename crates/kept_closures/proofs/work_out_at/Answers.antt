@@ -4,7 +4,6 @@ use Prim.Native.Nat.{ℕ}
 use mathlib.Core.Bool.{Bool, cond}
 use mathlib.Core.Path.{sym, ap, ◌∙◌}
 use Rattle.kept_closures.specs.Kept.{columns, stored_at, closure_over}
-use borrow.Author.Rules.{rules}
 use Rattle.kept_closures.proofs.work_out_at.Goals as goal
 
 pub returns-then-member : goal.returns-then-member

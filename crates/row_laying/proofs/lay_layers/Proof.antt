@@ -6,7 +6,8 @@ use mathlib.Core.Path.{◌≡◌, sym, ap, ◌∙◌}
 use native.Mathlib.Omega.{arith}
 use lib.ListN.{length, take, set, replicate, length-set}
 use lib.Seq.{length-take-le}
-use Rattle.combinators.specs.Padding.{pad_to, store_map}
+use Rattle.combinators.specs.Padding.{pad_to}
+use Rattle.combinators.proofs.Padding.{store_map}
 use Rattle.buffers.proofs.Laws.{set_after, front_kept}
 use Rattle.entry_rows.specs.Rows.{layer_number}
 use borrow.Author.Rules.{rules}

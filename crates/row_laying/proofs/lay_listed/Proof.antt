@@ -6,7 +6,8 @@ use mathlib.Core.Path.{◌≡◌, sym, ap, ◌∙◌}
 use native.Mathlib.Omega.{arith}
 use lib.ListN.{length, get_or, take, set, replicate, length-set, length-map, get_or-map}
 use lib.Seq.{length-take-le, take_all}
-use Rattle.combinators.specs.Padding.{pad_to, store_map}
+use Rattle.combinators.specs.Padding.{pad_to}
+use Rattle.combinators.proofs.Padding.{store_map}
 use Rattle.buffers.proofs.Laws.{set_after, front_kept}
 use Rattle.vocabulary.specs.declared.LayerIndex.{LayerIndex}
 use Rattle.extension.specs.Extension.{layer_index_of, layers_of}

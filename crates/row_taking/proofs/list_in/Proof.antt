@@ -5,7 +5,8 @@ use mathlib.Core.Path.{◌≡◌, refl, sym, ◌∙◌, ap}
 use mathlib.Core.List.{List, map}
 use lib.ListN.{length, take, get_or}
 use Rattle.combinators.specs.Lists.{any_none}
-use Rattle.combinators.specs.Padding.{pad_to, store_map}
+use Rattle.combinators.specs.Padding.{pad_to}
+use Rattle.combinators.proofs.Padding.{store_map}
 use Rattle.extension.specs.Extension.{no_layer}
 use Rattle.entry_rows.specs.Rows.{layer_of, layer_too_wide}
 use Rattle.entry_rows.proofs.Widths.{layer_bound}

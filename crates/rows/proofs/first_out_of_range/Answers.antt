@@ -4,7 +4,7 @@ use mathlib.Core.Path.{◌≡◌, sym, ◌∙◌}
 use native.Mathlib.Omega.{arith}
 use borrow.Author.Count.{below_more}
 use lib.ListN.{length}
-use Rattle.combinators.specs.Below.{seek_here, seek_end}
+use Rattle.combinators.proofs.Seeking.{seek_here, seek_end}
 use Rattle.rows.specs.Table.{table, out_of_range}
 use Rattle.rows.proofs.first_out_of_range.Goals as goal
 

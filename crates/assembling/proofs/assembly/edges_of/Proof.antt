@@ -7,7 +7,8 @@ use mathlib.Core.Path.{◌≡◌, sym, ◌∙◌, ap₂}
 use native.Mathlib.Omega.{arith}
 use borrow.Author.Rules.{rules}
 use lib.ListN.{get_or}
-use Rattle.combinators.specs.Gathering.{Gathered, gathered_start, gathered_room, gathered_more, gathered_same, gathered_count, gathered_array}
+use Rattle.combinators.specs.Gathering.{Gathered, gathered_start, gathered_room, gathered_same, gathered_count, gathered_array}
+use Rattle.combinators.proofs.Padding.{gathered_more}
 use Rattle.assembling.specs.Assemblies.{is_edge, edges_of, most_edges, joins}
 use Rattle.assembling.proofs.Skipping.{gathered_next, few_edges}
 use Rattle.assembling.proofs.assembly.edges_of.Statement.{statement}

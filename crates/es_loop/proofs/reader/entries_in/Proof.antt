@@ -6,7 +6,7 @@ use mathlib.Core.Path.{◌≡◌, ◌∙◌, ap, sym, refl}
 use mathlib.Core.List.{List}
 use lib.ListN.{length, take, set}
 use lib.Seq.{length-take-le, take_all}
-use Rattle.combinators.specs.Padding.{store_map}
+use Rattle.combinators.proofs.Padding.{store_map}
 use Rattle.loop_entries.specs.declared.Entry.{Entry}
 use Rattle.loop_entries.specs.declared.Stream.{Stream}
 use Rattle.loop_entries.specs.Entries.{no_stream, blank_entry, streams_of, entry_of, entries_of}
