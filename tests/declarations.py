@@ -1,5 +1,5 @@
 """Do the declarations of the library agree? No compiler compares them: include/thoquenry.h for C, rust/thoquenry-sys for Rust,
-python/src/thoquenry/_library.py for Python, and the source itself, the crates that export functions. This test parses all four and holds them to one
+python/src/thoquenry/_library.py for Python, and the source itself, the crate that exports functions. This test parses all four and holds them to one
 another: the functions' names, and the name, number, order, width and constness of the parameters and the width of the result. A slice
 parameter of the source is a pointer and, after it, a length. (ctypes does not say whether a pointer is const, so there it is not compared.)
 
@@ -8,7 +8,8 @@ It also holds to one another
     buffers, and Rust's constants and the header's;
   - the refusals: the table of words (words/refusals.tsv), C's enum, Rust's constants and enum, Python's enum and the source's own enum
     (crates/vocabulary/src/refusal.rt) have the same numbers under the same names, with a place or without; every number has words of its own,
-    which say what its place counts; and the comments of C's and Rust's enums are those words;
+    which say what its place counts; the comments of C's and Rust's enums are those words; and the tables that Rust's crate and Python's package carry are
+    copies of that table;
   - the version: the header's, the library's own, those of Rust's crates and of Python's package;
 and, with a file that lists the names which the built library offers, those names and the header's. It tests itself: changes are made to the
 texts, one after the other, and each must be noticed.
@@ -25,11 +26,13 @@ ROOT = Path(__file__).resolve().parent.parent
 HEADER = "include/thoquenry.h"
 RUST = "rust/thoquenry-sys/src/lib.rs"
 PYTHON = "python/src/thoquenry/_library.py"
-SOURCE = "crates/*/src"
+SOURCE = "crates/thoquenry_c/src"
 WORDS = "words/refusals.tsv"
+COPIES_OF_WORDS = ("python/src/thoquenry/refusals.tsv", "rust/thoquenry/src/refusals.tsv")
 RUST_REFUSALS = "rust/thoquenry/src/refusal.rs"
 PYTHON_REFUSALS = "python/src/thoquenry/_refusals.py"
 SOURCE_REFUSALS = "crates/vocabulary/src/refusal.rt"
+VERSION_SOURCE = "crates/thoquenry/src/version.rt"
 VERSION_SPEC = "crates/thoquenry/specs/Version.antt"
 RUST_PACKAGES = ("rust/thoquenry-sys/Cargo.toml", "rust/thoquenry/Cargo.toml")
 PYTHON_PACKAGE = "python/src/thoquenry/__init__.py"
@@ -114,9 +117,9 @@ def rattle_functions(text):
     """The same of the functions that the source exports; a slice is a pointer and a length."""
     plain = {kind: kind for kind in ("bool", "u8", "u16", "u32", "u64", "i64", "usize")}
     text = re.sub(r"//.*", "", text)
-    exported = re.findall(r'#\[no_mangle\]\s*pub extern "C" fn (\w+)\s*\(([^()]*)\)\s*->\s*(\w+)', text)
+    exported = re.findall(r'#\[unsafe\(no_mangle\)\]\s*pub extern "C" fn (\w+)\s*\(([^()]*)\)\s*->\s*(\w+)', text)
     if len(exported) != len(re.findall(r'extern "C"', text)):
-        fail(f"{SOURCE}: an exported function that is not marked #[no_mangle], or of another shape")
+        fail(f"{SOURCE}: an exported function that is not marked #[unsafe(no_mangle)], or of another shape")
     functions = {}
     for name, parameters, result in exported:
         parsed = []
@@ -253,6 +256,7 @@ def refusals_differ(texts):
     expected = [(number, name) for number, name, _, _ in table]
     placed = {name: place for _, name, place, _ in table}
     found = table_is_unsound(table)
+    found += [f"{copy} is no copy of {WORDS}" for copy in COPIES_OF_WORDS if texts[copy] != texts[WORDS]]
 
     def hold(where, given, wanted):
         if given != wanted:
@@ -289,7 +293,7 @@ def versions_differ(texts):
     patterns = [
         (HEADER, r"#define THQ_VERSION_NUMBER (\d+)", f"{number}"),
         (HEADER, r"\(libthoquenry\.so\.([\d.]+)\)", fitting[0]),
-        (SOURCE, r"fn thq_version\(\)[^{]*\{[^}]*\}\s*\{\s*(\d+)\s*\}", f"{number}"),
+        (VERSION_SOURCE, r"fn thq_version\(\)[^{]*\{[^}]*\}\s*\{\s*(\d+)\s*\}", f"{number}"),
         (VERSION_SPEC, r"\nversion = numbered (.*)", f"{first} {second} {third}"),
         (PYTHON, r'_SONAME = "libthoquenry\.so\.([\d.]+)"', fitting[0]),
         (PYTHON, r"_FITTING = range\((\d+), ", f"{fitting[1]}"),
@@ -376,7 +380,8 @@ CHANGES = [
     (PYTHON, "range(500, 600)", "range(400, 500)"),
     (SOURCE, "&mut [i64]", "&mut [u64]"),
     (SOURCE, "-> u64", "-> u8"),
-    (SOURCE, "    500\n", "    501\n"),
+    (SOURCE, "counts: &[u64]) -> u64", "counts: &mut [u64]) -> u64"),
+    (VERSION_SOURCE, "    500\n", "    501\n"),
     (VERSION_SPEC, "numbered 0 5 0", "numbered 1 0 0"),
     (WORDS, "25\tTOO_WIDE\t-\ta value to be written is too wide for its field\n", ""),
     (WORDS, "25\tTOO_WIDE\t-\ta value to be written is too wide for its field", "25\tTOO_WIDE\t-\tPTS lies before DTS"),
@@ -384,6 +389,7 @@ CHANGES = [
     (WORDS, "14\tTIME_ORDER_BROKEN\trow\trow {}", "14\tTIME_ORDER_BROKEN\trow\trow"),
     (WORDS, "14\tTIME_ORDER_BROKEN\trow\trow {}", "14\tTIME_ORDER_BROKEN\tentry\tentry {}"),
     (WORDS, "14\tTIME_ORDER_BROKEN", "18\tTIME_ORDER_BROKEN"),
+    *((copy, "row {}, the head of a unit, has no assembly", "row {} has no assembly") for copy in COPIES_OF_WORDS),
     (RUST_REFUSALS, "15 Unpaired", "16 Unpaired"),
     (RUST_REFUSALS, "23 WrongMarker", "23 WrongMarkers"),
     (RUST_REFUSALS, "24: PTS lies before DTS", "24: DTS lies before PTS"),
@@ -400,12 +406,13 @@ CHANGES = [
 
 
 def main():
-    single = (HEADER, RUST, PYTHON, WORDS, RUST_REFUSALS, PYTHON_REFUSALS, SOURCE_REFUSALS, VERSION_SPEC, *RUST_PACKAGES, PYTHON_PACKAGE)
+    single = (HEADER, RUST, PYTHON, WORDS, *COPIES_OF_WORDS, RUST_REFUSALS, PYTHON_REFUSALS, SOURCE_REFUSALS, VERSION_SOURCE, VERSION_SPEC, *RUST_PACKAGES, PYTHON_PACKAGE)
     texts = {path: (ROOT / path).read_text() for path in single}
-    sources = [path.read_text() for path in sorted(ROOT.glob(f"{SOURCE}/*.rt"))]
-    texts[SOURCE] = "\n".join(text for text in sources if "#[no_mangle]" in text)
+    texts[SOURCE] = "\n".join(path.read_text() for path in sorted(ROOT.glob(f"{SOURCE}/*.rt")))
     header = c_functions(texts[HEADER])
     found = all_differences(texts)
+    others = [path for path in sorted(ROOT.glob("crates/*/src/**/*.rt")) if 'extern "C"' in path.read_text() and not path.is_relative_to(ROOT / SOURCE)]
+    found += [f"{path.relative_to(ROOT)} exports functions too" for path in others]
     if len(sys.argv) > 1:
         offered = set(Path(sys.argv[1]).read_text().split())
         if offered != set(header):

@@ -1,4 +1,5 @@
-// The library that others link: loops, closures and times, and its version, for C and for whatever calls C. (The functions that join rows have a crate of their own.)
+// Of the library that others link: loops, closures and times, and its version, for C and for whatever calls C; thoquenry_c exports them. (The functions that join
+// rows have a crate of their own.)
 // include/thoquenry.h documents each; specs/ has, for each, one definition of its answer and of what its buffers hold afterwards, over the definitions of the crates that
 // do the work.
 #![tactic(auto)]

@@ -43,8 +43,7 @@ fn lay_rows(reading: Reading, bytes: &[u8], entries: &mut [u16]) -> u64
     }
 }
 
-#[unsafe(no_mangle)]
-pub extern "C" fn thq_read_loop(reading: u64, bytes: &[u8], entries: &mut [u16]) -> u64
+pub fn thq_read_loop(reading: u64, bytes: &[u8], entries: &mut [u16]) -> u64
     ensures answer { result ≡ (read_loop reading bytes.now entries.old).answer }
     ensures content { entries.new ≡ (read_loop reading bytes.now entries.old).buffer }
 {
@@ -55,8 +54,7 @@ pub extern "C" fn thq_read_loop(reading: u64, bytes: &[u8], entries: &mut [u16])
     }
 }
 
-#[unsafe(no_mangle)]
-pub extern "C" fn thq_write_loop(entries: &[u16], out: &mut [u8]) -> u64
+pub fn thq_write_loop(entries: &[u16], out: &mut [u8]) -> u64
     ensures answer { result ≡ (write_loop entries.now out.old).answer }
     ensures content { out.new ≡ (write_loop entries.now out.old).buffer }
 {
@@ -87,8 +85,7 @@ fn lay_closure(found: Closure, set: &mut [u64]) -> u64
     }
 }
 
-#[unsafe(no_mangle)]
-pub extern "C" fn thq_closure(reading: u64, bytes: &[u8], target: u64, set: &mut [u64]) -> u64
+pub fn thq_closure(reading: u64, bytes: &[u8], target: u64, set: &mut [u64]) -> u64
     ensures answer { result ≡ (closure_call reading bytes.now target set.old).answer }
     ensures content { set.new ≡ (closure_call reading bytes.now target set.old).buffer }
 {

@@ -12,8 +12,7 @@ fn bit(flag: bool) -> u64
     if flag { 1 } else { 0 }
 }
 
-#[unsafe(no_mangle)]
-pub extern "C" fn thq_read_times(bytes: &[u8], times: &mut [u64]) -> u64
+pub fn thq_read_times(bytes: &[u8], times: &mut [u64]) -> u64
     ensures answer { result ≡ (read_times bytes.now times.old).answer }
     ensures content { times.new ≡ (read_times bytes.now times.old).buffer }
 {
@@ -34,8 +33,7 @@ pub extern "C" fn thq_read_times(bytes: &[u8], times: &mut [u64]) -> u64
     }
 }
 
-#[unsafe(no_mangle)]
-pub extern "C" fn thq_write_times(
+pub fn thq_write_times(
     pts: u64,
     decoding: u64,
     matching: u64,

@@ -2,8 +2,7 @@
 ghost use Rattle.std.specs.Prelude.{◌≡◌};
 ghost use Rattle.thoquenry.specs.Version.{version};
 
-#[unsafe(no_mangle)]
-pub extern "C" fn thq_version() -> u64
+pub fn thq_version() -> u64
     ensures { result ≡ version }
 {
     500

@@ -106,8 +106,7 @@ fn join_over(
     summarise(joined, summary)
 }
 
-#[unsafe(no_mangle)]
-pub extern "C" fn thq_join(
+pub fn thq_join(
     present: u64,
     embedded: &[u64],
     target: u64,
@@ -182,8 +181,7 @@ fn join_long_over(
     summarise(joined, summary)
 }
 
-#[unsafe(no_mangle)]
-pub extern "C" fn thq_join_long(
+pub fn thq_join_long(
     present: u64,
     embedded: &[u64],
     target: u64,
@@ -241,8 +239,7 @@ fn import_under(
     }
 }
 
-#[unsafe(no_mangle)]
-pub extern "C" fn thq_import(
+pub fn thq_import(
     reading: u64,
     bytes: &[u8],
     target: u64,

@@ -17,8 +17,7 @@ use recording_imports::{ask, pid_table, read_for};
 use rows::MOST_ROWS;
 use summed_joins::join_summed;
 
-#[unsafe(no_mangle)]
-pub extern "C" fn thq_packets_import_long(
+pub fn thq_packets_import_long(
     bytes: &[u8],
     target: u64,
     packets: &[u8],
@@ -76,8 +75,7 @@ pub extern "C" fn thq_packets_import_long(
 }
 
 // At most 512 rows, in columns and work space of its own.
-#[unsafe(no_mangle)]
-pub extern "C" fn thq_packets_import(
+pub fn thq_packets_import(
     bytes: &[u8],
     target: u64,
     packets: &[u8],

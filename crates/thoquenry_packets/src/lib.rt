@@ -10,8 +10,7 @@ use packet_answers::rows_answer;
 use recording_imports::{pid_table, read_for};
 use vocabulary::Reading;
 
-#[unsafe(no_mangle)]
-pub extern "C" fn thq_packets_rows(
+pub fn thq_packets_rows(
     bytes: &[u8],
     packets: &[u8],
     starts: &mut [u64],

@@ -29,8 +29,7 @@ fn begin(table: LayerTable, state: &mut [u8], counts: &mut [u64]) -> u64
     accepted(sets::size(layers.present))
 }
 
-#[unsafe(no_mangle)]
-pub extern "C" fn thq_packets_start(bytes: &[u8], state: &mut [u8], counts: &mut [u64]) -> u64
+pub fn thq_packets_start(bytes: &[u8], state: &mut [u8], counts: &mut [u64]) -> u64
     ensures { state_reply result state.new counts.new ≡ start_call bytes.now state.old counts.old }
 {
     if state.len() != STATE_BYTES {
@@ -57,8 +56,7 @@ fn shortest(indices: usize, decodings: usize, matches: usize, trefs: usize, numb
     )
 }
 
-#[unsafe(no_mangle)]
-pub extern "C" fn thq_packets_feed(
+pub fn thq_packets_feed(
     piece: &[u8],
     state: &mut [u8],
     counts: &mut [u64],
@@ -133,8 +131,7 @@ pub fn told(state: &[u8], counts: &[u64]) -> Recording
     recordings::answer_of(found, room_told(counts[71], found.rows))
 }
 
-#[unsafe(no_mangle)]
-pub extern "C" fn thq_packets_told(state: &[u8], counts: &[u64]) -> u64
+pub fn thq_packets_told(state: &[u8], counts: &[u64]) -> u64
     ensures { result ≡ told_call state.now counts.now }
 {
     if !packet_states::is_state(state, counts) {

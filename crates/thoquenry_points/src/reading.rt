@@ -154,8 +154,7 @@ fn lay_read(
     accepted(count)
 }
 
-#[unsafe(no_mangle)]
-pub extern "C" fn thq_read_points(
+pub fn thq_read_points(
     program: &[u8],
     bytes: &[u8],
     descriptors: &mut [u32],

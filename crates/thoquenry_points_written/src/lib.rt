@@ -9,8 +9,7 @@ ghost use Rattle.thoquenry_points_written.specs.Writing.{write_points};
 use c_answers::{accepted, refused};
 use point_writer::Written;
 
-#[unsafe(no_mangle)]
-pub extern "C" fn thq_write_points(
+pub fn thq_write_points(
     profiles: &[u8],
     points: &[u32],
     references: &[u8],

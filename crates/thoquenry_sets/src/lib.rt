@@ -70,13 +70,7 @@ fn read_into(reading: Reading, bytes: &[u8], layers: &mut [u16], stored: &mut [u
     lay_changed(Changed { outcome, set }, layers, stored)
 }
 
-#[unsafe(no_mangle)]
-pub extern "C" fn thq_set_read(
-    reading: u64,
-    bytes: &[u8],
-    layers: &mut [u16],
-    stored: &mut [u64],
-) -> u64
+pub fn thq_set_read(reading: u64, bytes: &[u8], layers: &mut [u16], stored: &mut [u64]) -> u64
     ensures { set_reply result layers.new stored.new ≡ read_set reading bytes.now layers.old stored.old }
 {
     if layers.len() != SET_LAYERS {
@@ -92,8 +86,7 @@ pub extern "C" fn thq_set_read(
     }
 }
 
-#[unsafe(no_mangle)]
-pub extern "C" fn thq_set_add(layers: &mut [u16], stored: &mut [u64], entry: &[u16]) -> u64
+pub fn thq_set_add(layers: &mut [u16], stored: &mut [u64], entry: &[u16]) -> u64
     ensures { set_reply result layers.new stored.new ≡ add_set layers.old stored.old entry.now }
 {
     if !layer_set_rows::rows_hold(layers) {
@@ -113,8 +106,7 @@ pub extern "C" fn thq_set_add(layers: &mut [u16], stored: &mut [u64], entry: &[u
     lay_changed(changed, layers, stored)
 }
 
-#[unsafe(no_mangle)]
-pub extern "C" fn thq_set_remove(layers: &mut [u16], stored: &mut [u64], index: u64) -> u64
+pub fn thq_set_remove(layers: &mut [u16], stored: &mut [u64], index: u64) -> u64
     ensures { set_reply result layers.new stored.new ≡ remove_set layers.old stored.old index }
 {
     if !layer_set_rows::rows_hold(layers) {
@@ -144,13 +136,7 @@ fn lay_closure(found: Closure, closure: &mut [u64]) -> u64
     }
 }
 
-#[unsafe(no_mangle)]
-pub extern "C" fn thq_set_closure(
-    layers: &[u16],
-    stored: &[u64],
-    target: u64,
-    closure: &mut [u64],
-) -> u64
+pub fn thq_set_closure(layers: &[u16], stored: &[u64], target: u64, closure: &mut [u64]) -> u64
     ensures { reply result closure.new ≡ closure_set layers.now stored.now target closure.old }
 {
     if !layer_set_rows::rows_hold(layers) {

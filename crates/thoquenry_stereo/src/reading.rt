@@ -44,8 +44,7 @@ fn lay_set(read: StereoRead, entries: &mut [u16], extensions: &mut [u16]) -> u64
     accepted(2)
 }
 
-#[unsafe(no_mangle)]
-pub extern "C" fn thq_read_stereo(bytes: &[u8], entries: &mut [u16], extensions: &mut [u16]) -> u64
+pub fn thq_read_stereo(bytes: &[u8], entries: &mut [u16], extensions: &mut [u16]) -> u64
     ensures answer { result ≡ (read_stereo bytes.now entries.old extensions.old).answer }
     ensures rows { entries.new ≡ (read_stereo bytes.now entries.old extensions.old).entries }
     ensures beside { extensions.new ≡ (read_stereo bytes.now entries.old extensions.old).extensions }

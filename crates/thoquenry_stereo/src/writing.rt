@@ -6,8 +6,7 @@ use c_answers::{accepted, refused};
 use loop_writer::Written;
 use vocabulary::Refusal;
 
-#[unsafe(no_mangle)]
-pub extern "C" fn thq_write_stereo(entries: &[u16], extensions: &[u16], out: &mut [u8]) -> u64
+pub fn thq_write_stereo(entries: &[u16], extensions: &[u16], out: &mut [u8]) -> u64
     ensures answer { result ≡ (write_stereo entries.now extensions.now out.old).answer }
     ensures content { out.new ≡ (write_stereo entries.now extensions.now out.old).buffer }
 {

@@ -70,8 +70,7 @@ fn units_told(
     summarise(imported, summary)
 }
 
-#[unsafe(no_mangle)]
-pub extern "C" fn thq_packets_units(
+pub fn thq_packets_units(
     bytes: &[u8],
     target: u64,
     state: &[u8],
