@@ -10,7 +10,7 @@ use lib.Dec.{ltb, leb, eqb}
 use lib.ListN.{length, get_or, set, drop}
 use lib.Seq.{drop-cons, drop-length}
 use Rattle.cases.specs.declared.numbers.Numbers.{Numbers}
-use Rattle.cases.specs.Numbers.{is_digit, digit_of, with_digit, with_character, with_all, numbers_of, number_or, is_comment}
+use Rattle.cases.specs.Numbers.{is_digit, digit_of, with_digit, with_character, with_all, number_or, is_comment}
 
 module _ (character : ℕ) where
   pub digit_yes : 48 ≤ character → character < 58 → is_digit character ≡ true

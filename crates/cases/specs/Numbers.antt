@@ -1,6 +1,6 @@
 -- DECIMAL NUMBERS OUT OF A WORD, at most eight, each parted from the next by one character that is no digit.
 -- Assumes nothing.
-use Rattle.std.specs.Prelude.{ℕ, suc, ◌+◌, ◌-◌, ◌*◌, Bool, true, cond, not, ◌&&◌, List, [], ◌∷◌, eqb, leb, ltb, get_or, set, replicate}
+use Rattle.std.specs.Prelude.{ℕ, ◌+◌, ◌-◌, ◌*◌, Bool, true, cond, not, ◌&&◌, List, [], ◌∷◌, eqb, leb, ltb, get_or, set, replicate}
 use Rattle.cases.specs.declared.numbers.Numbers.{Numbers}
 
 -- a character from '0' to '9', and the value of such a digit, 0 of any other

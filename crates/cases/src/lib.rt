@@ -1,12 +1,12 @@
+#![tactic(auto)]
 // What the programs share that answer cases which a person can read, one a line:
 //
 //     # any text          a comment that names the case; it is copied to the output, and so is an empty line
 //
 // Every other line is a case. What its words mean is said by the program; how a line ends, a word, a byte in hexadecimal and a decimal
 // number, and how an answer is told, is said here.
-#![tactic(auto)]
-
-ghost use Rattle.std.specs.Prelude.{◌+◌, min, ◌≡◌, length};
+ghost use Rattle.std.specs.Prelude.{◌+◌, ◌<◌, min, ◌≡◌, length, take, IfOk};
+ghost use Rattle.std.specs.Io.KnownBytes.{Consumes, IsAtEnd};
 ghost use Rattle.io.specs.Counts.{IsPrefixLen};
 ghost use Rattle.cases.specs.Parts.{bytes_before};
 ghost use Rattle.cases.specs.Numbers.{is_comment};
@@ -18,6 +18,7 @@ mod said;
 pub use bytes::{Found, empty_room, read_bytes};
 pub use numbers::{Numbers, is_digit, number_or, numbers_of};
 pub use said::{copy, say, say_number, too_long, unreadable};
+use std::io::{Read, Result, Write};
 
 // The first part of a text, which ends at a mark or with the text: how many bytes it has, and how many stand before the next part.
 #[derive(Clone, Copy)]
@@ -66,15 +67,20 @@ pub fn is_comment(line: &[u8]) -> bool
     line[0] == b'#'
 }
 
-// Reads the cases on standard input to the start of the buffer, and answers how many bytes they are. An input that fills the buffer, so that
-// there may be more of it, is not read to its end: this is told, and there are no cases.
-pub fn read_cases(buffer: &mut [u8]) -> usize
-    ensures { IsPrefixLen result buffer.new }
+// Reads the cases to the start of the buffer, and answers how many bytes they are. An input that fills the buffer, so that there may be more of
+// it, is not read to its end: this is told, and there are no cases.
+pub fn read_cases<R: Read, W: Write>(
+    reader: &mut R,
+    out: &mut W,
+    buffer: &mut [u8],
+) -> Result<usize>
+    ensures counted { IfOk result (λ count. IsPrefixLen count buffer.new) }
+    ensures cases { IfOk result (λ count. 0 < count → Consumes (R.remaining reader.old) (R.remaining reader.new) (take count buffer.new) × IsAtEnd (R.remaining reader.new)) }
 {
-    let count = io::read_full(libc::STDIN_FILENO, buffer);
+    let count = console::read_input(reader, buffer)?;
     if count < buffer.len() {
-        return count;
+        return Ok(count);
     }
-    too_long();
-    0
+    too_long(out)?;
+    Ok(0)
 }

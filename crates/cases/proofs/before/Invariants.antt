@@ -3,13 +3,7 @@
 use Prim.Native.Nat.{ℕ, ◌≤◌, ◌<◌, ◌-◌}
 use mathlib.Core.Bool.{false}
 use mathlib.Core.Path.{◌≡◌}
-use native.Mathlib.Omega.{arith}
-use borrow.Author.Count.{below_more}
-use borrow.Author.Rules.{rules}
-use borrow.Author.Tests.{eq-eqb, ne_eqb}
 use lib.ListN.{length}
-use Rattle.io.proofs.Counting.{prefix_len_of_le}
-use Rattle.combinators.proofs.Seeking.{seek_here, seek_end}
 use Rattle.cases.specs.Parts.{is_mark}
 use Rattle.cases.proofs.before.Given as goal
 

@@ -4,7 +4,6 @@ use Prim.Native.Nat.{◌<◌}
 use lib.ListN.{length}
 use native.Mathlib.Omega.{arith}
 use Rattle.cases.proofs.Digits.{no_character, first_character}
-use borrow.Author.Rules.{rules}
 use Rattle.cases.proofs.is_comment.Goals as goal
 
 pub returns-then-line-eq0 : goal.returns-then-line-eq0

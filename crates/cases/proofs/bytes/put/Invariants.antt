@@ -1,7 +1,6 @@
 -- `cases::put` meets its contract. The loop's invariant: there are never more bytes than the room has.
 -- Assumes nothing.
 use Prim.Native.Nat.{◌≤◌}
-use borrow.Author.Rules.{rules}
 use Rattle.cases.proofs.bytes.put.Given as goal
 
 abbrev pub invariant-loop-left : goal.invariant-loop-left

@@ -2,7 +2,6 @@
 -- room has.
 -- Assumes nothing.
 use Prim.Native.Nat.{◌≤◌, ◌-◌}
-use borrow.Author.Rules.{rules}
 use lib.ListN.{length}
 use Rattle.cases.proofs.bytes.read_bytes.Given as goal
 

@@ -1,7 +1,6 @@
 -- `cases::run_of` is safe and ends: a number of more than four digits is left before it can grow too large.
 -- Assumes nothing.
 use Prim.Native.Nat.{◌-◌}
-use borrow.Author.Rules.{rules}
 use lib.ListN.{length}
 use Rattle.cases.proofs.bytes.run_of.Given as goal
 

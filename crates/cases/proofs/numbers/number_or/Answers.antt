@@ -1,7 +1,6 @@
 -- `number_or` meets its contract: by the two tests.
 -- Assumes nothing.
 use Rattle.cases.proofs.Digits.{number_past, number_none, number_at}
-use borrow.Author.Rules.{rules}
 use Rattle.cases.proofs.numbers.number_or.Goals as goal
 
 pub returns-then-numbers-place : goal.returns-then-numbers-place

@@ -1,13 +1,9 @@
 -- `numbers_of` meets its contract: the numbers so far, with what is left of the word, are the word's.
 -- Assumes nothing.
-use Prim.Native.Nat.{◌+◌, ◌-◌, ◌≤◌, ◌<◌}
-use mathlib.Core.Path.{◌≡◌, refl, ap, ◌∙◌}
-use native.Mathlib.Omega.{arith}
+use Prim.Native.Nat.{◌-◌, ◌≤◌}
+use mathlib.Core.Path.{◌≡◌}
 use lib.ListN.{length, drop}
-use Rattle.cases.specs.declared.numbers.Numbers.{Numbers}
 use Rattle.cases.specs.Numbers.{with_all, numbers_of}
-use Rattle.cases.proofs.Digits.{turn, end}
-use borrow.Author.Rules.{rules}
 use Rattle.cases.proofs.numbers.numbers_of.Given as goal
 
 abbrev pub invariant-loop-i : goal.invariant-loop-i

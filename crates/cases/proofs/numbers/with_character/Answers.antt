@@ -1,9 +1,7 @@
 -- `with_character` meets its contract: by its three tests.
 -- Assumes nothing.
 use mathlib.Core.Path.{sym, ◌∙◌}
-use borrow.Author.Tests.{not-true, not-false}
 use Rattle.cases.proofs.Digits.{no_place, next_number, too_large, next_digit}
-use borrow.Author.Rules.{rules}
 use Rattle.cases.proofs.numbers.with_character.Goals as goal
 
 pub returns-then-last-gt7 : goal.returns-then-last-gt7
