@@ -20,11 +20,11 @@ abbrev pub refused : Refusal → ℕ
 refused refusal = answer_of (number_of refusal) (place_of refusal)
 
 -- THQ_NOT_A_CALL: 'the reading is neither THQ_2009 nor THQ_2015'
-abbrev pub notACall : ℕ
-notACall = answer_of 255 0
+abbrev pub not_a_call : ℕ
+not_a_call = answer_of 255 0
 
-abbrev pub askedFor : ℕ → Asked
-askedFor reading = cond (eqb reading 2009) (Known Edition2009) (cond (eqb reading 2015) (Known Edition2015) Neither)
+abbrev pub asked_for : ℕ → Asked
+asked_for reading = cond (eqb reading 2009) (Known Edition2009) (cond (eqb reading 2015) (Known Edition2015) Neither)
 
 -- What a call leaves: its answer, and the final content of its buffer.
 pub record Reply : Type 0 where

@@ -3,7 +3,7 @@
 #![tactic(auto)]
 
 ghost use Rattle.std.specs.Prelude.{◌≡◌};
-ghost use Rattle.c_answers.specs.Answers.{answer_of, accepted as acceptedOf, refused as refusedOf, notACall, askedFor};
+ghost use Rattle.c_answers.specs.Answers.{answer_of, accepted as acceptedOf, refused as refusedOf, not_a_call, asked_for};
 
 use vocabulary::{Reading, Refusal};
 
@@ -33,13 +33,13 @@ pub fn refused(refusal: Refusal) -> u64
 }
 
 pub fn not_a_call() -> u64
-    ensures { result ≡ notACall }
+    ensures { result ≡ not_a_call }
 {
     answer(255, 0)
 }
 
 pub fn reading_of(year: u64) -> Asked
-    ensures { result ≡ askedFor year }
+    ensures { result ≡ asked_for year }
 {
     if year == 2009 {
         return Asked::Known(Reading::Edition2009);

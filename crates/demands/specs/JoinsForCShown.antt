@@ -17,7 +17,7 @@ use Rattle.join_answers.specs.Joining.{room_of, joined_of, lists_after, most_lon
 use Rattle.join_answers.specs.Steps.{spaces}
 use Rattle.importing.specs.Importing.{layers_read, import_of}
 use Rattle.c_answers.specs.declared.Asked.{Asked}
-use Rattle.c_answers.specs.Answers.{askedFor}
+use Rattle.c_answers.specs.Answers.{asked_for}
 use Rattle.thoquenry_joins.specs.Joins.{JoinReply, layers_given, with_summary, join_reply, join_over, import_asked}
 use Rattle.thoquenry_joins.proofs.Bounds.{Few, few_joined, few_imported}
 use Rattle.promised.specs.Calls.{is_listed, Promised}
@@ -125,7 +125,7 @@ told_import given = told_by_year given.reading (import_under given)
 abbrev import_for : ImportGiven → Asked → JoinReply
 import_for given a = import_asked a given.bytes given.target given.rows given.before.after given.before.summary
 
-import_replied : (given : ImportGiven) → TellsFilled (told_import given) given.before (import_for given (askedFor given.reading))
+import_replied : (given : ImportGiven) → TellsFilled (told_import given) given.before (import_for given (asked_for given.reading))
 import_replied given =
     asked (λ (a : Asked) (t : Told Filled). TellsFilled t given.before (import_for given a)) (import_under given) given.reading
     (λ reading. joined_tells (layers_read (loop_read reading given.bytes)) given.rows given.before (imported_under given reading))
@@ -136,7 +136,7 @@ thq_loop_imported =
     told_promised thq_import told_import (record {
       asks_nothing = λ run. tt;
       ensured = λ run e. (let given = thq_import.given run in
-          by_reply (told_import given) given.before (import_for given (askedFor given.reading)) (thq_import.answer run) (thq_import.after run)
+          by_reply (told_import given) given.before (import_for given (asked_for given.reading)) (thq_import.answer run) (thq_import.after run)
           (import_replied given) (e.0, e.1.0, e.1.1));
       exactly = λ given answer after. by_year given.reading (import_under given) given.before answer after
           (λ reading. retold import_computed (loop_given given reading) (joined_told given.before.summary) given.before answer after);

@@ -24,7 +24,7 @@ use Rattle.loop_layers.specs.Layers.{layers_of, table_of}
 use Rattle.loop_layers.proofs.layers_of.Kinds as layers-of-kinds
 use Rattle.loop_layers.proofs.layers_of.Reads as layers-of
 use Rattle.loop_layers.proofs.table_of.Kinds as table-of-kinds
-use Rattle.loop_layers.proofs.table_of.Reads as table_of
+use Rattle.loop_layers.proofs.table_of.Reads as table-of
 use Rattle.listing.specs.Lines.{loop_text}
 use Rattle.listing.proofs.put_loop.Kinds as put-loop-kinds
 use Rattle.listing.proofs.put_loop.Reads as put-loop
@@ -53,7 +53,7 @@ pub record RefuseNothing : Type 0 where
   -- `loop_layers`: the layers of the first entries of an array, and the table of them
   pub layers : Ensured 0 layers-of-kinds.ps layers-of-kinds.r layers-of.Pre layers-of.Post
       (λ run. run.answer ≡ layers_of (take run.handed.0 run.handed.1.0))
-  pub table : Ensured 0 table-of-kinds.ps table-of-kinds.r table_of.Pre table_of.Post
+  pub table : Ensured 0 table-of-kinds.ps table-of-kinds.r table-of.Pre table-of.Post
       (λ run. run.answer ≡ table_of (take run.handed.0 run.handed.1.0))
   -- `listing`: the text of a loop, laid into a buffer from a place on, and the place after it
   pub text : Ensured 2 put-loop-kinds.ps put-loop-kinds.r put-loop.Pre put-loop.Post

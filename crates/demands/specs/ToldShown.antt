@@ -10,7 +10,7 @@ use Rattle.vocabulary.specs.declared.stream_types.Reading.TheVariants.{Edition20
 use Rattle.vocabulary.specs.Refusals.{number_of, place_of}
 use Rattle.c_answers.specs.declared.Asked.{Asked}
 use Rattle.c_answers.specs.declared.Asked.TheVariants.{Known, Neither}
-use Rattle.c_answers.specs.Answers.{accepted, refused, notACall, askedFor}
+use Rattle.c_answers.specs.Answers.{accepted, refused, not_a_call, asked_for}
 use Rattle.c_answers.proofs.Macros.{refused_number, refused_place, accepted_number, accepted_count}
 use Rattle.promised.specs.Calls.{Call, is_listed, Promised}
 use Rattle.promised.specs.Shown.{Computed, promised, not_refused}
@@ -21,7 +21,7 @@ module _ {B : Type 0} where
   abbrev pub code : Told B → ℕ
   code (counts count left) = accepted count
   code (refuses refusal) = refused refusal
-  code not_a_call = notACall
+  code not_a_call = not_a_call
 
   abbrev pub leaves : Told B → B → B
   leaves (counts count left) before = left
@@ -139,7 +139,7 @@ by_year year t before answer after each =
     (if_told (eqb year 2015) (t Edition2015) not_a_call before answer after (each Edition2015) (λ s. s, λ s. s))
 
 pub asked : {B : Type 0} (P : Asked → Told B → Type 0) (t : Reading → Told B) (year : ℕ) → ((reading : Reading) → P (Known reading) (t reading))
-    → P Neither not_a_call → P (askedFor year) (told_by_year year t)
+    → P Neither not_a_call → P (asked_for year) (told_by_year year t)
 asked {B} P t year each neither = by (eqb year 2009) (eqb year 2015)
   where
     by : (a b : Bool) → P (cond a (Known Edition2009) (cond b (Known Edition2015) Neither)) (cond a (t Edition2009) (cond b (t Edition2015) not_a_call))

@@ -38,7 +38,7 @@ use Rattle.layer_set.proofs.Read.{read_is_set, read_layers}
 use Rattle.layer_set_rows.specs.Buffers.{stored_numbers, set_in, holds_set}
 use Rattle.c_answers.specs.declared.Asked.{Asked}
 use Rattle.c_answers.specs.declared.Asked.TheVariants.{Known, Neither}
-use Rattle.c_answers.specs.Answers.{notACall, askedFor, refused}
+use Rattle.c_answers.specs.Answers.{not_a_call, asked_for, refused}
 use Rattle.thoquenry_sets.specs.Calls.{SetReply, set_reply, set_laid, changed_laid, after_change, read_into, read_set, add_set, remove_set}
 use Rattle.thoquenry_sets.proofs.Replies.{one_row}
 use Rattle.held_sets.specs.Meaning.{Laid, LaidOut, Holds, Leaves, untouched, a_set}
@@ -130,8 +130,8 @@ module _ (layers stored : List ℕ) where
       by_reading Neither = untouched refl refl
 
       by_length : (a b : Bool)
-          → Leaves layers stored (cond a (cond b (read_into (askedFor reading) bytes layers stored) (set_reply notACall layers stored)) (set_reply notACall layers stored))
-      by_length true true = by_reading (askedFor reading)
+          → Leaves layers stored (cond a (cond b (read_into (asked_for reading) bytes layers stored) (set_reply not_a_call layers stored)) (set_reply not_a_call layers stored))
+      by_length true true = by_reading (asked_for reading)
       by_length true false = untouched refl refl
       by_length false b = untouched refl refl
 
@@ -146,7 +146,7 @@ module _ (layers stored : List ℕ) where
   unfolding remove_set
   remove_leaves index = go (holds_set layers stored) refl
     where
-      go : (b : Bool) → holds_set layers stored ≡ b → Leaves layers stored (cond b (after_change (removed_from (set_in layers) index) layers stored) (set_reply notACall layers stored))
+      go : (b : Bool) → holds_set layers stored ≡ b → Leaves layers stored (cond b (after_change (removed_from (set_in layers) index) layers stored) (set_reply not_a_call layers stored))
       go true e =
           kept_change e (removed_from (set_in layers) index) (remove_keeps (set_in layers) index (there e).is_set)
           (remove_laid (set_in layers) index (there e).is_set (there e).laid_out)
@@ -158,7 +158,7 @@ module _ (layers stored : List ℕ) where
     where
       go : (a : Bool) → holds_set layers stored ≡ a → (b : Bool) → eqb (length entry) 80 ≡ b → (c : Bool) → some_too_wide entry ≡ c
           → Leaves layers stored
-          (cond a (cond b (cond c (set_reply (refused TooWide) layers stored) (after_change (added_to (set_in layers) (entry_in entry)) layers stored)) (set_reply notACall layers stored)) (set_reply notACall layers stored))
+          (cond a (cond b (cond c (set_reply (refused TooWide) layers stored) (after_change (added_to (set_in layers) (entry_in entry)) layers stored)) (set_reply not_a_call layers stored)) (set_reply not_a_call layers stored))
       go true e true f true g = untouched refl refl
       go true e true f false g =
           let long : length entry ≡ 80 = eqb-true (length entry) 80 f in

@@ -17,7 +17,7 @@ use Rattle.recording_imports.specs.declared.RowsRead.TheVariants.{Rows, Refused 
 use Rattle.recording_imports.specs.declared.Imported.{Imported}
 use Rattle.recording_imports.specs.declared.Imported.TheVariants.{Units, Refused, NotRead}
 use Rattle.recording_imports.specs.Imports.{imported_of, imported_by, lists_with}
-use Rattle.packet_answers.specs.Answers.{importedAnswer}
+use Rattle.packet_answers.specs.Answers.{imported_answer}
 use Rattle.import_summaries.specs.Summaries.{with_summary, summary_after, ImportReply, import_reply}
 
 -- what is left of an answer without room for the summary
@@ -67,10 +67,10 @@ module _ (layers : Layers) (t : Table) (before : Lists) (summary : List ℕ) (im
   whole = import_reply layers t (with_summary (length summary) imported) before summary
 
   -- without room: another import of the same rows, in whatever room, has the same refusal, and the lists are not touched
-  pub left_short : (other : Imported) {r : ℕ} → length summary < 2 → barred imported ≡ barred other → r ≡ importedAnswer (barred other) → Left r before summary whole
+  pub left_short : (other : Imported) {r : ℕ} → length summary < 2 → barred imported ≡ barred other → r ≡ imported_answer (barred other) → Left r before summary whole
   left_short other h e a =
       let same : barred other ≡ with_summary (length summary) imported = sym e ∙ sym (short_summary (length summary) imported h) in (
-        a ∙ ap importedAnswer same,
+        a ∙ ap imported_answer same,
         (
           sym (barred_lists layers t other before) ∙ ap (λ (j : Imported). lists_with layers t j before) same,
           sym (barred_summary other summary) ∙ ap (λ (j : Imported). summary_after j summary) same,
@@ -78,10 +78,10 @@ module _ (layers : Layers) (t : Table) (before : Lists) (summary : List ℕ) (im
       )
 
   -- with room: the import itself
-  pub left_whole : (other : Imported) {r : ℕ} {l : Lists} {s : List ℕ} → 2 ≤ length summary → other ≡ imported → r ≡ importedAnswer other
+  pub left_whole : (other : Imported) {r : ℕ} {l : Lists} {s : List ℕ} → 2 ≤ length summary → other ≡ imported → r ≡ imported_answer other
       → l ≡ lists_with layers t other before → s ≡ summary_after other summary → Left r l s whole
   left_whole other h e a p u =
       let same : other ≡ with_summary (length summary) imported = e ∙ sym (whole_summary (length summary) imported h) in (
-        a ∙ ap importedAnswer same,
+        a ∙ ap imported_answer same,
         (p ∙ ap (λ (j : Imported). lists_with layers t j before) same, u ∙ ap (λ (j : Imported). summary_after j summary) same),
       )

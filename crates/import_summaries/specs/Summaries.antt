@@ -9,7 +9,7 @@ use Rattle.unit_lists.specs.Sequence.{Lists}
 use Rattle.recording_imports.specs.declared.Imported.{Imported}
 use Rattle.recording_imports.specs.declared.Imported.TheVariants.{Units, Refused, NotRead}
 use Rattle.recording_imports.specs.Imports.{lists_with}
-use Rattle.packet_answers.specs.Answers.{importedAnswer}
+use Rattle.packet_answers.specs.Answers.{imported_answer}
 
 -- '17 where .. or `summary` fewer than two'
 abbrev pub with_summary : ℕ → Imported → Imported
@@ -31,4 +31,4 @@ pub record ImportReply : Type 0 where
 
 abbrev pub import_reply : Layers → Table → Imported → Lists → List ℕ → ImportReply
 import_reply layers t imported before summary =
-    record { answer = importedAnswer imported; after = lists_with layers t imported before; summary = summary_after imported summary }
+    record { answer = imported_answer imported; after = lists_with layers t imported before; summary = summary_after imported summary }

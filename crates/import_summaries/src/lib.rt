@@ -3,7 +3,7 @@
 #![tactic(auto)]
 
 ghost use Rattle.std.specs.Prelude.{◌≡◌, ◌≤◌, length};
-ghost use Rattle.packet_answers.specs.Answers.{importedAnswer};
+ghost use Rattle.packet_answers.specs.Answers.{imported_answer};
 ghost use Rattle.import_summaries.specs.Summaries.{with_summary, summary_after};
 
 use c_answers::{accepted, refused};
@@ -14,7 +14,7 @@ use vocabulary::Refusal;
 // The answer, and the summary where rows were joined.
 pub fn summarise(imported: Imported, summary: &mut [u64]) -> u64
     requires { 2 ≤ length summary.old }
-    ensures answer { result ≡ importedAnswer imported }
+    ensures answer { result ≡ imported_answer imported }
     ensures content { summary.new ≡ summary_after imported summary.old }
 {
     match imported {
@@ -34,7 +34,7 @@ pub fn summarise(imported: Imported, summary: &mut [u64]) -> u64
 
 // The answer where the summary has no room.
 pub fn without_summary(imported: Imported) -> u64
-    ensures { result ≡ importedAnswer (with_summary 0 imported) }
+    ensures { result ≡ imported_answer (with_summary 0 imported) }
 {
     match imported {
         Imported::Units {

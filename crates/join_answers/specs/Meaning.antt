@@ -34,8 +34,8 @@ pub record Accepted (layers : Layers) (target : ℕ) (t : Table) (before : Lists
   pub in_order : HeadsInOrder layers target t heads
   pub number_of_units : units ≡ length heads
   pub closure_rows : List ℕ
-  pub all_closure_rows : Ascending (ClosureRow layers target t) closure_rows_lem
-  pub number_of_rows : rows ≡ length closure_rows_lem
+  pub all_closure_rows : Ascending (ClosureRow layers target t) closure_rows
+  pub number_of_rows : rows ≡ length closure_rows
   pub enough_room : TooSmall rows (room_of before) → ⊥
   pub numbers : List ℕ
   pub lags : List ℤ

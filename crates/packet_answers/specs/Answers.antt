@@ -10,15 +10,15 @@ use Rattle.recording_imports.specs.declared.Imported.{Imported}
 use Rattle.recording_imports.specs.declared.Imported.TheVariants.{Units, Refused, NotRead}
 
 -- 'place: the packet's number'
-abbrev pub refusedAt : Refusal → ℕ → ℕ
-refusedAt refusal packet = answer_of (number_of refusal) packet
+abbrev pub refused_at : Refusal → ℕ → ℕ
+refused_at refusal packet = answer_of (number_of refusal) packet
 
-abbrev pub rowsAnswer : RowsRead → ℕ
-rowsAnswer (Rows count) = accepted count
-rowsAnswer (NoRows refusal) = refused refusal
-rowsAnswer (HeaderNotRead refusal packet) = refusedAt refusal packet
+abbrev pub rows_answer : RowsRead → ℕ
+rows_answer (Rows count) = accepted count
+rows_answer (NoRows refusal) = refused refusal
+rows_answer (HeaderNotRead refusal packet) = refused_at refusal packet
 
-abbrev pub importedAnswer : Imported → ℕ
-importedAnswer (Units closure units rows) = accepted rows
-importedAnswer (Refused refusal) = refused refusal
-importedAnswer (NotRead refusal packet) = refusedAt refusal packet
+abbrev pub imported_answer : Imported → ℕ
+imported_answer (Units closure units rows) = accepted rows
+imported_answer (Refused refusal) = refused refusal
+imported_answer (NotRead refusal packet) = refused_at refusal packet

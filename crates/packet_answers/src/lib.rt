@@ -4,7 +4,7 @@
 
 ghost use Rattle.std.specs.Prelude.{◌≡◌};
 ghost use Rattle.c_answers.specs.Answers.{answer_of};
-ghost use Rattle.packet_answers.specs.Answers.{refusedAt, rowsAnswer, importedAnswer};
+ghost use Rattle.packet_answers.specs.Answers.{refused_at, rows_answer, imported_answer};
 
 use c_answers::{accepted, refused};
 use recording_imports::{Imported, RowsRead};
@@ -12,14 +12,14 @@ use vocabulary::Refusal;
 
 // A refusal at the packet in which it stands.
 fn refused_at(refusal: Refusal, packet: usize) -> u64
-    ensures { result ≡ refusedAt refusal packet }
+    ensures { result ≡ refused_at refusal packet }
 {
     vocabulary::number(refusal) as u64 + 256 * (packet as u64 % 72057594037927936)
 }
 
 // Counts the rows.
 pub fn rows_answer(rows: RowsRead) -> u64
-    ensures { result ≡ rowsAnswer rows }
+    ensures { result ≡ rows_answer rows }
 {
     match rows {
         RowsRead::Rows(count) => accepted(count),
@@ -30,7 +30,7 @@ pub fn rows_answer(rows: RowsRead) -> u64
 
 // Counts the rows of layers that the target rests on.
 pub fn imported_answer(imported: Imported) -> u64
-    ensures { result ≡ importedAnswer imported }
+    ensures { result ≡ imported_answer imported }
 {
     match imported {
         Imported::Units {

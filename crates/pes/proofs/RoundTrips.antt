@@ -28,7 +28,7 @@ use Rattle.stamps.specs.declared.Times.{Times}
 use Rattle.pes_fields.specs.Tables as Tables
 use Rattle.pes_fields.specs.Tables.{extension_flags, second_extension, tref_extension}
 use Rattle.pes_fields.specs.HeaderData.{with_marker}
-use Rattle.pes_fields.specs.Meaning.{in_order, Optional, with_tref, SecondExtension, PackHeader, PesExtension}
+use Rattle.pes_fields.specs.Meaning.{in_order, Optional, with_tref as tref_added, SecondExtension, PackHeader, PesExtension}
 use Rattle.pes_fields.specs.declared.Extension.{Extension}
 use Rattle.pes_fields.specs.declared.Extension.TheVariants.{WithoutTref, WithTref}
 use Rattle.pes_reader.specs.Reading.{data_of, end_of, judged, marks_of, match_of, sent_of, read_of}
@@ -125,7 +125,7 @@ tref_only {flags} {second} {mark} field a b c five =
     Optional.absent
     Optional.absent
     (SecondExtension.present {first = 0x86} {field = 0xFE ∷ field ++ []} (omega (arith, five, length-append field []))
-    (with_tref {flags = 0xFE} field [] refl five)))
+    (tref_added {flags = 0xFE} field [] refl five)))
   where
     bytes : 0x0F ∷ 0x86 ∷ 0xFE ∷ field ++ [] ≡ in_order (flags ∷ second ∷ mark ∷ []) field
     bytes =

@@ -22,7 +22,7 @@ use Rattle.stamps.specs.declared.Times.{Times}
 use Rattle.pes_fields.specs.Tables as Tables
 use Rattle.pes_writer.specs.Writing.{time_fields, tref_head, tref_fields, data_fields, head_given, pts_dts_flags_of, extension_flag_of, head_of, header_of, too_wide, write_of, buffer_of}
 use Rattle.pes_writer.proofs.WritingLaws.{times_at_most, tref_length_lem, tref_at_most, data_length, flags_below, extension_below, narrow, narrow_only}
-use Rattle.pes_writer.specs.OwnShape.{OwnTimes, alone, both, OwnExtension, with_tref, OwnShape, Narrow, Writes, too_wide_lem, no_room, pts_before_dts_lem}
+use Rattle.pes_writer.specs.OwnShape.{OwnTimes, alone, both, OwnExtension, with_tref as tref_added, OwnShape, Narrow, Writes, too_wide_lem, no_room, pts_before_dts_lem}
 use Rattle.pes_writer.specs.OwnShape as own
 use Rattle.pes_writer.specs.declared.Written as answer
 use Rattle.pes_writer.specs.declared.Written.TheVariants.{Bytes, Refused}
@@ -120,7 +120,7 @@ own_times_only (both {pts_field} {dts_field} {pts} {decoding} v w differ) =
 own_extension_only : {e : ℕ} {extension : List ℕ} {decoding matching : ℕ} {with_tref : Bool} → OwnExtension e extension decoding matching with_tref
     → (e ≡ extension_flag_of with_tref) × (extension ≡ tref_fields with_tref matching)
 own_extension_only (OwnExtension.none {time}) = (refl, refl)
-own_extension_only (with_tref {flags} {second} {mark} {field} {decoding} {matching} a b c d) = (
+own_extension_only (tref_added {flags} {second} {mark} {field} {decoding} {matching} a b c d) = (
   refl,
   ap₂ ◌++◌ (written_by_only (record { whole = refl; fixed_fit = refl }) a)
       (ap₂ ◌++◌ (written_by_only (record { whole = refl; fixed_fit = refl }) b)

@@ -40,8 +40,8 @@ use Rattle.piece_feeding.proofs.Meant.{fed_nothing_yet, fed_last, end_is_whole}
 use Rattle.packet_states.specs.States.{state_bytes, state_numbers, most_packets, is_state, table_in, part_in, kept_in, ends_in, progress_in, no_room_in, counts_of, Standing, standing, standing_fed, may_feed}
 use Rattle.packet_states.proofs.Judged.{stated}
 use Rattle.packet_states.proofs.Fed.{ready, progress_of, ends_of}
-use Rattle.c_answers.specs.Answers.{notACall}
-use Rattle.packet_answers.specs.Answers.{rowsAnswer}
+use Rattle.c_answers.specs.Answers.{not_a_call}
+use Rattle.packet_answers.specs.Answers.{rows_answer}
 use Rattle.thoquenry_pieces.specs.Calls.{StateReply, state_reply, begun, begun_by, start_call, rows_laid, Becomes, FeedCall, room_told, told_of, told_by, told_call}
 use Rattle.thoquenry_pieces.proofs.Starting.{table_long}
 use Rattle.pieces_joined_up.specs.JoinedUp.{Recorded, started, fed_on, AsTheWhole}
@@ -134,7 +134,7 @@ module _ (bytes state counts : List ℕ) (before : Columns) (accepts : (loop_lay
     (f : length counts ≡ state_numbers) where
   answered : start_call bytes state counts ≡ begun (loop_layers bytes).table state
   answered =
-      ap₂ (λ (t u : Bool). cond (t && u) (begun_by (loop_layers bytes).outcome (loop_layers bytes).table state counts) (state_reply notACall state counts))
+      ap₂ (λ (t u : Bool). cond (t && u) (begun_by (loop_layers bytes).outcome (loop_layers bytes).table state counts) (state_reply not_a_call state counts))
       (eq-eqb (length state) state_bytes e) (eq-eqb (length counts) state_numbers f)
       ∙ ap (λ (o : Outcome). begun_by o (loop_layers bytes).table state counts) accepts
 
@@ -345,11 +345,11 @@ module _ (bytes : List ℕ) (before : Columns) (pieces : List (List ℕ)) {state
   rows_call places h =
       ap₂ (λ (o : Outcome) (room : ℕ). rows_for o (answer_of whole_found room)) r.accepts (least places h)
 
-  tells_whole : (places : ℕ) → room_in before ≤ places → told_call state counts ≡ rowsAnswer (rows_under bytes (joined_up pieces) places before)
+  tells_whole : (places : ℕ) → room_in before ≤ places → told_call state counts ≡ rows_answer (rows_under bytes (joined_up pieces) places before)
   tells_whole places h =
-      ap (λ (t : Bool). cond t (rowsAnswer (rows_told (told_by counts))) notACall) r.is_one
-      ∙ ap (λ (x : Recording). rowsAnswer (rows_told x)) told_whole
-      ∙ ap rowsAnswer (sym (rows_call places h))
+      ap (λ (t : Bool). cond t (rows_answer (rows_told (told_by counts))) not_a_call) r.is_one
+      ∙ ap (λ (x : Recording). rows_answer (rows_told x)) told_whole
+      ∙ ap rows_answer (sym (rows_call places h))
 
   pub holds_whole : after ≡ stored_from 0 (with_room (room_in before) 0 (rows_of bytes (joined_up pieces))) before
   holds_whole = r.laid ∙ ap (λ (rows : List Row). stored_from 0 (with_room (room_in before) 0 rows) before) (however_cut (pid_table bytes) pieces).gives

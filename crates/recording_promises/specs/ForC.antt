@@ -18,7 +18,7 @@ use Rattle.recording_imports.specs.declared.Imported.{Imported}
 use Rattle.recording_imports.specs.declared.Imported.TheVariants as Imported
 use Rattle.recording_imports.specs.Rows.{rows_of, rows_under, columns_under}
 use Rattle.recording_imports.specs.Imports.{layers_of_loop, table_of, import_of, import_lists}
-use Rattle.packet_answers.specs.Answers.{rowsAnswer}
+use Rattle.packet_answers.specs.Answers.{rows_answer}
 use Rattle.import_summaries.specs.Summaries.{ImportReply, with_summary, import_reply}
 use Rattle.recording_meaning.specs.Meaning.{Answers}
 use Rattle.recording_meaning.specs.Rows.{ReadsRows}
@@ -71,7 +71,7 @@ reads : (number value : ℕ) → number < 256 → Reads number value (answer_of 
 reads number value h = record { number_read = omega arith; value_read = λ small. omega arith }
 
 pub rows_told_lem : (bytes packets : List ℕ) (places : ℕ) (before : Columns)
-    → TellsRows bytes packets (min places (room_in before)) before (rowsAnswer (rows_under bytes packets places before))
+    → TellsRows bytes packets (min places (room_in before)) before (rows_answer (rows_under bytes packets places before))
     (columns_under bytes packets (rows_under bytes packets places before) before)
 rows_told_lem bytes packets places before =
     record {
@@ -80,7 +80,7 @@ rows_told_lem bytes packets places before =
       told = tells (rows_under bytes packets places before);
     }
   where
-    tells : (r : RowsRead) → RowsTold r (rowsAnswer r)
+    tells : (r : RowsRead) → RowsTold r (rows_answer r)
     tells (RowsRead.Rows count) = reads 0 count (omega arith)
     tells (RowsRead.Refused refusal) = reads (number_of refusal) (place_of refusal) (number_small refusal)
     tells (RowsRead.NotRead refusal packet) = reads (number_of refusal) packet (number_small refusal)

@@ -20,7 +20,7 @@ use Rattle.recording_imports.specs.declared.Imported.TheVariants.{Units, Refused
 use Rattle.recording_imports.specs.declared.LoopAsked.{LoopAsked}
 use Rattle.recording_imports.specs.Rows.{pid_table_of, rows_for, rows_of, columns_with}
 use Rattle.recording_imports.specs.Imports.{layers_of_loop, asked_of, table_of, import_of, places_for, import_columns, lists_with, count_of, first_rows, rows_held, join_held}
-use Rattle.packet_answers.specs.Answers.{importedAnswer}
+use Rattle.packet_answers.specs.Answers.{imported_answer}
 use Rattle.long_imports.proofs.Whole.{table_in, imported_at}
 use Rattle.import_summaries.specs.Summaries.{with_summary, summary_after}
 use Rattle.import_summaries.proofs.Summed.{Left}
@@ -65,7 +65,7 @@ module _ (bytes : List ℕ) (target : ℕ) (packets : List ℕ) (most : ℕ) (be
       let whole = imported_at bytes target packets most before (room_of old) old lent held loop table read laid refl refl in
       let same : answer ≡ right = whole.0 in
       let same_lists : lists_with layers front answer old ≡ lists_with (layers_of_loop bytes) all answer old = whole.1.1 in (
-        left.0 ∙ ap (λ (x : Imported). importedAnswer (with_summary (length summary) x)) same,
+        left.0 ∙ ap (λ (x : Imported). imported_answer (with_summary (length summary) x)) same,
         (
           whole.1.0,
           (

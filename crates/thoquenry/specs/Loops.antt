@@ -18,7 +18,7 @@ use Rattle.buffers.specs.Buffers.{over}
 use Rattle.entry_rows.specs.Rows.{rows_of, some_too_wide, row_count, entries_in}
 use Rattle.c_answers.specs.declared.Asked.{Asked}
 use Rattle.c_answers.specs.declared.Asked.TheVariants.{Known, Neither}
-use Rattle.c_answers.specs.Answers.{accepted, refused, notACall, askedFor, Reply, reply, unchanged}
+use Rattle.c_answers.specs.Answers.{accepted, refused, not_a_call, asked_for, Reply, reply, unchanged}
 
 -- ---- thq_read_loop
 
@@ -37,10 +37,10 @@ rows_read read buffer = loop_laid read.outcome read.count (entries_read read) bu
 
 abbrev pub rows_asked : Asked → List ℕ → List ℕ → Reply
 rows_asked (Known reading) bytes buffer = rows_read (loop_read reading bytes) buffer
-rows_asked Neither bytes buffer = reply notACall buffer
+rows_asked Neither bytes buffer = reply not_a_call buffer
 
 abbrev pub read_loop : ℕ → List ℕ → List ℕ → Reply
-read_loop reading bytes buffer = rows_asked (askedFor reading) bytes buffer
+read_loop reading bytes buffer = rows_asked (asked_for reading) bytes buffer
 
 -- ---- thq_write_loop
 
@@ -66,7 +66,7 @@ closure_laid (NoClosure refusal) set = unchanged refusal set
 
 abbrev pub closure_asked : Asked → List ℕ → ℕ → List ℕ → Reply
 closure_asked (Known reading) bytes target set = closure_laid (loop_closure reading bytes target) set
-closure_asked Neither bytes target set = reply notACall set
+closure_asked Neither bytes target set = reply not_a_call set
 
 abbrev pub closure_call : ℕ → List ℕ → ℕ → List ℕ → Reply
-closure_call reading bytes target set = closure_asked (askedFor reading) bytes target set
+closure_call reading bytes target set = closure_asked (asked_for reading) bytes target set

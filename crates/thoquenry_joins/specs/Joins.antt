@@ -15,7 +15,7 @@ use Rattle.join_answers.specs.Joining.{room_of, joined_of, lists_after}
 use Rattle.importing.specs.Importing.{layers_read, import_of}
 use Rattle.c_answers.specs.declared.Asked.{Asked}
 use Rattle.c_answers.specs.declared.Asked.TheVariants.{Known, Neither}
-use Rattle.c_answers.specs.Answers.{accepted, refused, notACall, askedFor}
+use Rattle.c_answers.specs.Answers.{accepted, refused, not_a_call, asked_for}
 
 -- 'bit i of `present` is 1 when there is a layer of index i, and number i of `embedded` is the set of the indices that this layer names (a number that
 -- is not there is the empty set)'
@@ -64,7 +64,7 @@ join_long_call most present embedded target t before summary = join_over most (l
 abbrev pub import_asked : Asked → List ℕ → ℕ → Table → Lists → List ℕ → JoinReply
 import_asked (Known reading) bytes target t before summary =
     join_reply (layers_read (loop_read reading bytes)) t (with_summary (length summary) (import_of reading bytes target t (room_of before))) before summary
-import_asked Neither bytes target t before summary = record { answer = notACall; after = before; summary = summary }
+import_asked Neither bytes target t before summary = record { answer = not_a_call; after = before; summary = summary }
 
 abbrev pub import_call : ℕ → List ℕ → ℕ → Table → Lists → List ℕ → JoinReply
-import_call reading bytes target t before summary = import_asked (askedFor reading) bytes target t before summary
+import_call reading bytes target t before summary = import_asked (asked_for reading) bytes target t before summary

@@ -19,7 +19,7 @@ use Rattle.packet_states.specs.States.{most_packets, is_state, table_in, part_in
 use Rattle.packet_states.specs.Meaning.{Stated}
 use Rattle.packet_states.proofs.Judged.{stated}
 use Rattle.packet_states.proofs.Fed.{ready, state_left, left_state, left_standing}
-use Rattle.c_answers.specs.Answers.{accepted, notACall}
+use Rattle.c_answers.specs.Answers.{accepted, not_a_call}
 use Rattle.thoquenry_pieces.specs.Calls.{feed_answer, rows_laid, feed_columns, Becomes, FeedCall}
 
 -- behind a part that goes to the end there is nothing
@@ -29,10 +29,10 @@ nothing_behind ys xs at =
     ap (λ (l : List ℕ). ys ++ l) (drop_of_length-le (drop at xs) {i = length xs - at} all) ∙ append-nil ys
 
 module _ (piece state counts : List ℕ) (old : Columns) where
-  pub not_fed : may_feed (length piece) state counts ≡ false → {answer : ℕ} → answer ≡ notACall → FeedCall piece state counts old answer state counts old
+  pub not_fed : may_feed (length piece) state counts ≡ false → {answer : ℕ} → answer ≡ not_a_call → FeedCall piece state counts old answer state counts old
   not_fed e a =
       record {
-        answers = a ∙ sym (ap (λ (t : Bool). cond t (accepted (fed_on piece (standing state counts)).found.rows) notACall) e);
+        answers = a ∙ sym (ap (λ (t : Bool). cond t (accepted (fed_on piece (standing state counts)).found.rows) not_a_call) e);
         lays = sym (ap (λ (t : Bool). cond t (rows_laid piece (standing state counts) old) old) e);
         becomes = subst (λ (t : Bool). Becomes t (room_in old) piece state counts state counts) (sym e) (refl, refl);
       }
@@ -82,7 +82,7 @@ module _ (piece state counts : List ℕ) (old : Columns) where
             → FeedCall piece state counts old answer new_state new_counts new
         fed_call {answer} {flag} {new_state} {new_counts} a s f c =
             record {
-              answers = a ∙ ap (λ (k : Known). accepted k.found.rows) here.goes_on ∙ sym (ap (λ (t : Bool). cond t (accepted (fed_on piece (standing state counts)).found.rows) notACall) may);
+              answers = a ∙ ap (λ (k : Known). accepted k.found.rows) here.goes_on ∙ sym (ap (λ (t : Bool). cond t (accepted (fed_on piece (standing state counts)).found.rows) not_a_call) may);
               lays = here.stored ∙ sym (ap (λ (t : Bool). cond t (rows_laid piece (standing state counts) old) old) may);
               becomes =
                   subst (λ (t : Bool). Becomes t (room_in old) piece state counts new_state new_counts) (sym may) (

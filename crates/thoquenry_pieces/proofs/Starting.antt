@@ -23,7 +23,7 @@ use Rattle.recording_imports.specs.Rows.{loop_layers, pid_table_of}
 use Rattle.feeding.specs.declared.Progress.{Progress}
 use Rattle.piece_feeding.specs.Told.{starts_with, no_ends}
 use Rattle.packet_states.specs.States.{state_bytes, state_numbers, counts_of}
-use Rattle.c_answers.specs.Answers.{accepted, refused, notACall}
+use Rattle.c_answers.specs.Answers.{accepted, refused, not_a_call}
 use Rattle.thoquenry_pieces.specs.Calls.{StateReply, state_reply, begun, begun_by, start_call}
 
 -- the table of a loop has a byte for each PID
@@ -42,15 +42,15 @@ begun_with table state long b s p c a =
 
 module _ (bytes state counts : List ℕ) where
   abbrev answered : Bool → StateReply
-  answered t = cond t (begun_by (loop_layers bytes).outcome (loop_layers bytes).table state counts) (state_reply notACall state counts)
+  answered t = cond t (begun_by (loop_layers bytes).outcome (loop_layers bytes).table state counts) (state_reply not_a_call state counts)
 
-  abbrev no_call : {answer : ℕ} → answer ≡ notACall → state_reply answer state counts ≡ state_reply notACall state counts
+  abbrev no_call : {answer : ℕ} → answer ≡ not_a_call → state_reply answer state counts ≡ state_reply not_a_call state counts
   no_call a = ap (λ (n : ℕ). state_reply n state counts) a
 
-  pub state_wrong : (length state ≡ state_bytes → ⊥) → {answer : ℕ} → answer ≡ notACall → state_reply answer state counts ≡ start_call bytes state counts
+  pub state_wrong : (length state ≡ state_bytes → ⊥) → {answer : ℕ} → answer ≡ not_a_call → state_reply answer state counts ≡ start_call bytes state counts
   state_wrong f a = no_call a ∙ sym (ap (λ (t : Bool). answered (t && eqb (length counts) state_numbers)) (ne_eqb (length state) state_bytes f))
 
-  pub counts_wrong : length state ≡ state_bytes → (length counts ≡ state_numbers → ⊥) → {answer : ℕ} → answer ≡ notACall
+  pub counts_wrong : length state ≡ state_bytes → (length counts ≡ state_numbers → ⊥) → {answer : ℕ} → answer ≡ not_a_call
       → state_reply answer state counts ≡ start_call bytes state counts
   counts_wrong e f a =
       no_call a ∙ sym (ap₂ (λ (t u : Bool). answered (t && u)) (eq-eqb (length state) state_bytes e) (ne_eqb (length counts) state_numbers f))

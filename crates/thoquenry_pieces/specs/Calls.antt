@@ -16,8 +16,8 @@ use Rattle.passing.specs.Passing.{stored_from, with_room}
 use Rattle.fed_packets.specs.Feeding.{rows_fed}
 use Rattle.piece_feeding.specs.Told.{starts_with, no_ends, found_at_end}
 use Rattle.packet_states.specs.States.{state_bytes, state_numbers, is_state, progress_in, no_room_in, counts_of, Standing, standing, fed_on, standing_fed, may_feed}
-use Rattle.c_answers.specs.Answers.{accepted, refused, notACall}
-use Rattle.packet_answers.specs.Answers.{rowsAnswer}
+use Rattle.c_answers.specs.Answers.{accepted, refused, not_a_call}
+use Rattle.packet_answers.specs.Answers.{rows_answer}
 
 -- What a call leaves of a state: its answer, and the final content of the two lists.
 pub record StateReply : Type 0 where
@@ -39,11 +39,11 @@ begun_by (Refused refusal) table state counts = state_reply (refused refusal) st
 abbrev pub start_call : List ℕ → List ℕ → List ℕ → StateReply
 start_call bytes state counts =
     cond (eqb (length state) state_bytes && eqb (length counts) state_numbers) (begun_by (loop_layers bytes).outcome (loop_layers bytes).table state counts)
-    (state_reply notACall state counts)
+    (state_reply not_a_call state counts)
 
 -- ONE PIECE MORE. 'Counts the rows so far, those that found no room too.'
 abbrev pub feed_answer : List ℕ → List ℕ → List ℕ → ℕ
-feed_answer piece state counts = cond (may_feed (length piece) state counts) (accepted (fed_on piece (standing state counts)).found.rows) notACall
+feed_answer piece state counts = cond (may_feed (length piece) state counts) (accepted (fed_on piece (standing state counts)).found.rows) not_a_call
 
 -- 'Rows are laid behind those before, as far as the shortest column has room.'
 abbrev pub rows_laid : List ℕ → Standing → Columns → Columns
@@ -74,4 +74,4 @@ abbrev pub told_by : List ℕ → Recording
 told_by counts = told_of (found_at_end (progress_in counts)) (no_room_in counts)
 
 abbrev pub told_call : List ℕ → List ℕ → ℕ
-told_call state counts = cond (is_state state counts) (rowsAnswer (rows_told (told_by counts))) notACall
+told_call state counts = cond (is_state state counts) (rows_answer (rows_told (told_by counts))) not_a_call

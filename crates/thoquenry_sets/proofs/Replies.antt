@@ -23,7 +23,7 @@ use Rattle.layer_set.specs.declared.changing.Changed.{Changed}
 use Rattle.layer_set.specs.Sets.{stored_in, added_to, removed_from, closure_in}
 use Rattle.layer_set_rows.specs.Buffers.{set_in, rows_right, rows_hold, stored_holds, holds_set}
 use Rattle.c_answers.specs.declared.Asked.{Asked}
-use Rattle.c_answers.specs.Answers.{refused, notACall, askedFor, Reply, reply, unchanged}
+use Rattle.c_answers.specs.Answers.{refused, not_a_call, asked_for, Reply, reply, unchanged}
 use Rattle.thoquenry_sets.specs.Calls.{SetReply, set_reply, changed_laid, after_change, read_into, read_set, add_set, remove_set, closure_laid, closure_set}
 
 -- ---- rows that hold
@@ -74,12 +74,12 @@ module _ (entry : List ℕ) (long : length entry ≡ 80) where
 -- ---- the cases of each function
 
 module _ (layers stored entry : List ℕ) where
-  pub add_no_set : holds_set layers stored ≡ false → set_reply notACall layers stored ≡ add_set layers stored entry
+  pub add_no_set : holds_set layers stored ≡ false → set_reply not_a_call layers stored ≡ add_set layers stored entry
   unfolding add_set
   add_no_set e = sym (rw e)
 
   module _ (held : holds_set layers stored ≡ true) where
-    pub add_no_entry : (length entry ≡ 80 → ⊥) → set_reply notACall layers stored ≡ add_set layers stored entry
+    pub add_no_entry : (length entry ≡ 80 → ⊥) → set_reply not_a_call layers stored ≡ add_set layers stored entry
     unfolding add_set
     add_no_entry d = sym (rw (held, ne_eqb (length entry) 80 d))
 
@@ -96,7 +96,7 @@ module _ (layers stored entry : List ℕ) where
           ∙ sym (rw (held, eq-eqb (length entry) 80 long, w))
 
 module _ (layers stored : List ℕ) (index : ℕ) where
-  pub remove_no_set : holds_set layers stored ≡ false → set_reply notACall layers stored ≡ remove_set layers stored index
+  pub remove_no_set : holds_set layers stored ≡ false → set_reply not_a_call layers stored ≡ remove_set layers stored index
   unfolding remove_set
   remove_no_set e = sym (rw e)
 
@@ -107,7 +107,7 @@ module _ (layers stored : List ℕ) (index : ℕ) where
       ap (λ (x : Changed). after_change x layers stored) (is-changed ∙ ap (λ (x : LayerSet). removed_from x index) is_set) ∙ sym (rw held)
 
 module _ (layers stored : List ℕ) (target : ℕ) (closure : List ℕ) where
-  pub closure_no_set : holds_set layers stored ≡ false → reply notACall closure ≡ closure_set layers stored target closure
+  pub closure_no_set : holds_set layers stored ≡ false → reply not_a_call closure ≡ closure_set layers stored target closure
   unfolding closure_set
   closure_no_set e = sym (rw e)
 
@@ -118,16 +118,16 @@ module _ (layers stored : List ℕ) (target : ℕ) (closure : List ℕ) where
       ap (λ (x : Closure). closure_laid x closure) (is_found ∙ ap (λ (x : LayerSet). closure_in x target) is_set) ∙ sym (rw held)
 
 module _ (reading : ℕ) (bytes layers stored : List ℕ) where
-  pub read_no_layers : (length layers ≡ 5120 → ⊥) → set_reply notACall layers stored ≡ read_set reading bytes layers stored
+  pub read_no_layers : (length layers ≡ 5120 → ⊥) → set_reply not_a_call layers stored ≡ read_set reading bytes layers stored
   unfolding read_set
   read_no_layers d = sym (rw (ne_eqb (length layers) 5120 d))
 
   module _ (long : length layers ≡ 5120) where
-    pub read_no_stored : (length stored ≡ 192 → ⊥) → set_reply notACall layers stored ≡ read_set reading bytes layers stored
+    pub read_no_stored : (length stored ≡ 192 → ⊥) → set_reply not_a_call layers stored ≡ read_set reading bytes layers stored
     unfolding read_set
     read_no_stored d = sym (rw (eq-eqb (length layers) 5120 long, ne_eqb (length stored) 192 d))
 
-    pub read_asked : length stored ≡ 192 → (asked : Asked) → asked ≡ askedFor reading → read_into asked bytes layers stored ≡ read_set reading bytes layers stored
+    pub read_asked : length stored ≡ 192 → (asked : Asked) → asked ≡ asked_for reading → read_into asked bytes layers stored ≡ read_set reading bytes layers stored
     unfolding read_set
     read_asked size asked is_asked =
         ap (λ (a : Asked). read_into a bytes layers stored) is_asked ∙ sym (rw (eq-eqb (length layers) 5120 long, eq-eqb (length stored) 192 size))

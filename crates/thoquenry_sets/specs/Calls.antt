@@ -16,7 +16,7 @@ use Rattle.layer_set.specs.Sets.{stored_in, loop_set, added_to, removed_from, cl
 use Rattle.layer_set_rows.specs.Buffers.{stored_numbers, set_in, holds_set}
 use Rattle.c_answers.specs.declared.Asked.{Asked}
 use Rattle.c_answers.specs.declared.Asked.TheVariants.{Known, Neither}
-use Rattle.c_answers.specs.Answers.{accepted, refused, notACall, askedFor, Reply, reply, unchanged}
+use Rattle.c_answers.specs.Answers.{accepted, refused, not_a_call, asked_for, Reply, reply, unchanged}
 
 -- What a call leaves: its answer, and the final content of the two buffers of the set.
 pub record SetReply : Type 0 where
@@ -43,12 +43,12 @@ after_change c layers stored = changed_laid c.outcome c.«set» layers stored
 
 abbrev pub read_into : Asked → List ℕ → List ℕ → List ℕ → SetReply
 read_into (Known reading) bytes layers stored = changed_laid (loop_set reading bytes).outcome (loop_set reading bytes).«set» layers stored
-read_into Neither bytes layers stored = set_reply notACall layers stored
+read_into Neither bytes layers stored = set_reply not_a_call layers stored
 
 unfoldable pub read_set : ℕ → List ℕ → List ℕ → List ℕ → SetReply
 read_set reading bytes layers stored =
-    cond (eqb (length layers) 5120) (cond (eqb (length stored) 192) (read_into (askedFor reading) bytes layers stored) (set_reply notACall layers stored))
-    (set_reply notACall layers stored)
+    cond (eqb (length layers) 5120) (cond (eqb (length stored) 192) (read_into (asked_for reading) bytes layers stored) (set_reply not_a_call layers stored))
+    (set_reply not_a_call layers stored)
 
 -- ---- thq_set_add: 'THQ_NOT_A_CALL where the buffers hold no set, and where `entry_length` is not 80; then 25; then 3 ..; then 6 to 9'
 
@@ -57,14 +57,14 @@ add_set layers stored entry =
     cond (holds_set layers stored)
     (cond (eqb (length entry) 80)
     (cond (some_too_wide entry) (set_reply (refused TooWide) layers stored) (after_change (added_to (set_in layers) (entry_in entry)) layers stored))
-    (set_reply notACall layers stored))
-    (set_reply notACall layers stored)
+    (set_reply not_a_call layers stored))
+    (set_reply not_a_call layers stored)
 
 -- ---- thq_set_remove: 'THQ_NOT_A_CALL where the buffers hold no set; then 11'
 
 unfoldable pub remove_set : List ℕ → List ℕ → ℕ → SetReply
 remove_set layers stored index =
-    cond (holds_set layers stored) (after_change (removed_from (set_in layers) index) layers stored) (set_reply notACall layers stored)
+    cond (holds_set layers stored) (after_change (removed_from (set_in layers) index) layers stored) (set_reply not_a_call layers stored)
 
 -- ---- thq_set_closure: 'THQ_NOT_A_CALL where the buffers hold no set; then 11, 12; then 17 where `closure_length` is 0'
 
@@ -75,4 +75,4 @@ closure_laid (NoClosure refusal) closure = unchanged refusal closure
 
 unfoldable pub closure_set : List ℕ → List ℕ → ℕ → List ℕ → Reply
 closure_set layers stored target closure =
-    cond (holds_set layers stored) (closure_laid (closure_in (set_in layers) target) closure) (reply notACall closure)
+    cond (holds_set layers stored) (closure_laid (closure_in (set_in layers) target) closure) (reply not_a_call closure)

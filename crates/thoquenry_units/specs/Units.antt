@@ -8,7 +8,7 @@ use Rattle.recordings.specs.declared.Recording.{Recording}
 use Rattle.recording_imports.specs.Imports.{layers_of_loop, first_rows, count_of, rows_to_join, import_told}
 use Rattle.import_summaries.specs.Summaries.{with_summary, ImportReply, import_reply}
 use Rattle.packet_states.specs.States.{is_state}
-use Rattle.c_answers.specs.Answers.{notACall}
+use Rattle.c_answers.specs.Answers.{not_a_call}
 use Rattle.thoquenry_pieces.specs.Calls.{told_by}
 
 -- of a recording with its answer, whose rows lie in the columns: 'the loop's numbers; 11, 12; what thq_packets_told answers; 13 also where the columns are shorter than
@@ -20,4 +20,4 @@ units_told most bytes target recording t before summary =
 
 abbrev pub units_call : ℕ → List ℕ → ℕ → List ℕ → List ℕ → Table → Lists → List ℕ → ImportReply
 units_call most bytes target state counts t before summary =
-    cond (is_state state counts) (units_told most bytes target (told_by counts) t before summary) (record { answer = notACall; after = before; summary = summary })
+    cond (is_state state counts) (units_told most bytes target (told_by counts) t before summary) (record { answer = not_a_call; after = before; summary = summary })

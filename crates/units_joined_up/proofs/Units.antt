@@ -33,7 +33,7 @@ use Rattle.recording_imports.specs.Rows.{pid_table, rows_of, rows_told, rows_for
 use Rattle.recording_imports.specs.Imports.{layers_of_loop, outcome_asked, imported_by, imported_of, table_of, import_rows, import_of, places_for, columns_hold, held_rows, count_of, first_rows, rows_to_join, import_told}
 use Rattle.long_imports.proofs.Whole.{most_alike, Sound, rows_sound}
 use Rattle.import_summaries.specs.Summaries.{with_summary, ImportReply, import_reply}
-use Rattle.c_answers.specs.Answers.{notACall}
+use Rattle.c_answers.specs.Answers.{not_a_call}
 use Rattle.fed_packets.specs.Feeding.{joined_up}
 use Rattle.packet_states.specs.States.{most_packets}
 use Rattle.passing.specs.Passing.{stored_from, with_room}
@@ -174,7 +174,7 @@ module _ (bytes : List ℕ) (before : Columns) (pieces : List (List ℕ)) {state
 
   whole_reply_lem : units_call most bytes target state counts t old summary ≡ whole_reply most bytes target packets before old summary
   whole_reply_lem =
-      ap (λ (b : Bool). cond b (units_told most bytes target (told_by counts) t old summary) (record { answer = notACall; after = old; summary = summary })) r.is_one ∙ told_reply
+      ap (λ (b : Bool). cond b (units_told most bytes target (told_by counts) t old summary) (record { answer = not_a_call; after = old; summary = summary })) r.is_one ∙ told_reply
 
 -- HOWEVER A RECORDING IS CUT, THE UNITS ARE THOSE OF THE WHOLE.
 pub units_joined_up : (bytes : List ℕ) (before : Columns) {pieces : List (List ℕ)} {state counts : List ℕ} {after : Columns} → Recorded bytes before pieces state counts after

@@ -26,7 +26,7 @@ fn loop_a() {
     list[0] = base(0x1B, 0x100);
     list[1] = enhancement(0x1F, 0x101, 1, 1, 0, 1);
     list[2] = extension(0x28, 0x102, 2, 2, 0, 1, true, 2, above(0));
-    write(b"loop_a_lem", 3, list);
+    write(b"loop-a", 3, list);
 }
 
 // A base view and two MVC views.

@@ -5,7 +5,7 @@ use mathlib.Core.Path.{sym, ◌∙◌, ap}
 use mathlib.Core.List.{[], ◌∷◌}
 use Rattle.buffers.proofs.Laws.{sets_over}
 use Rattle.recording_imports.specs.declared.Imported.{Imported}
-use Rattle.packet_answers.specs.Answers.{importedAnswer}
+use Rattle.packet_answers.specs.Answers.{imported_answer}
 use Rattle.import_summaries.specs.Summaries.{summary_after}
 use Rattle.import_summaries.proofs.summarise.Statement.{statement}
 use Rattle.import_summaries.proofs.summarise.Tie as tie
@@ -41,7 +41,7 @@ returns : tie.Need-returns
 returns c =
     let a = c.before.before.before.before.before.args in
     let told = c.before.before.imported.given in (
-      c.accepted.ensures ∙ sym (ap importedAnswer told.1),
+      c.accepted.ensures ∙ sym (ap imported_answer told.1),
       sets_over (told.0.0 ∷ told.0.1.0 ∷ []) a.summary.now c.before.before.before.before.before.requires ∙ sym (ap (λ (j : Imported). summary_after j a.summary.now) told.1),
     )
 

@@ -1,6 +1,6 @@
 -- `packet_answers::rows_answer` meets its contract: each case has its answer. Assumes nothing.
 use mathlib.Core.Path.{sym, ap, ◌∙◌}
-use Rattle.packet_answers.specs.Answers.{rowsAnswer}
+use Rattle.packet_answers.specs.Answers.{rows_answer}
 use borrow.Author.Rules.{rules}
 use Rattle.packet_answers.proofs.rows_answer.Statement.{statement}
 use Rattle.packet_answers.proofs.rows_answer.Tie as tie
@@ -24,13 +24,13 @@ refused-at-requires : tie.Need-refused-at-requires
 refused-at-requires c κs = search rules
 
 returns : tie.Need-returns
-returns c = c.accepted.ensures ∙ sym (ap rowsAnswer c.before.before.rows.given.1)
+returns c = c.accepted.ensures ∙ sym (ap rows_answer c.before.before.rows.given.1)
 
 returns-2 : tie.Need-returns-2
-returns-2 c = c.refused.ensures ∙ sym (ap rowsAnswer c.before.before.rows2.given.1)
+returns-2 c = c.refused.ensures ∙ sym (ap rows_answer c.before.before.rows2.given.1)
 
 returns-3 : tie.Need-returns-3
-returns-3 c = c.refused-at.ensures ∙ sym (ap rowsAnswer c.before.before.rows3.given.1)
+returns-3 c = c.refused-at.ensures ∙ sym (ap rows_answer c.before.before.rows3.given.1)
 
 pub rows-answer-spec : {M : Type 1} → statement M
 rows-answer-spec =
