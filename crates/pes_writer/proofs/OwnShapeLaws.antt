@@ -68,7 +68,7 @@ times_own pts decoding pts_below decoding_below false e =
 extension_own : (times : Times) (with_tref : Bool) → Narrow times with_tref
     → OwnExtension (extension_flag_of with_tref) (tref_fields with_tref times.matching) times.decoding times.matching with_tref
 extension_own times true n =
-    with_tref
+    tref_added
     (written_by_meant (record { whole = refl; fixed_fit = refl }) refl (at_value (lit< tt) (at_value (lit< tt) (at_value (lit< tt) (at_value (lit< tt) (at_reserved (at_value (lit< tt) none)))))))
     (written_by_meant (record { whole = refl; fixed_fit = refl }) refl (at_fixed (at_value (lit< tt) none)))
     (written_by_meant (record { whole = refl; fixed_fit = refl }) refl (at_value (lit< tt) (at_reserved (at_value (lit< tt) none))))
