@@ -1,9 +1,8 @@
 -- THE ANSWER OF A CALL as one number of 64 bits, as include/thoquenry.h says: THQ_NUMBER(answer), the remainder by 256, is 0 where the call is accepted, or else the
 -- number of the refusal; THQ_VALUE(answer), the quotient, is the place of the refusal, or what the function counts.
 -- Assumes nothing.
-use Rattle.std.specs.Prelude.{ℕ, ◌+◌, ◌*◌, ◌%◌, ◌^◌, cond, List, ◌++◌, eqb, length, drop}
+use Rattle.std.specs.Prelude.{ℕ, ◌+◌, ◌*◌, ◌%◌, ◌^◌, cond, List, eqb}
 use Rattle.vocabulary.specs.declared.refusal.Refusal.{Refusal}
-use Rattle.vocabulary.specs.declared.stream_types.Reading.{Reading}
 use Rattle.vocabulary.specs.declared.stream_types.Reading.TheVariants.{Edition2009, Edition2015}
 use Rattle.vocabulary.specs.Refusals.{number_of, place_of}
 use Rattle.c_answers.specs.declared.Asked.{Asked}

@@ -1,20 +1,20 @@
 -- An ordinary packet after another on its PID continues: none of the other steps applies, by the bytes that were looked at.
 -- Assumes nothing.
 use Prim.Native.Nat.{ℕ, ◌+◌, ◌*◌, ◌/◌, ◌%◌, ◌<◌}
-use mathlib.Core.Path.{◌≡◌, refl, sym, ap, ap₂, ◌∙◌}
+use mathlib.Core.Path.{◌≡◌, sym, ap, ap₂, ◌∙◌}
 use mathlib.Core.Bool.{Bool, true, false, cond, not, ◌&&◌, ◌||◌}
 use mathlib.Core.List.{List}
 use native.Mathlib.Omega.{arith}
-use borrow.Author.Tests.{ltb-true, eqb-true, eq-eqb, ne_eqb, lt-leb}
+use borrow.Author.Tests.{ltb-true, eqb-true, eq-eqb, ne_eqb}
 use lib.Dec.{eqb, leb, ltb}
 use lib.ListN.{length, get_or}
 use Rattle.combinators.specs.Bools.{both_left, both_right}
 use Rattle.syntax.specs.Table.{AreBytes}
 use Rattle.packets.specs.declared.Packet.{Packet}
-use Rattle.packets.specs.Reading.{packet_bytes, adaptation_of, packet_of}
-use Rattle.packets.specs.Judging.{is_skipped, with_payload, adaptation_outside, starts_clear, header_within, payload_at, header_outside, is_outside, is_scrambled}
+use Rattle.packets.specs.Reading.{packet_bytes, adaptation_of}
+use Rattle.packets.specs.Judging.{is_skipped, with_payload, starts_clear, header_within, payload_at, is_outside, is_scrambled}
 use Rattle.packets.proofs.FieldLaws.{packet_by, packet_of_bytes}
-use Rattle.continuity.specs.Following.{repeats, is_copy, is_gap, alone_of, is_there, step_of, ordinary_fourth, ordinary_after}
+use Rattle.continuity.specs.Following.{repeats, is_copy, is_gap, step_of, ordinary_fourth, ordinary_after}
 use Rattle.continuity.specs.declared.Step.TheVariants.{Continues}
 use Rattle.continuity.proofs.Steps.{alone_by_lem, step_by_lem}
 

@@ -20,7 +20,6 @@ use Rattle.descriptors.specs.declared.looking.Look.{Look}
 use Rattle.descriptors.specs.declared.looking.Look.TheVariants.{Skipped, WrongLength, Hierarchy as LookHierarchy, Extension as LookExtension}
 use Rattle.descriptors.specs.declared.looking.Found.{Found}
 use Rattle.descriptors.specs.declared.looking.Named.{Named}
-use Rattle.descriptors.specs.declared.looking.Seen.{Seen}
 use Rattle.extension.specs.Extension.{no_layer, extension_of, layer_index_of, layers_of, embedded_of}
 use Rattle.records.specs.Records.{is_layer, plain, hierarchy_list, with_indices}
 use Rattle.descriptors.specs.Looking.{Kind, does_not_fit, skipped, wrong_length, hierarchy, extension, Held, held_in, payload_kind, tag63_kind}

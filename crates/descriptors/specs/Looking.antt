@@ -1,7 +1,7 @@
 -- What a reading sees in the descriptor bytes of a stream that it knows. Each descriptor is of one of five kinds; what is seen of all
 -- of them is said of the list of their kinds.
 -- Assumes nothing.
-use Rattle.std.specs.Prelude.{ℕ, suc, ◌+◌, ◌*◌, Bool, true, false, cond, not, ◌&&◌, ◌||◌, List, [], ◌∷◌, map, ◌≡◌, refl, eqb, ltb, length, get_or, take, drop}
+use Rattle.std.specs.Prelude.{ℕ, ◌+◌, Bool, true, false, cond, not, ◌&&◌, List, [], ◌∷◌, map, ◌≡◌, refl, eqb, ltb, length, get_or}
 use Rattle.combinators.specs.Bools.{apart}
 use Rattle.combinators.specs.Lists.{any, gather}
 use Rattle.combinators.specs.Padding.{pad_to}

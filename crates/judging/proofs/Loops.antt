@@ -1,26 +1,24 @@
 -- What the two loops over an extension's list know after each turn.
 -- Assumes nothing.
-use Prim.Native.Nat.{ℕ, suc, ◌+◌, ◌%◌, ◌≤◌, ◌<◌, min}
+use Prim.Native.Nat.{ℕ, ◌+◌, ◌%◌, ◌≤◌, ◌<◌}
 use mathlib.Core.Path.{◌≡◌, refl, sym, ◌∙◌, ap}
 use mathlib.Core.Bool.{Bool, true, false, ◌||◌, or-true, or-false}
-use mathlib.Core.List.{List, [], ◌∷◌, map, map-append}
-use native.Mathlib.Decide.{dec_lt, ℕ_discrete}
+use mathlib.Core.List.{List, map}
+use native.Mathlib.Decide.{ℕ_discrete}
 use native.Mathlib.Numerals.{add-one}
 use native.Mathlib.Omega.{arith}
 use borrow.Author.Tests.{lt-leb, le-leb, eq-eqb, ne_eqb}
 use lib.Dec.{eqb, leb}
 use lib.ListN.{length, get_or, set, take, replicate, length-set, length-replicate, get_or-replicate, length-map, get_or-map}
-use lib.Seq.{take-suc, take_all, length-take-le, get_or-take, get_or-set_same, get_or-set_other}
+use lib.Seq.{take-suc, length-take-le, get_or-take, get_or-set_same, get_or-set_other}
 use Rattle.combinators.specs.Bools.{either_left, either_right}
 use Rattle.combinators.specs.Below.{some, some_at}
 use Rattle.combinators.specs.Members.{member, member_last}
 use Rattle.vocabulary.specs.declared.LayerIndex.{LayerIndex}
 use Rattle.extension.specs.Extension.{no_layer, layer_index_of, layers_of}
 use Rattle.extension.proofs.Bytes.{layer_byte}
-use Rattle.records.specs.Records.{plain, with_indices}
+use Rattle.records.specs.Records.{plain}
 use Rattle.judging.specs.Judging.{wrong_at, wrong_list}
-use Rattle.records.proofs.Naming.{indices_last}
-use Rattle.sets.specs.Sets.{added}
 
 -- THE LIST. The first `count` layers of the array as numbers: how many, and what stands at each place.
 module _ (embedded : List LayerIndex) (count : ℕ) (room : count ≤ length embedded) where

@@ -1,6 +1,6 @@
 -- Refusals 6, 7, 9 and 10: the computed test is true exactly when document 01's row holds.
 -- Assumes nothing.
-use Prim.Native.Nat.{ℕ, zero, suc, ◌≤◌, ◌<◌}
+use Prim.Native.Nat.{ℕ, zero, suc, ◌<◌}
 use mathlib.Core.Path.{◌≡◌, refl, sym, ◌∙◌, ap, ap₂}
 use mathlib.Core.Logic.{◌≢◌, ◌↔◌, ⊎_elim}
 use mathlib.Core.Bool.{Bool, true, false, cond, not, ◌&&◌, ◌||◌}
@@ -11,13 +11,12 @@ use lib.Dec.{eqb, leb, ltb}
 use lib.ListN.{length, get_or, take}
 use lib.Seq.{length-take-le, get_or-take}
 use Rattle.combinators.specs.Bools.{both_ways, neither_left, neither_right, both_left, both_right, either_left, either_right, apart, either_which}
-use Rattle.combinators.specs.Below.{some, some_at, some_which}
+use Rattle.combinators.specs.Below.{some_at, some_which}
 use Rattle.combinators.specs.Members.{member, member_at, member_which}
 use Rattle.vocabulary.specs.StreamTypes.{known, known_but_mvc, stream_types, may_stand_on}
 use Rattle.vocabulary.specs.declared.stream_types.Reading.TheVariants.{Edition2015}
 use Rattle.vocabulary.specs.declared.LayerIndex.{LayerIndex}
 use Rattle.hierarchy.specs.declared.HierarchyRecord.{HierarchyRecord}
-use Rattle.extension.specs.declared.ExtensionRecord.{ExtensionRecord}
 use Rattle.records.specs.declared.Record.{Record}
 use Rattle.records.specs.declared.Record.TheVariants.{NoRecord, Hierarchy, Extension, Implied}
 use Rattle.records.specs.Records.{is_second_view, index_of, plain, named}

@@ -1,10 +1,10 @@
 -- The head of an entry at unknown bytes: the values of its table as the code takes them.
 -- Assumes nothing.
-use Prim.Native.Nat.{ℕ, ◌+◌, ◌*◌, ◌%◌, ◌≤◌, ◌<◌}
+use Prim.Native.Nat.{ℕ, ◌+◌, ◌*◌, ◌%◌}
 use mathlib.Core.Path.{◌≡◌, ap, sym, ◌∙◌}
 use mathlib.Core.List.{List, [], ◌∷◌}
 use native.Mathlib.Omega.{arith}
-use lib.ListN.{length, get_or, take, drop}
+use lib.ListN.{get_or, take, drop}
 use Rattle.framing.specs.Pieces.{whole}
 use Rattle.syntax.specs.Table.{AreBytes, read_table}
 use Rattle.syntax.proofs.Laws.{read_take}

@@ -8,7 +8,6 @@ use Rattle.syntax.specs.Table.{Table, value, reserved}
 use Rattle.syntax.specs.Named.{given_to, read_by}
 use Rattle.vocabulary.specs.declared.stream_types.Reading.{Reading}
 use Rattle.vocabulary.specs.StreamTypes.{known}
-use Rattle.records.specs.declared.Record.{Record}
 use Rattle.records.specs.declared.Record.TheVariants.{NoRecord}
 use Rattle.descriptors.specs.declared.looking.Seen.{Seen}
 use Rattle.extension.specs.Extension.{no_layer}

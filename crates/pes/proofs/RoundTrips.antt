@@ -20,7 +20,7 @@ use Rattle.clock.specs.Clock.{ticks, is_before}
 use Rattle.vocabulary.specs.declared.refusal.Refusal.TheVariants.{NoRoom, PtsBeforeDts, TooWide}
 use Rattle.stamps.specs.Tables as TimeTables
 use Rattle.stamps.specs.Tables.{pts_alone, pts_before_dts, tref}
-use Rattle.stamps.specs.Stamps.{dts_flag, time_of, stamp_of, with_dts, without_dts, stamps_of, parts_of}
+use Rattle.stamps.specs.Stamps.{dts_flag, stamp_of, with_dts, without_dts, stamps_of, parts_of}
 use Rattle.stamps.proofs.StampLaws.{stamp, stamp_before}
 use Rattle.stamps.specs.declared.Stamp.{Stamp}
 use Rattle.stamps.specs.declared.Stamps.{Stamps}

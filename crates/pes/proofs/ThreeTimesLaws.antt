@@ -17,9 +17,8 @@ use Rattle.pes_fields.specs.declared.Extension.{Extension}
 use Rattle.pes_fields.specs.declared.Extension.TheVariants.{DoesNotFit, WithoutTref, WithTref}
 use Rattle.pes_reader.specs.Reading.{is_video_header, data_of, end_of, judged, header_of, said_by, fields_of, video_header_of, read_of}
 use Rattle.pes_reader.specs.declared.Answer.{Answer}
-use Rattle.pes_reader.specs.declared.Answer.TheVariants as Answer
 use Rattle.pes_reader.specs.declared.Header.{Header}
-use Rattle.pes.specs.ThreeTimes.{ThreeTimes, times, refused, judged_times, times_of, times_in_fields, three_times_of, times_in}
+use Rattle.pes.specs.ThreeTimes.{ThreeTimes, refused, judged_times, times_of, three_times_of, times_in}
 
 -- the times of either answer
 either : (t : Bool) (one other : Answer) → times_in (cond t one other) ≡ cond t (times_in one) (times_in other)

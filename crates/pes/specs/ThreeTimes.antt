@@ -15,7 +15,6 @@ use Rattle.pes_fields.specs.declared.Extension.{Extension}
 use Rattle.pes_fields.specs.declared.Extension.TheVariants.{DoesNotFit, WithoutTref, WithTref}
 use Rattle.pes_reader.specs.Reading.{is_video_header, data_of}
 use Rattle.pes_reader.specs.declared.Answer.{Answer}
-use Rattle.pes_reader.specs.declared.Answer.TheVariants as Answer
 
 pub data ThreeTimes : Type 0 where
   times : ℕ → ℕ → ℕ → ThreeTimes

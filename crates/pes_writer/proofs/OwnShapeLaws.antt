@@ -20,7 +20,7 @@ use Rattle.stamps.specs.Tables.{time_bits, pts_alone, pts_before_dts, tref}
 use Rattle.stamps.specs.Stamps.{parts_of, time_field}
 use Rattle.stamps.specs.declared.Times.{Times}
 use Rattle.pes_fields.specs.Tables as Tables
-use Rattle.pes_writer.specs.Writing.{time_fields, tref_head, tref_fields, data_fields, head_given, pts_dts_flags_of, extension_flag_of, head_of, header_of, too_wide, write_of, buffer_of}
+use Rattle.pes_writer.specs.Writing.{time_fields, tref_fields, data_fields, head_given, pts_dts_flags_of, extension_flag_of, head_of, header_of, too_wide, write_of, buffer_of}
 use Rattle.pes_writer.proofs.WritingLaws.{times_at_most, tref_length_lem, tref_at_most, data_length, flags_below, extension_below, narrow, narrow_only}
 use Rattle.pes_writer.specs.OwnShape.{OwnTimes, alone, both, OwnExtension, with_tref as tref_added, OwnShape, Narrow, Writes, too_wide_lem, no_room, pts_before_dts_lem}
 use Rattle.pes_writer.specs.OwnShape as own

@@ -289,7 +289,7 @@ module _ (kept bytes : List ℕ) (slot end : ℕ) (whole : packet_bytes ≤ end)
 
 -- ---- packets passed over
 
-passed_then : {table bytes : List ℕ} {from k next : ℕ} {lasts before after : List (List ℕ)} → PassedOver table bytes from lasts k before → PassedOver table bytes k before next after
+passed_then : {table bytes : List ℕ} {from k : ℕ} {lasts before : List (List ℕ)} {next : ℕ} {after : List (List ℕ)} → PassedOver table bytes from lasts k before → PassedOver table bytes k before next after
     → PassedOver table bytes from lasts next after
 passed_then p none_yet_lem = p
 passed_then p (one_more q nothing later) = one_more (passed_then p q) nothing later

@@ -1,14 +1,8 @@
 -- `pid_layers::layers_by_pid` meets its contract. The invariant: the layers so far stand at their PIDs. The measure is the number of indices left. Assumes nothing.
-use native.Mathlib.Numerals.{add-one}
-use native.Mathlib.Omega.{arith}
-use Prim.Native.Nat.{ℕ, ◌-◌, ◌≤◌}
-use mathlib.Core.Path.{◌≡◌, refl, sym, ap, ◌∙◌}
-use mathlib.Core.Bool.{cond}
-use mathlib.Core.List.{List}
-use lib.ListN.{length, get_or, set, replicate}
-use Rattle.sets.specs.Sets.{has}
+use Prim.Native.Nat.{◌-◌, ◌≤◌}
+use mathlib.Core.Path.{◌≡◌}
+use lib.ListN.{replicate}
 use Rattle.pid_layers.specs.PidLayers.{pids, tabled}
-use Rattle.pid_layers.proofs.Meant.{tabled_long, blank_long}
 use Rattle.pid_layers.proofs.layers_by_pid.Given as goal
 
 abbrev pub invariant-loop-index : goal.invariant-loop-index

@@ -1,17 +1,13 @@
 -- `rows::first_broken` meets its contract. The invariant, what is known of the order after some rows, and each turn are in Order.
 -- The measure is the number of rows left. Assumes nothing.
-use Prim.Native.Nat.{ℕ, ◌≤◌, ◌<◌, ◌-◌}
-use mathlib.Core.List.{[]}
-use mathlib.Core.Logic.{⊎_elim}
-use mathlib.Core.Path.{◌≡◌, sym, ◌∙◌}
+use Prim.Native.Nat.{◌<◌}
+use mathlib.Core.Path.{sym, ◌∙◌}
 use native.Mathlib.Omega.{arith}
-use borrow.Author.Rules.{rules}
-use lib.ListN.{length, get_or}
+use lib.ListN.{get_or}
 use Rattle.sets.proofs.Laws.{has_within}
-use Rattle.rows.specs.Table.{table}
-use Rattle.rows.proofs.Order.{Ordered, ordered_start, ordered_other, broken_no_farther, broken_too_far, ordered_more, ordered_end}
+use Rattle.rows.proofs.Order.{ordered_start, ordered_other, broken_no_farther, broken_too_far, ordered_more, ordered_end}
 use Rattle.rows.proofs.first_broken.Goals as goal
-use Rattle.rows.proofs.first_broken.Goals.{Then-member}
+use Rattle.rows.proofs.first_broken.Goals.{then-member+else-far-least+else-far-ge-HALF, else-member, Then-member}
 
 -- a member of the closure is below 64
 layer_below : (c : Then-member)
@@ -75,11 +71,13 @@ loop-row-preserved c =
     let at = c.loop-row in
     let more = c.loop-row-test.true in
     let small = c.ranges.closure.fits in
-    ⊎_elim
-    (λ w. rw (w.6, w.7) (ordered_more _ _ at.row _ _ at.invariant more (sym c.member.ensures ∙ w.0.taken) _ _
-    w.2.ensures w.3.ensures small w.4.left w.5.left))
-    (λ w. rw (w.1, w.2) (ordered_other _ _ at.row _ _ at.invariant more (sym c.member.ensures ∙ w.0.left)))
-    c.if-member.branch
+    elim c.if-member.branch [
+      then-member+else-far-least+else-far-ge-HALF w ↦
+        rw (w.firsts-is, w.least-is) (ordered_more _ _ at.row _ _ at.invariant more (sym c.member.ensures ∙ w.if-member.true) _ _
+        w.first_time-first.ensures w.distance-far.ensures small w.if-far-least.false w.if-far-ge-HALF.false)
+      | else-member w ↦
+        rw (w.firsts-is, w.least-is) (ordered_other _ _ at.row _ _ at.invariant more (sym c.member.ensures ∙ w.if-member.false))
+    ]
 
 pub returns : goal.returns
 returns c = ordered_end _ _ _ _ _ c.loop-row.invariant c.loop-row-test.false

@@ -2,7 +2,6 @@
 -- Assumes nothing.
 use Prim.Native.Nat.{ℕ, ◌≤◌}
 use mathlib.Core.Path.{sym, ◌∙◌, subst}
-use borrow.Author.Rules.{rules}
 use Rattle.rows.specs.Table.{table, rows_in}
 use Rattle.rows.proofs.Verdicts.{shape_decoded, shape_matched, is_misshapen, is_outside, is_broken, is_in_order}
 use Rattle.rows.proofs.judge.Goals as goal

@@ -3,7 +3,6 @@
 use Prim.Native.Nat.{ℕ}
 use mathlib.Core.List.{List}
 use mathlib.Core.Path.{ap, ◌∙◌, subst}
-use borrow.Author.Rules.{rules}
 use Rattle.buffers.specs.Buffers.{Laid}
 use Rattle.io.specs.Digits.{last_digits}
 use Rattle.text.specs.Text.{decimal}

@@ -2,7 +2,6 @@
 -- come to what is seen of all; and the list of the first record lies within the bytes.
 -- Assumes nothing.
 use Prim.Native.Nat.{ℕ, ◌+◌, ◌-◌, ◌≤◌}
-use borrow.Author.Rules.{rules}
 use borrow.Author.Tests.{not-true, not-false}
 use native.Mathlib.Omega.{arith}
 use mathlib.Core.Path.{◌≡◌, ◌∙◌, ap, sym, subst}
@@ -14,9 +13,8 @@ use Rattle.descriptor_heads.proofs.Heads.{framed_not, framed_fits}
 use Rattle.descriptors.proofs.Walk.{left_length, stop, next}
 use Rattle.descriptor_heads.specs.Head.{descriptor_tag, descriptor_length}
 use Rattle.descriptors.specs.Looking.{Kind, kinds_of, payload_kind, seen_of}
-use Rattle.descriptors.specs.declared.looking.Found.{Found}
 use Rattle.descriptors.specs.declared.looking.Look.{Look}
-use Rattle.descriptors.specs.Finding.{look_of, look_found, Within, seen_by}
+use Rattle.descriptors.specs.Finding.{look_of, look_found, seen_by}
 use Rattle.descriptors.proofs.Steps.{seen_after, steps_see}
 use Rattle.descriptors.proofs.Finding.{Stands, found_seen, found_within, payload_stands}
 use Rattle.descriptors.proofs.looking.find_records.Goals as goal

@@ -7,7 +7,6 @@ use Rattle.descriptors.specs.declared.looking.Look.TheVariants.{Hierarchy as Loo
 use Rattle.descriptors.specs.Looking.{tag63_kind}
 use Rattle.descriptors.specs.Finding.{look_of}
 use Rattle.descriptors.proofs.Cases.{payload_4, payload_63, payload_other, tag4_wrong, tag4_right}
-use borrow.Author.Rules.{rules}
 use Rattle.descriptors.proofs.looking.look_at.Goals as goal
 
 pub returns-then-payload-ne4 : goal.returns-then-payload-ne4

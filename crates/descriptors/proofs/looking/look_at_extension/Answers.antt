@@ -9,7 +9,6 @@ use Rattle.extension.specs.declared.ExtensionRecord.{ExtensionRecord}
 use Rattle.descriptors.specs.declared.looking.Look.TheVariants.{Extension as LookExtension}
 use Rattle.descriptors.specs.Finding.{look_of}
 use Rattle.descriptors.proofs.Cases.{extension_empty, extension_other, extension_wrong, extension_right}
-use borrow.Author.Rules.{rules}
 use Rattle.descriptors.proofs.looking.look_at_extension.Goals as goal
 
 pub returns-then-payload-eq0 : goal.returns-then-payload-eq0

@@ -1,11 +1,8 @@
 -- `descriptors::named_at` meets its contract: the look says what is named.
 -- Assumes nothing.
-use Prim.Native.Nat.{ℕ, ◌-◌, ◌≤◌}
-use borrow.Author.Rules.{rules}
-use mathlib.Core.Path.{◌≡◌, sym, ◌∙◌, ap, subst}
+use Prim.Native.Nat.{ℕ}
+use mathlib.Core.Path.{sym, ◌∙◌, ap, subst}
 use mathlib.Core.List.{List, map}
-use native.Mathlib.Omega.{arith}
-use lib.ListN.{length, take, drop}
 use Rattle.combinators.specs.Lists.{part_to_end}
 use Rattle.records.specs.declared.Record.TheVariants.{Hierarchy, Extension}
 use Rattle.descriptors.specs.declared.looking.Look.{Look}

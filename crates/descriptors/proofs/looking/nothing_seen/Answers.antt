@@ -1,6 +1,5 @@
 -- `descriptors::nothing_seen` meets its contract: its array is the blank one.
 -- Assumes nothing.
-use borrow.Author.Rules.{rules}
 use Rattle.descriptors.proofs.looking.nothing_seen.Goals as goal
 
 pub returns : goal.returns

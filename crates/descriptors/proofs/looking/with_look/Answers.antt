@@ -3,7 +3,6 @@
 use mathlib.Core.Path.{◌∙◌, ap, sym}
 use Rattle.descriptors.specs.declared.looking.Look.{Look}
 use Rattle.descriptors.specs.Finding.{look_found}
-use borrow.Author.Rules.{rules}
 use Rattle.descriptors.proofs.looking.with_look.Goals as goal
 
 pub returns-in-WrongLength : goal.returns-in-WrongLength

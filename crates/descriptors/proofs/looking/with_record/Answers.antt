@@ -3,7 +3,6 @@
 use mathlib.Core.Path.{◌∙◌, ap, sym}
 use Rattle.records.specs.declared.Record.{Record}
 use Rattle.descriptors.specs.Finding.{besides_found}
-use borrow.Author.Rules.{rules}
 use Rattle.descriptors.proofs.looking.with_record.Goals as goal
 
 pub returns-in-NoRecord : goal.returns-in-NoRecord

@@ -1,0 +1,14 @@
+-- `loop_entries::blank_entries` meets its contract: its layers are the blank ones.
+-- Assumes nothing.
+use mathlib.Core.Path.{ap}
+use mathlib.Core.List.{List}
+use lib.ListN.{replicate}
+use Rattle.vocabulary.specs.declared.LayerIndex.{LayerIndex}
+use Rattle.records.specs.declared.Record.TheVariants.{NoRecord}
+use Rattle.loop_entries.proofs.blank_entries.Goals as goal
+
+pub returns : goal.returns
+returns c =
+    ap
+    (λ (layers : List LayerIndex). replicate 201 (record { stream_type = 0; pid = 0; «record» = NoRecord; embedded = layers }))
+    c.no_layers.ensures
