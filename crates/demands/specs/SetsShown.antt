@@ -28,7 +28,7 @@ use Rattle.layer_set.specs.Meaning.{IsSet, Condition, pid_held_lem, type_wrong, 
 use Rattle.layer_set.proofs.Meant.{add_meant, add_only, remove_meant, remove_only, target_meant, target_only}
 use Rattle.layer_set_rows.specs.Buffers.{set_in, stored_numbers, holds_set}
 use Rattle.c_answers.specs.declared.Asked.{Asked}
-use Rattle.c_answers.specs.Answers.{accepted, refused, not_a_call, asked_for, Reply, reply, unchanged}
+use Rattle.c_answers.specs.Answers.{accepted, refused, not_a_call as not_a_call_code, asked_for, Reply, reply, unchanged}
 use Rattle.thoquenry.specs.Bounds.{SmallOutcome, small_loop, SmallClosure, size_short}
 use Rattle.thoquenry_sets.specs.Calls.{SetReply, set_reply, set_laid, changed_laid, after_change, read_into, read_set, add_set, remove_set, closure_laid, closure_set}
 use Rattle.held_sets.specs.Meaning.{ReadsSet, loop_refused, loop_accepted, Holds}
@@ -137,7 +137,7 @@ told_so t before reply tells answer layers stored e = (
   same_buffers (ap (λ (r : SetReply). r.layers) e ∙ tells.layers_left) (ap (λ (r : SetReply). r.stored) e ∙ tells.stored_left),
 )
 
-not_told : (b : SetBuffers) → Tells not_a_call b (set_reply not_a_call b.layers b.stored)
+not_told : (b : SetBuffers) → Tells not_a_call b (set_reply not_a_call_code b.layers b.stored)
 not_told b = record { answered = refl; layers_left = refl; stored_left = refl }
 
 set_tells : (o : Outcome) (s : LayerSet) (b : SetBuffers) → Tells (set_told o s) b (changed_laid o s b.layers b.stored)
@@ -173,17 +173,17 @@ unfolding read_set
 read_replied given = go (eqb (length given.buffers.layers) 5120) (eqb (length given.buffers.stored) 192)
   where
     go : (p q : Bool) → Tells (told_by_year given.reading (λ reading. cond p (cond q (set_told (loop_set reading given.bytes).outcome (loop_set reading given.bytes).«set») not_a_call) not_a_call)) given.buffers
-        (cond p (cond q (read_into (asked_for given.reading) given.bytes given.buffers.layers given.buffers.stored) (set_reply not_a_call given.buffers.layers given.buffers.stored))
-        (set_reply not_a_call given.buffers.layers given.buffers.stored))
+        (cond p (cond q (read_into (asked_for given.reading) given.bytes given.buffers.layers given.buffers.stored) (set_reply not_a_call_code given.buffers.layers given.buffers.stored))
+        (set_reply not_a_call_code given.buffers.layers given.buffers.stored))
     go true true =
         asked (λ (a : Asked) (t : Told SetBuffers). Tells t given.buffers (read_into a given.bytes given.buffers.layers given.buffers.stored))
         (λ reading. set_told (loop_set reading given.bytes).outcome (loop_set reading given.bytes).«set») given.reading
         (λ reading. set_tells (loop_set reading given.bytes).outcome (loop_set reading given.bytes).«set» given.buffers) (not_told given.buffers)
     go true false =
-        each_year (λ (t : Told SetBuffers). Tells t given.buffers (set_reply not_a_call given.buffers.layers given.buffers.stored)) given.reading (λ reading. not_a_call)
+        each_year (λ (t : Told SetBuffers). Tells t given.buffers (set_reply not_a_call_code given.buffers.layers given.buffers.stored)) given.reading (λ reading. not_a_call)
         (λ reading. not_told given.buffers) (not_told given.buffers)
     go false q =
-        each_year (λ (t : Told SetBuffers). Tells t given.buffers (set_reply not_a_call given.buffers.layers given.buffers.stored)) given.reading (λ reading. not_a_call)
+        each_year (λ (t : Told SetBuffers). Tells t given.buffers (set_reply not_a_call_code given.buffers.layers given.buffers.stored)) given.reading (λ reading. not_a_call)
         (λ reading. not_told given.buffers) (not_told given.buffers)
 
 read_exactly : (given : SetReadGiven) (reading : Reading) (answer : ℕ) (after : SetBuffers)
@@ -261,8 +261,8 @@ add_replied given = go (holds_set given.buffers.layers given.buffers.stored) (eq
         → Tells (cond p (cond q (cond r (refuses TooWide) (set_told (add_told given).outcome (add_told given).«set»)) not_a_call) not_a_call) given.buffers
         (cond p
         (cond q (cond r (set_reply (refused TooWide) given.buffers.layers given.buffers.stored) (after_change (add_told given) given.buffers.layers given.buffers.stored))
-        (set_reply not_a_call given.buffers.layers given.buffers.stored))
-        (set_reply not_a_call given.buffers.layers given.buffers.stored))
+        (set_reply not_a_call_code given.buffers.layers given.buffers.stored))
+        (set_reply not_a_call_code given.buffers.layers given.buffers.stored))
     go true true true = record { answered = refl; layers_left = refl; stored_left = refl }
     go true true false = set_tells (add_told given).outcome (add_told given).«set» given.buffers
     go true false r = not_told given.buffers
@@ -366,7 +366,7 @@ unfolding remove_set
 remove_replied given = go (holds_set given.buffers.layers given.buffers.stored)
   where
     go : (p : Bool) → Tells (cond p (set_told (remove_told given).outcome (remove_told given).«set») not_a_call) given.buffers
-        (cond p (after_change (remove_told given) given.buffers.layers given.buffers.stored) (set_reply not_a_call given.buffers.layers given.buffers.stored))
+        (cond p (after_change (remove_told given) given.buffers.layers given.buffers.stored) (set_reply not_a_call_code given.buffers.layers given.buffers.stored))
     go true = set_tells (remove_told given).outcome (remove_told given).«set» given.buffers
     go false = not_told given.buffers
 
@@ -443,8 +443,8 @@ closure_replied : (given : SetClosureGiven)
 unfolding closure_set
 closure_replied given = go (holds_set given.buffers.layers given.buffers.stored)
   where
-    go : (p : Bool) → ((cond p (closure_laid (closure_found given) given.closure) (reply not_a_call given.closure)).answer ≡ code (cond p (closure_told (closure_found given) given.closure) not_a_call))
-        × ((cond p (closure_laid (closure_found given) given.closure) (reply not_a_call given.closure)).buffer ≡ leaves (cond p (closure_told (closure_found given) given.closure) not_a_call) given.closure)
+    go : (p : Bool) → ((cond p (closure_laid (closure_found given) given.closure) (reply not_a_call_code given.closure)).answer ≡ code (cond p (closure_told (closure_found given) given.closure) not_a_call))
+        × ((cond p (closure_laid (closure_found given) given.closure) (reply not_a_call_code given.closure)).buffer ≡ leaves (cond p (closure_told (closure_found given) given.closure) not_a_call) given.closure)
     go true = closure_laid_lem (closure_found given) given.closure
     go false = (refl, refl)
 

@@ -10,7 +10,7 @@ use Rattle.vocabulary.specs.declared.stream_types.Reading.TheVariants.{Edition20
 use Rattle.vocabulary.specs.Refusals.{number_of, place_of}
 use Rattle.c_answers.specs.declared.Asked.{Asked}
 use Rattle.c_answers.specs.declared.Asked.TheVariants.{Known, Neither}
-use Rattle.c_answers.specs.Answers.{accepted, refused, not_a_call, asked_for}
+use Rattle.c_answers.specs.Answers.{accepted, refused, not_a_call as not_a_call_code, asked_for}
 use Rattle.c_answers.proofs.Macros.{refused_number, refused_place, accepted_number, accepted_count}
 use Rattle.promised.specs.Calls.{Call, is_listed, Promised}
 use Rattle.promised.specs.Shown.{Computed, promised, not_refused}
@@ -21,7 +21,7 @@ module _ {B : Type 0} where
   abbrev pub code : Told B → ℕ
   code (counts count left) = accepted count
   code (refuses refusal) = refused refusal
-  code not_a_call = not_a_call
+  code not_a_call = not_a_call_code
 
   abbrev pub leaves : Told B → B → B
   leaves (counts count left) before = left
