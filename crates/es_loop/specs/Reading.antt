@@ -8,7 +8,6 @@ use Rattle.vocabulary.specs.declared.refusal.Refusal.TheVariants.{LoopTooLong}
 use Rattle.loop_entries.specs.declared.Stream.{Stream}
 use Rattle.es_loop.specs.declared.verdict.Verdict.{Verdict}
 use Rattle.es_loop.specs.declared.verdict.Verdict.TheVariants.{Entries, Refused as Refuses}
-use Rattle.es_loop.specs.declared.reader.Outcome.{Outcome}
 use Rattle.es_loop.specs.declared.reader.Outcome.TheVariants.{Accepted, Refused}
 use Rattle.es_loop.specs.declared.reader.LoopRead.{LoopRead}
 use Rattle.loop_entries.specs.Entries.{pair_of, streams_of, entries_of}

@@ -4,13 +4,12 @@ use Prim.Native.Nat.{ℕ, zero, suc, ◌+◌, ◌-◌, ◌*◌, ◌≤◌, ◌<�
 use mathlib.Core.Path.{◌≡◌, refl, sym, ap, ap₂, subst, ◌∙◌}
 use mathlib.Core.Bool.{Bool, true, false, cond}
 use mathlib.Core.List.{List, [], ◌∷◌, ◌++◌, append_assoc}
-use mathlib.Core.Logic.{⊎_elim}
 use native.Mathlib.Decide.{dec_lt}
-use native.Mathlib.Nat.{zero-add, suc-add, eq-or-lt_of_le}
+use native.Mathlib.Nat.{zero-add, suc-add}
 use native.Mathlib.Omega.{arith}
-use borrow.Author.Tests.{leb-true, leb-false, eq-eqb, ne_eqb}
+use borrow.Author.Tests.{leb-true, leb-false, ne_eqb}
 use lib.Dec.{eqb, leb}
-use lib.ListN.{length, get_or, set, take, drop, length-set, length-take, length-drop, get_or-eq_default}
+use lib.ListN.{length, get_or, set, take, drop, length-set, length-drop, get_or-eq_default}
 use lib.Seq.{take-nil, drop-nil, sets, sets-eq, length-sets, take_at, drop_at, take-set-le, drop-set-lt, get_or-set_same, get_or-set_other, length-take-le, ext_get_or}
 use Rattle.packets.specs.Reading.{packet_bytes}
 use Rattle.scanning.specs.Events.{layers, ending_at, kept_at, last_at, lasts_from, lasts_of, LastWithin, EndsWithin}

@@ -1,16 +1,16 @@
 -- What is computed of two ranges is true exactly where they are wrong.
 -- Assumes nothing.
 use Prim.Native.Nat.{ℕ, ◌≤◌, ◌<◌}
-use mathlib.Core.Bool.{Bool, true, false, ◌&&◌, ◌||◌}
+use mathlib.Core.Bool.{true, ◌&&◌, ◌||◌}
 use mathlib.Core.Logic.{◌⊎◌, inl, inr}
 use mathlib.Core.Path.{◌≡◌, ap₂}
 use native.Mathlib.Decide.{dec_lt}
 use native.Mathlib.Omega.{arith}
 use borrow.Author.Tests.{ltb-true, lt-ltb, leb-true, le-leb}
-use lib.Dec.{leb, ltb}
+use lib.Dec.{leb}
 use Rattle.combinators.specs.Bools.{both_left, both_right, either_left, either_right, either_which}
 use Rattle.mvc_extension.specs.declared.MvcExtension.{MvcExtension}
-use Rattle.mvc_extension.specs.Ranges.{reversed_range, ranges_meet, wrong_ranges, InRange, WrongRanges, first_reversed, second_reversed, shared}
+use Rattle.mvc_extension.specs.Ranges.{reversed_range, ranges_meet, wrong_ranges, WrongRanges, first_reversed, second_reversed, shared}
 
 module _ (x y : MvcExtension) where
   abbrev least : MvcExtension → ℕ

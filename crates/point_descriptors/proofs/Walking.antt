@@ -8,7 +8,7 @@ use native.Mathlib.Nat.{add-sub_cancel_left}
 use native.Mathlib.Numerals.{add-one}
 use native.Mathlib.Omega.{arith}
 use borrow.Author.Tests.{lt-ltb, le-ltb}
-use lib.ListN.{length, get_or, set, take, drop, replicate, length-append, length-drop, drop_of_length-le}
+use lib.ListN.{length, take, drop, length-append, length-drop, drop_of_length-le}
 use lib.Seq.{sets, drop-drop, length-take-le, get_or-drop}
 use Rattle.combinators.specs.Padding.{pad_to, store_pad_to, length_pad_to}
 use Rattle.framing.specs.Pieces.{Item, whole, broken, cut_broken, cut_piece}
@@ -18,7 +18,6 @@ use Rattle.descriptor_heads.proofs.Heads.{tag_alone}
 use Rattle.operation_points.specs.declared.Head.{Head}
 use Rattle.operation_points.specs.declared.HeadRead.{HeadRead}
 use Rattle.operation_points.specs.declared.HeadRead.TheVariants.{Before, HeadDoesNotFit}
-use Rattle.operation_points.specs.declared.Point.{Point}
 use Rattle.operation_points.specs.declared.FirstPoint.{FirstPoint}
 use Rattle.operation_points.specs.declared.FirstPoint.TheVariants.{Read, DoesNotFit, ReservedCount}
 use Rattle.operation_points.specs.declared.Filling.{Filling}

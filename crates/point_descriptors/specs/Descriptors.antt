@@ -1,11 +1,10 @@
 -- The operation point descriptors of a program's own descriptor loop: which descriptors are such, what their payloads are, the verdict on all of them, and
 -- the places of their payloads and of their points in the loop.
 -- Assumes nothing.
-use Rattle.std.specs.Prelude.{ℕ, zero, suc, ◌+◌, Bool, true, false, cond, ◌&&◌, List, [], ◌∷◌, ◌++◌, map, eqb, ltb, length, get_or, drop}
+use Rattle.std.specs.Prelude.{ℕ, zero, suc, ◌+◌, Bool, cond, ◌&&◌, List, [], ◌∷◌, ◌++◌, map, eqb, ltb, length, get_or, drop}
 use Rattle.combinators.specs.Padding.{pad_to}
 use Rattle.framing.specs.Pieces.{Item, whole, broken, cut}
 use Rattle.descriptor_heads.specs.Head.{descriptor_tag, descriptor_length}
-use Rattle.operation_points.specs.declared.Head.{Head}
 use Rattle.operation_points.specs.declared.HeadRead.{HeadRead}
 use Rattle.operation_points.specs.declared.HeadRead.TheVariants.{Before, HeadDoesNotFit}
 use Rattle.operation_points.specs.declared.FirstPoint.{FirstPoint}

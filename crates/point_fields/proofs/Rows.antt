@@ -1,22 +1,18 @@
 -- A row's numbers against their fields: the tests that the code makes, and what each is known to be below where none fails.
 -- Assumes nothing.
-use Prim.Native.Nat.{ℕ, zero, suc, ◌+◌, ◌*◌, ◌/◌, ◌%◌, ◌^◌, ◌<◌}
-use mathlib.Core.Path.{◌≡◌, refl, sym, ap, ap₂, ◌∙◌}
+use Prim.Native.Nat.{ℕ, ◌+◌, ◌*◌, ◌/◌, ◌%◌, ◌<◌}
+use mathlib.Core.Path.{◌≡◌, refl, sym, ap, ◌∙◌}
 use mathlib.Core.Bool.{Bool, true, false, cond, not, ◌&&◌, ◌||◌, and-true, or-false}
-use mathlib.Core.List.{List, [], ◌∷◌, ◌++◌, map, append-nil}
+use mathlib.Core.List.{List, [], ◌∷◌, ◌++◌, append-nil}
 use native.Mathlib.Omega.{arith}
 use borrow.Author.Tests.{not-false, ltb-true}
 use lib.Dec.{eqb, ltb}
-use lib.ListN.{length, get_or}
+use lib.ListN.{get_or}
 use Rattle.combinators.specs.Bools.{apart}
-use Rattle.combinators.specs.Lists.{gather, gather_map, gather_append}
-use Rattle.syntax.specs.Table.{AreBytes, write_table}
-use Rattle.syntax.specs.Named.{write_by}
-use Rattle.syntax.proofs.Laws.{write_read}
+use Rattle.syntax.specs.Table.{write_table}
 use Rattle.syntax.proofs.Equations.{each}
-use Rattle.operation_points.specs.Tables.{point_head, reference, flags_count, flags, rates, frame_rate, average_rate}
-use Rattle.point_fields.specs.WrittenParts.{part_bytes}
-use Rattle.point_fields.specs.Fields.{row_too_wide, given_in, item_in, lists_in, reference_bytes, list_parts, rate_parts, list_bytes, rate_bytes, point_bytes}
+use Rattle.operation_points.specs.Tables.{point_head, flags_count, rates, frame_rate, average_rate}
+use Rattle.point_fields.specs.Fields.{row_too_wide, rate_bytes}
 
 -- ---- 25
 

@@ -3,14 +3,13 @@
 -- where each number stands.
 -- Assumes nothing.
 use Rattle.std.specs.Prelude.{ℕ, ◌+◌, ◌%◌, Bool, cond, not, List, [], ◌∷◌, map, eqb, get_or}
-use Prim.Native.String.{String}
 use lib.Text.{eqt}
-use Rattle.combinators.specs.Lists.{any, gather}
-use Rattle.syntax.specs.Table.{Table, bytes, fits}
-use Rattle.syntax.specs.Named.{Given, given_to, values_by, read_by, write_by}
+use Rattle.combinators.specs.Lists.{any}
+use Rattle.syntax.specs.Table.{Table, bytes}
+use Rattle.syntax.specs.Named.{Given, given_to, read_by, write_by}
 use Rattle.operation_points.specs.Parts.{Part, lines, repeated, when}
 use Rattle.operation_points.specs.Tables.{point_head, reference, flags_count, flags, rates, frame_rate, average_rate, maximum_rate, has_frame_rate, has_average_rate, has_maximum_rate, point_syntax}
-use Rattle.point_fields.specs.WrittenParts.{Lists, part_bytes, parts_bytes, part_too_wide}
+use Rattle.point_fields.specs.WrittenParts.{Lists, parts_bytes, part_too_wide}
 
 -- the numbers of a row, by their names
 abbrev pub given_in : List ℕ → Given

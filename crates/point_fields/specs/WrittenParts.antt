@@ -1,7 +1,7 @@
 -- WRITING A SYNTAX TABLE WITH LOOPS AND CONDITIONS: the same parts by which it is read (operation_points/specs/Parts.antt), filled by the names of their
 -- lines. A loop has the items of the list that its count counts. Reserved bits are written as 1.
 -- Assumes nothing.
-use Rattle.std.specs.Prelude.{ℕ, Bool, true, false, cond, not, ◌||◌, List, [], ◌∷◌, ◌++◌, ◌≡◌, eqb}
+use Rattle.std.specs.Prelude.{ℕ, Bool, true, false, cond, not, List, [], ◌∷◌, ◌++◌, ◌≡◌, eqb}
 use Prim.Native.String.{String}
 use Rattle.combinators.specs.Lists.{any, gather}
 use Rattle.syntax.specs.Table.{Table, Fit, fits, Written}

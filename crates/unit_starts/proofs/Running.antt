@@ -132,7 +132,7 @@ module _ (table : List ℕ) where
         }
 
     -- and so are several
-    pub passed : {from k : ℕ} {lasts later : List (List ℕ)} → PassedOver table bytes from lasts k later → packet_bytes * k ≤ length bytes → Same from lasts k later
+    pub passed : {from : ℕ} {lasts : List (List ℕ)} {k : ℕ} {later : List (List ℕ)} → PassedOver table bytes from lasts k later → packet_bytes * k ≤ length bytes → Same from lasts k later
     passed none_yet_lem room = record { found = λ f. refl; rows = refl; over = refl }
     passed (one_more {k} {before} p nothing is) room =
         let earlier = passed p (omega arith) in

@@ -3,7 +3,6 @@
 use native.Mathlib.Omega.{arith}
 use Rattle.syntax.proofs.Equations.{bounds}
 use Rattle.mvc_extension.proofs.Bytes.{mvc_extension_written}
-use borrow.Author.Rules.{rules}
 use Rattle.mvc_extension.proofs.mvc_extension_payload.Goals as goal
 
 pub overflow_cast-result-5 : goal.overflow_cast-result-5

@@ -2,7 +2,6 @@
 -- Assumes nothing.
 use native.Mathlib.Omega.{arith}
 use Rattle.mvc_extension.proofs.Bytes.{mvc_extension_bytes}
-use borrow.Author.Rules.{rules}
 use Rattle.mvc_extension.proofs.read_mvc_extension.Goals as goal
 
 pub overflow_mul-result : goal.overflow_mul-result

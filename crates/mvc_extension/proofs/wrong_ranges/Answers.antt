@@ -1,6 +1,5 @@
 -- `wrong_ranges` meets its contract: its three tests.
 -- Assumes nothing.
-use borrow.Author.Rules.{rules}
 use Rattle.mvc_extension.proofs.wrong_ranges.Goals as goal
 
 pub returns : goal.returns

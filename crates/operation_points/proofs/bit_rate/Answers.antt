@@ -3,10 +3,8 @@ use mathlib.Core.Path.{◌≡◌, ap₂}
 use mathlib.Core.Bool.{true, false}
 use Prim.Native.Nat.{ℕ, ◌+◌, ◌*◌}
 use native.Mathlib.Omega.{arith}
-use borrow.Author.Tests.{not-true, not-false}
 use lib.ListN.{length}
 use Rattle.operation_points.proofs.Judging.{room_there}
-use borrow.Author.Rules.{rules}
 use Rattle.operation_points.proofs.bit_rate.Goals as goal
 
 pub returns-then-not-there : goal.returns-then-not-there

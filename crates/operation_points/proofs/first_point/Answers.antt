@@ -1,7 +1,6 @@
 -- `operation_points::first_point` meets its contract: each way is a case of the definition (Judging). Assumes nothing.
 use native.Mathlib.Omega.{arith}
 use Rattle.operation_points.proofs.Judging.{first_short, first_reserved, misfit_count, misfit_rates, misfit_fields, fits_fields}
-use borrow.Author.Rules.{rules}
 use Rattle.operation_points.proofs.first_point.Goals as goal
 
 pub returns-then-left-lt2 : goal.returns-then-left-lt2

@@ -3,7 +3,6 @@ use mathlib.Core.Path.{sym, ap, ◌∙◌}
 use Rattle.operation_points.specs.declared.HeadRead.{HeadRead}
 use Rattle.operation_points.specs.Points.{filling_after}
 use Rattle.operation_points.proofs.Judging.{head_within}
-use borrow.Author.Rules.{rules}
 use Rattle.operation_points.proofs.judge.Goals as goal
 
 pub points_filling-requires : goal.points_filling-requires

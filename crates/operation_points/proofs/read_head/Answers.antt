@@ -1,6 +1,5 @@
 -- `operation_points::read_head` meets its contract: each way is a case of the definition (Judging). Assumes nothing.
 use Rattle.operation_points.proofs.Judging.{head_empty, head_misfit, head_fits}
-use borrow.Author.Rules.{rules}
 use Rattle.operation_points.proofs.read_head.Goals as goal
 
 pub returns-then-payload-eq0 : goal.returns-then-payload-eq0

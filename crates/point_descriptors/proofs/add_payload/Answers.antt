@@ -2,8 +2,6 @@
 -- Assumes nothing.
 use mathlib.Core.Path.{sym, ◌∙◌}
 use Rattle.point_descriptors.proofs.Adding.{put_one, put_none}
-use native.Mathlib.Omega.{arith}
-use borrow.Author.Rules.{rules}
 use Rattle.point_descriptors.proofs.add_payload.Goals as goal
 
 pub returns-then-is_points : goal.returns-then-is_points

@@ -3,8 +3,7 @@
 use Rattle.operation_points.specs.Points.{first_point}
 use Rattle.combinators.specs.Lists.{part_to_end}
 use mathlib.Core.Path.{sym, ◌∙◌, ap}
-use Rattle.point_descriptors.proofs.Adding.{Adding, adding_start, adding_end, adding_misfit, adding_reserved, adding_within, adding_room, adding_on}
-use borrow.Author.Rules.{rules}
+use Rattle.point_descriptors.proofs.Adding.{adding_start, adding_end, adding_misfit, adding_reserved, adding_within, adding_room, adding_on}
 use native.Mathlib.Omega.{arith}
 use Rattle.point_descriptors.proofs.add_points.Goals as goal
 

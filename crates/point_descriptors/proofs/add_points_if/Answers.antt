@@ -7,7 +7,6 @@ use lib.ListN.{length, take, drop, length-drop}
 use mathlib.Core.Path.{◌≡◌, sym, ap, ◌∙◌}
 use Prim.Native.Nat.{◌-◌}
 use native.Mathlib.Omega.{arith}
-use borrow.Author.Rules.{rules}
 use Rattle.point_descriptors.proofs.add_points_if.Goals as goal
 
 pub slice_bounds-add_points_in-count : goal.slice_bounds-add_points_in-count

@@ -4,7 +4,6 @@ use Rattle.point_descriptors.proofs.Walking.{nothing_held, no_head, points_by}
 use Rattle.operation_points.proofs.Judging.{head_within}
 use mathlib.Core.Path.{sym, ◌∙◌}
 use native.Mathlib.Omega.{arith}
-use borrow.Author.Rules.{rules}
 use Rattle.point_descriptors.proofs.add_points_in.Goals as goal
 
 pub add_points-requires : goal.add_points-requires

@@ -2,7 +2,6 @@
 use Rattle.point_descriptors.proofs.Walking.{fills_if, fills_else}
 use mathlib.Core.Path.{sym, ◌∙◌}
 use Rattle.point_descriptors.proofs.Adding.{has_body}
-use borrow.Author.Rules.{rules}
 use Rattle.point_descriptors.proofs.filling_if.Goals as goal
 
 pub slice_bounds-judge-count : goal.slice_bounds-judge-count

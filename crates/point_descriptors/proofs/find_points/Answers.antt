@@ -1,8 +1,6 @@
 -- `find_points` meets its contract.
 -- Assumes nothing.
 use Rattle.point_descriptors.proofs.Walking.{found_long}
-use native.Mathlib.Omega.{arith}
-use borrow.Author.Rules.{rules}
 use Rattle.point_descriptors.proofs.find_points.Goals as goal
 
 pub returns-then-program-gt-MOST_BYTES : goal.returns-then-program-gt-MOST_BYTES

@@ -1,6 +1,5 @@
 -- `is_points` meets its contract. Assumes nothing.
 use Rattle.point_descriptors.proofs.Adding.{other_tag, no_body, by_extension}
-use borrow.Author.Rules.{rules}
 use Rattle.point_descriptors.proofs.is_points.Goals as goal
 
 pub returns-then-tag-ne-EXTENSION_TAG : goal.returns-then-tag-ne-EXTENSION_TAG

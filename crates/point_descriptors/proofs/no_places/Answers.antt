@@ -2,7 +2,6 @@
 -- Assumes nothing.
 use mathlib.Core.Path.{refl}
 use Rattle.point_descriptors.specs.Descriptors.{no_places}
-use native.Mathlib.Omega.{arith}
 use Rattle.point_descriptors.proofs.no_places.Goals as goal
 
 pub returns : goal.returns

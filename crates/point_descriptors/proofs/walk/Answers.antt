@@ -6,10 +6,9 @@ use Rattle.combinators.specs.Lists.{part_to_end}
 use borrow.Author.Tests.{not-true, not-false}
 use mathlib.Core.Path.{◌≡◌, ap, ◌∙◌}
 use mathlib.Core.List.{List}
-use Rattle.point_descriptors.proofs.Walking.{Walking, walking_start, walking_end, walking_stop, left_length, array_long, turn_within, turn_room, turn_on}
+use Rattle.point_descriptors.proofs.Walking.{walking_start, walking_end, walking_stop, left_length, array_long, turn_within, turn_room, turn_on}
 use lib.ListN.{length, take, drop}
 use Prim.Native.Nat.{ℕ, ◌-◌}
-use borrow.Author.Rules.{rules}
 use native.Mathlib.Omega.{arith}
 use Rattle.point_descriptors.proofs.walk.Goals as goal
 

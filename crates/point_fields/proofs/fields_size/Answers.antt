@@ -1,7 +1,6 @@
 -- `fields_size` meets its contract: each field where it is there.
 -- Assumes nothing.
 use Rattle.point_fields.specs.Fields.{fields_size}
-use borrow.Author.Rules.{rules}
 use native.Mathlib.Omega.{arith}
 use Rattle.point_fields.proofs.fields_size.Goals as goal
 

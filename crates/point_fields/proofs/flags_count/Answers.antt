@@ -1,7 +1,6 @@
 -- `flags_count` meets its contract.
 -- Assumes nothing.
 use Rattle.point_fields.proofs.Rows.{flags_count_written}
-use borrow.Author.Rules.{rules}
 use Rattle.point_fields.proofs.flags_count.Goals as goal
 
 pub returns : goal.returns

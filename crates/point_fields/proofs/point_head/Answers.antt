@@ -1,7 +1,6 @@
 -- `point_head` meets its contract.
 -- Assumes nothing.
 use Rattle.point_fields.proofs.Rows.{point_head_written}
-use borrow.Author.Rules.{rules}
 use Rattle.point_fields.proofs.point_head.Goals as goal
 
 pub returns : goal.returns

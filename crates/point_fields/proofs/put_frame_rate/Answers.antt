@@ -2,14 +2,11 @@
 -- Assumes nothing.
 use mathlib.Core.Path.{sym, ◌∙◌, ap}
 use mathlib.Core.Bool.{Bool, cond}
-use mathlib.Core.List.{List, [], ◌∷◌}
-use Prim.Native.Nat.{ℕ, ◌<◌}
+use mathlib.Core.List.{[], ◌∷◌}
 use Rattle.syntax.specs.Table.{write_table}
-use Rattle.operation_points.specs.Tables.{average_rate, frame_rate}
+use Rattle.operation_points.specs.Tables.{frame_rate}
 use Rattle.buffers.proofs.Laws.{laid_as}
 use Rattle.point_fields.proofs.Rows.{frame_rate_written, field_small}
-use borrow.Author.Rules.{rules}
-use native.Mathlib.Omega.{arith}
 use Rattle.point_fields.proofs.put_frame_rate.Goals as goal
 
 -- LEFT: no goal of today has the name overflow-add-t9

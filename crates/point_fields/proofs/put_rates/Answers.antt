@@ -1,12 +1,7 @@
 -- `put_rates` meets its contract: one field after another.
 -- Assumes nothing.
-use mathlib.Core.Path.{◌≡◌, ◌∙◌, sym, ap}
-use mathlib.Core.List.{List, ◌++◌, append-nil}
-use Prim.Native.Nat.{ℕ}
 use Rattle.buffers.proofs.Laws.{laid_as, laid_then}
-use Rattle.point_fields.specs.Fields.{rate_bytes}
 use Rattle.point_fields.proofs.Rows.{row_fits, rates_in}
-use borrow.Author.Rules.{rules}
 use Rattle.point_fields.proofs.put_rates.Goals as goal
 
 pub rates-byte-requires : goal.rates-byte-requires

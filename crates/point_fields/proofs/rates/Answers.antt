@@ -1,7 +1,6 @@
 -- `rates` meets its contract.
 -- Assumes nothing.
 use Rattle.point_fields.proofs.Rows.{rates_written}
-use borrow.Author.Rules.{rules}
 use Rattle.point_fields.proofs.rates.Goals as goal
 
 pub returns : goal.returns

@@ -1,8 +1,6 @@
 -- `row_too_wide` meets its contract: one of the tests fails.
 -- Assumes nothing.
-use mathlib.Core.Path.{◌∙◌}
 use Rattle.point_fields.proofs.Rows.{tested}
-use borrow.Author.Rules.{rules}
 use Rattle.point_fields.proofs.row_too_wide.Goals as goal
 
 pub returns : goal.returns

@@ -1,7 +1,6 @@
 -- `stream_lists::asked` meets its contract: the two cases of the definition are the two ways of the code. Assumes nothing.
 use mathlib.Core.Path.{◌∙◌}
 use Rattle.stream_lists.proofs.Building.{asked_flagged, asked_nothing}
-use borrow.Author.Rules.{rules}
 use Rattle.stream_lists.proofs.asked.Goals as goal
 
 pub returns-then-reference-eq1 : goal.returns-then-reference-eq1

@@ -1,10 +1,7 @@
 -- `stream_lists::closed` meets its contract (Closing has the turns). The measure is the number of members left. Assumes nothing.
-use Prim.Native.Nat.{ℕ, ◌+◌, ◌<◌}
-use mathlib.Core.Path.{◌≡◌, sym, ap, ◌∙◌, subst}
-use native.Mathlib.Omega.{arith}
 use lib.ListN.{length}
 use Rattle.sets.specs.Sets.{members_of}
-use Rattle.stream_lists.proofs.Closing.{Looking, looking_start, looking_less, looking_more, looking_escaped, looking_end}
+use Rattle.stream_lists.proofs.Closing.{Looking}
 use Rattle.stream_lists.proofs.closed.Given as goal
 
 abbrev pub invariant-loop-left : goal.invariant-loop-left

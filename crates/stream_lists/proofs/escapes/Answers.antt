@@ -1,6 +1,5 @@
 -- `stream_lists::escapes` meets its contract. Assumes nothing.
 use Rattle.stream_lists.proofs.Closing.{above_names_nothing, escaping}
-use borrow.Author.Rules.{rules}
 use Rattle.stream_lists.proofs.escapes.Goals as goal
 
 pub returns-then-index-ge64 : goal.returns-then-index-ge64

@@ -2,9 +2,7 @@
 use Prim.Native.Nat.{ℕ}
 use mathlib.Core.Path.{sym, ap, ◌∙◌}
 use Rattle.sets.specs.Sets.{without}
-use borrow.Author.Tests.{not-true, not-false}
 use Rattle.stream_lists.proofs.Building.{absent_itself, absent_dependency}
-use borrow.Author.Rules.{rules}
 use Rattle.stream_lists.proofs.no_layer.Goals as goal
 
 pub returns-then-not-member : goal.returns-then-not-member

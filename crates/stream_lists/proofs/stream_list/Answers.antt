@@ -1,12 +1,11 @@
 -- `stream_lists::stream_list` meets its contract (Building has the turns). The measure is the number of references left. Assumes nothing.
-use Prim.Native.Nat.{ℕ, ◌-◌}
+use Prim.Native.Nat.{ℕ}
 use mathlib.Core.Bool.{true}
 use mathlib.Core.Path.{◌≡◌, sym, ap, ◌∙◌}
 use native.Mathlib.Omega.{arith}
-use lib.ListN.{length}
 use Rattle.sets.specs.Sets.{without}
 use Rattle.stream_lists.specs.declared.StreamList.{StreamList}
-use Rattle.stream_lists.proofs.Building.{Building, building_start, building_ready, building_refused, building_more, building_end}
+use Rattle.stream_lists.proofs.Building.{building_start, building_ready, building_refused, building_more, building_end}
 use Rattle.stream_lists.proofs.stream_list.Goals as goal
 
 -- what is not present yet, by the answers of the two calls

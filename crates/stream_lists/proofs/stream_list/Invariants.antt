@@ -1,12 +1,7 @@
 -- `stream_lists::stream_list` meets its contract (Building has the turns). The measure is the number of references left. Assumes nothing.
-use Prim.Native.Nat.{ℕ, ◌-◌}
-use mathlib.Core.Bool.{true}
-use mathlib.Core.Path.{◌≡◌, sym, ap, ◌∙◌}
-use native.Mathlib.Omega.{arith}
+use Prim.Native.Nat.{◌-◌}
 use lib.ListN.{length}
-use Rattle.sets.specs.Sets.{without}
-use Rattle.stream_lists.specs.declared.StreamList.{StreamList}
-use Rattle.stream_lists.proofs.Building.{Building, building_start, building_ready, building_refused, building_more, building_end}
+use Rattle.stream_lists.proofs.Building.{Building}
 use Rattle.stream_lists.proofs.stream_list.Given as goal
 
 abbrev pub invariant-loop-at : goal.invariant-loop-at

@@ -1,11 +1,7 @@
 -- `scanning::skipping::pass_each` meets its contract. The invariant: all packets so far are passed over. The measure is the number of packets left.
 -- Assumes nothing.
-use borrow.Author.Tests.{not-true, not-false}
-use native.Mathlib.Omega.{arith}
 use Prim.Native.Nat.{◌-◌}
-use mathlib.Core.Bool.{true, false}
 use Rattle.scanning.specs.Events.{Passes}
-use Rattle.scanning.proofs.Looking.{passes_none, passes_by}
 use Rattle.scanning.proofs.skipping.pass_each.Given as goal
 
 abbrev pub invariant-loop-number : goal.invariant-loop-number

@@ -1,6 +1,5 @@
 -- `scanning::skipping::pass_run` meets its contract: the packet right before is the last one on its layer's PID, and the run that starts with it is passed over.
 -- Assumes nothing.
-use borrow.Author.Rules.{rules}
 use native.Mathlib.Omega.{arith}
 use Prim.Native.Nat.{ℕ, ◌+◌, ◌-◌, ◌*◌}
 use mathlib.Core.Path.{◌≡◌, ap, subst}

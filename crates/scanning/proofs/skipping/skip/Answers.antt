@@ -1,8 +1,6 @@
 -- `scanning::skipping::skip` meets its contract. The invariant: all packets so far are passed over. The measure is the number of packets left.
 -- Assumes nothing.
 use native.Mathlib.Omega.{arith}
-use Prim.Native.Nat.{◌-◌}
-use Rattle.scanning.specs.Events.{Passes}
 use Rattle.scanning.proofs.Looking.{passes_none, passes_then}
 use Rattle.scanning.proofs.skipping.skip.Goals as goal
 

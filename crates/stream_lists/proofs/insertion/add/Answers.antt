@@ -1,7 +1,6 @@
 -- `stream_lists::insertion::add` meets its contract: the index stands in the list, or is stored behind it. Assumes nothing.
 use mathlib.Core.Path.{sym, ◌∙◌}
 use Rattle.stream_lists.proofs.Inserting.{add_present, add_room, add_absent}
-use borrow.Author.Rules.{rules}
 use Rattle.stream_lists.proofs.insertion.add.Goals as goal
 
 pub returns-then-member : goal.returns-then-member

@@ -1,11 +1,9 @@
 -- `stream_lists::insertion::insert` meets its contract (Opened has the turns). The measure is the place reached. Assumes nothing.
-use Prim.Native.Nat.{ℕ, ◌≤◌}
-use mathlib.Core.List.{List, [], ◌∷◌}
-use mathlib.Core.Path.{◌≡◌, ap, ◌∙◌}
-use native.Mathlib.Omega.{arith}
-use lib.ListN.{get_or, set}
+use Prim.Native.Nat.{◌≤◌}
+use mathlib.Core.List.{[], ◌∷◌}
+use mathlib.Core.Path.{◌≡◌}
+use lib.ListN.{get_or}
 use Rattle.stream_lists.specs.Insertion.{opened}
-use Rattle.stream_lists.proofs.Opened.{opened_start, opened_turn, opened_end}
 use Rattle.stream_lists.proofs.insertion.insert.Given as goal
 
 abbrev pub invariant-loop-at : goal.invariant-loop-at

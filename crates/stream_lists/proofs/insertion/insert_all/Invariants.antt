@@ -1,10 +1,7 @@
 -- `stream_lists::insertion::insert_all` meets its contract (Inserting has the turns). The measure is the number of members left. Assumes nothing.
-use Prim.Native.Nat.{ℕ, ◌+◌, ◌<◌}
-use mathlib.Core.Path.{sym, subst}
-use native.Mathlib.Omega.{arith}
 use lib.ListN.{length}
 use Rattle.sets.specs.Sets.{members_of}
-use Rattle.stream_lists.proofs.Inserting.{Inserting, inserting_start, inserting_end, inserting_less, inserting_room, inserting_long, inserting_more}
+use Rattle.stream_lists.proofs.Inserting.{Inserting}
 use Rattle.stream_lists.proofs.insertion.insert_all.Given as goal
 
 abbrev pub invariant-loop-left : goal.invariant-loop-left

@@ -2,7 +2,6 @@
 use native.Mathlib.Omega.{arith}
 use Rattle.sets.proofs.Members.{members_size}
 use Rattle.stream_lists.proofs.Inserting.{ready_first, before_nothing, before_short, before_room, before_inside, before_all}
-use borrow.Author.Rules.{rules}
 use Rattle.stream_lists.proofs.insertion.place_before.Goals as goal
 
 pub add-with_index-requires : goal.add-with_index-requires

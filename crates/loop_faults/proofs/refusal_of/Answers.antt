@@ -5,8 +5,7 @@ use mathlib.Core.Path.{◌≡◌, refl, sym, ap}
 use mathlib.Core.Logic.{◌≢◌}
 use Rattle.vocabulary.specs.declared.refusal.Refusal.TheVariants.{LoopTooLong}
 use Rattle.loop_faults.specs.Conditions.{refusal_of}
-use Rattle.loop_faults.proofs.refusal_of.Statement.{statement}
-use Rattle.loop_faults.proofs.refusal_of.Tie as tie
+use Rattle.loop_faults.proofs.refusal_of.Goals as goal
 
 -- a number that is none of these has no refusal of its own
 other : (n place : ℕ) → n ≢ 2 → n ≢ 3 → n ≢ 4 → n ≢ 5 → n ≢ 6 → n ≢ 7 → n ≢ 8 → n ≢ 9 → refusal_of n place ≡ LoopTooLong
@@ -22,46 +21,32 @@ other (suc (suc (suc (suc (suc (suc (suc (suc zero)))))))) place a b c d e f g h
 other (suc (suc (suc (suc (suc (suc (suc (suc (suc zero))))))))) place a b c d e f g h = absurd (h refl)
 other (suc (suc (suc (suc (suc (suc (suc (suc (suc (suc n)))))))))) place a b c d e f g h = refl
 
-returns : tie.Need-returns
-returns c = sym (ap (λ (n : ℕ). refusal_of n c.before.args.place) c.match.keys1)
+pub returns-in-2 : goal.returns-in-2
+returns-in-2 c = sym (ap (λ (n : ℕ). refusal_of n c.args.place) c.in-2.is)
 
-returns-2 : tie.Need-returns-2
-returns-2 c = sym (ap (λ (n : ℕ). refusal_of n c.before.args.place) c.match.keys2)
+pub returns-in-3 : goal.returns-in-3
+returns-in-3 c = sym (ap (λ (n : ℕ). refusal_of n c.args.place) c.in-3.is)
 
-returns-3 : tie.Need-returns-3
-returns-3 c = sym (ap (λ (n : ℕ). refusal_of n c.before.args.place) c.match.keys3)
+pub returns-in-4 : goal.returns-in-4
+returns-in-4 c = sym (ap (λ (n : ℕ). refusal_of n c.args.place) c.in-4.is)
 
-returns-4 : tie.Need-returns-4
-returns-4 c = sym (ap (λ (n : ℕ). refusal_of n c.before.args.place) c.match.keys4)
+pub returns-in-5 : goal.returns-in-5
+returns-in-5 c = sym (ap (λ (n : ℕ). refusal_of n c.args.place) c.in-5.is)
 
-returns-5 : tie.Need-returns-5
-returns-5 c = sym (ap (λ (n : ℕ). refusal_of n c.before.args.place) c.match.keys5)
+pub returns-in-6 : goal.returns-in-6
+returns-in-6 c = sym (ap (λ (n : ℕ). refusal_of n c.args.place) c.in-6.is)
 
-returns-6 : tie.Need-returns-6
-returns-6 c = sym (ap (λ (n : ℕ). refusal_of n c.before.args.place) c.match.keys6)
+pub returns-in-7 : goal.returns-in-7
+returns-in-7 c = sym (ap (λ (n : ℕ). refusal_of n c.args.place) c.in-7.is)
 
-returns-7 : tie.Need-returns-7
-returns-7 c = sym (ap (λ (n : ℕ). refusal_of n c.before.args.place) c.match.keys7)
+pub returns-in-8 : goal.returns-in-8
+returns-in-8 c = sym (ap (λ (n : ℕ). refusal_of n c.args.place) c.in-8.is)
 
-returns-8 : tie.Need-returns-8
-returns-8 c = sym (ap (λ (n : ℕ). refusal_of n c.before.args.place) c.match.keys8)
+pub returns-in-9 : goal.returns-in-9
+returns-in-9 c = sym (ap (λ (n : ℕ). refusal_of n c.args.place) c.in-9.is)
 
-returns-9 : tie.Need-returns-9
-returns-9 c =
-    let a = c.before.args in
-    let r = c.match.rest in
+pub returns-in_default : goal.returns-in_default
+returns-in_default c =
+    let a = c.args in
+    let r = c.in_default.in_default-own.rest in
     sym (other a.number a.place r.0.0.0.0.0.0.0.1 r.0.0.0.0.0.0.1 r.0.0.0.0.0.1 r.0.0.0.0.1 r.0.0.0.1 r.0.0.1 r.0.1 r.1)
-
-pub refusal-of-spec : {M : Type 1} → statement M
-refusal-of-spec =
-    tie.close
-    (tie.spec
-    returns
-    returns-2
-    returns-3
-    returns-4
-    returns-5
-    returns-6
-    returns-7
-    returns-8
-    returns-9)

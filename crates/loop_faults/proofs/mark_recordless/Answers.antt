@@ -1,0 +1,22 @@
+-- `loop_faults::mark_recordless` meets its contract: without a record 3 and 6 alone can apply, and the tests say which does first.
+-- Assumes nothing.
+use mathlib.Core.Path.{refl}
+use Rattle.loop_faults.proofs.mark_recordless.Goals as goal
+
+pub returns-then-seen : goal.returns-then-seen
+returns-then-seen c = record {
+  value = rw c.if-seen.true;
+  pids_after = (refl, refl);
+}
+
+pub returns-then-given : goal.returns-then-given
+returns-then-given c = record {
+  value = rw (c.if-seen.false, c.if-given.true);
+  pids_after = (refl, refl);
+}
+
+pub returns : goal.returns
+returns c = record {
+  value = rw (c.if-seen.false, c.if-given.false);
+  pids_after = (refl, refl);
+}
