@@ -2,6 +2,7 @@
 // and after either the three lists to their ends.
 use cases::{say, say_number};
 use joining::Joined;
+use std::io::{Result, Write};
 use vocabulary::Refusal;
 
 // What the lists hold before the call. No row has this number, and no lag is so large.
@@ -18,45 +19,48 @@ pub fn no_lags() -> [i64; 600] {
 }
 
 // The members of a set of layer indices.
-fn print_set(set: u64) {
+fn print_set<W: Write>(out: &mut W, set: u64) -> Result<()> {
     let mut index = 0;
     while index < 64 {
         if sets::member(set, index) {
-            say_number(b" ", index as u64);
+            say_number(out, b" ", index as u64)?;
         }
         index += 1;
     }
+    Ok(())
 }
 
-fn print_units(closure: u64, units: usize, rows: usize) {
-    say(b"accepted closure");
-    print_set(closure);
-    say_number(b" units ", units as u64);
-    say_number(b" rows ", rows as u64);
+fn print_units<W: Write>(out: &mut W, closure: u64, units: usize, rows: usize) -> Result<()> {
+    say(out, b"accepted closure")?;
+    print_set(out, closure)?;
+    say_number(out, b" units ", units as u64)?;
+    say_number(out, b" rows ", rows as u64)
 }
 
-fn print_refusal(refusal: Refusal) {
-    say_number(b"refused ", vocabulary::number(refusal) as u64);
-    say_number(b" place ", vocabulary::place(refusal) as u64);
+fn print_refusal<W: Write>(out: &mut W, refusal: Refusal) -> Result<()> {
+    say_number(out, b"refused ", vocabulary::number(refusal) as u64)?;
+    say_number(out, b" place ", vocabulary::place(refusal) as u64)
 }
 
-pub fn print(joined: Joined) {
+pub fn print<W: Write>(out: &mut W, joined: Joined) -> Result<()> {
     match joined {
         Joined::Units {
             closure,
             units,
             rows,
-        } => print_units(closure, units, rows),
-        Joined::Refused(refusal) => print_refusal(refusal),
+        } => print_units(out, closure, units, rows)?,
+        Joined::Refused(refusal) => print_refusal(out, refusal)?,
     }
+    Ok(())
 }
 
-fn print_number(number: u64) {
+fn print_number<W: Write>(out: &mut W, number: u64) -> Result<()> {
     if number == NO_NUMBER {
-        say(b" .");
+        say(out, b" .")?;
     } else {
-        say_number(b" ", number);
+        say_number(out, b" ", number)?;
     }
+    Ok(())
 }
 
 // How far an integer lies from 0.
@@ -68,45 +72,47 @@ fn magnitude(integer: i64) -> u64 {
     beyond as u64 + 1
 }
 
-fn print_lag(lag: i64) {
+fn print_lag<W: Write>(out: &mut W, lag: i64) -> Result<()> {
     if lag == NO_LAG {
-        say(b" .");
-        return;
+        return say(out, b" .");
     }
     if lag < 0 {
-        say_number(b" -", magnitude(lag));
+        say_number(out, b" -", magnitude(lag))?;
     } else {
-        say_number(b" ", magnitude(lag));
+        say_number(out, b" ", magnitude(lag))?;
     }
+    Ok(())
 }
 
 // Numbers, to the end of their list.
-fn print_list(numbers: &[u64]) {
+fn print_list<W: Write>(out: &mut W, numbers: &[u64]) -> Result<()> {
     let mut i = 0;
     while i < numbers.len() {
-        print_number(numbers[i]);
+        print_number(out, numbers[i])?;
         i += 1;
     }
+    Ok(())
 }
 
-pub fn print_numbers(numbers: &[u64]) {
-    say(b" numbers");
-    print_list(numbers);
+pub fn print_numbers<W: Write>(out: &mut W, numbers: &[u64]) -> Result<()> {
+    say(out, b" numbers")?;
+    print_list(out, numbers)
 }
 
 // The lags beside them, to the end of theirs.
-pub fn print_lags(lags: &[i64]) {
-    say(b" lags");
+pub fn print_lags<W: Write>(out: &mut W, lags: &[i64]) -> Result<()> {
+    say(out, b" lags")?;
     let mut i = 0;
     while i < lags.len() {
-        print_lag(lags[i]);
+        print_lag(out, lags[i])?;
         i += 1;
     }
+    Ok(())
 }
 
 // The sizes of the units, to the end of their list, and of the line.
-pub fn print_sizes(sizes: &[u64]) {
-    say(b" sizes");
-    print_list(sizes);
-    say(b"\n");
+pub fn print_sizes<W: Write>(out: &mut W, sizes: &[u64]) -> Result<()> {
+    say(out, b" sizes")?;
+    print_list(out, sizes)?;
+    say(out, b"\n")
 }

@@ -34,10 +34,12 @@ mod columns;
 mod tables;
 
 use closure::Layers;
+use std::io::{self, Result, Write};
 use tables::Case;
 
 // Lends the columns and the lists to the call, and prints what it answers and what it leaves in the lists.
-fn answer_table(
+fn answer_table<W: Write>(
+    out: &mut W,
     layers: Layers,
     target: u64,
     indices: &[u8],
@@ -46,13 +48,16 @@ fn answer_table(
     numbers: &mut [u64],
     lags: &mut [i64],
     sizes: &mut [u64],
-) {
-    answers::print(joining::join(
-        layers, target, indices, decodings, matches, numbers, lags, sizes,
-    ));
-    answers::print_numbers(numbers);
-    answers::print_lags(lags);
-    answers::print_sizes(sizes);
+) -> Result<()> {
+    answers::print(
+        out,
+        joining::join(
+            layers, target, indices, decodings, matches, numbers, lags, sizes,
+        ),
+    )?;
+    answers::print_numbers(out, numbers)?;
+    answers::print_lags(out, lags)?;
+    answers::print_sizes(out, sizes)
 }
 
 // How many rows or places of so many are kept.
@@ -66,13 +71,14 @@ fn kept(count: u64) -> usize
 }
 
 // Cuts the lists to their lengths.
-fn answer_lists(
+fn answer_lists<W: Write>(
+    out: &mut W,
     layers: Layers,
     case: Case,
     indices: [u8; 600],
     decodings: [u64; 600],
     matches: [u64; 600],
-) {
+) -> Result<()> {
     let index_count = kept(case.indices.count);
     let decoding_count = kept(case.decodings.count);
     let match_count = kept(case.matches.count);
@@ -83,6 +89,7 @@ fn answer_lists(
     let mut lags = answers::no_lags();
     let mut sizes = answers::no_numbers();
     answer_table(
+        out,
         layers,
         case.target,
         &indices[..index_count],
@@ -91,10 +98,10 @@ fn answer_lists(
         &mut numbers[..number_places],
         &mut lags[..lag_places],
         &mut sizes[..size_places],
-    );
+    )
 }
 
-fn answer_case(case: Case) {
+fn answer_case<W: Write>(out: &mut W, case: Case) -> Result<()> {
     let embedded = case.embedded;
     let layers = Layers {
         present: case.present,
@@ -106,40 +113,43 @@ fn answer_case(case: Case) {
     let decoding_list = decodings.list;
     let match_list = matches.list;
     answer_lists(
+        out,
         layers,
         case,
         columns::bytes_of(indices),
         decoding_list,
         match_list,
-    );
+    )
 }
 
-fn answer_line(line: &[u8]) {
+fn answer_line<W: Write>(out: &mut W, line: &[u8]) -> Result<()> {
     if cases::is_comment(line) {
-        cases::copy(line);
-        return;
+        return cases::copy(out, line);
     }
     let case = tables::read(line);
     if case.readable {
-        answer_case(case);
+        answer_case(out, case)?;
     } else {
-        cases::unreadable();
+        cases::unreadable(out)?;
     }
+    Ok(())
 }
 
-fn answer_lines(text: &[u8]) {
+fn answer_lines<W: Write>(out: &mut W, text: &[u8]) -> Result<()> {
     let mut at = 0;
     while at < text.len() {
         let rest = &text[at..];
         let line = cases::first_part(b'\n', rest);
         let size = line.size;
-        answer_line(&rest[..size]);
+        answer_line(out, &rest[..size])?;
         at += line.step;
     }
+    Ok(())
 }
 
-fn main() {
-    let mut buffer = io::large_buffer();
-    let count = cases::read_cases(&mut buffer);
-    answer_lines(&buffer[..count]);
+fn main(rt: HostRuntime) -> Result<()> {
+    let mut buffer = [0u8; 65536];
+    let mut out = io::writer(&rt);
+    let count = cases::read_cases(&mut rt.reader(), &mut out, &mut buffer)?;
+    answer_lines(&mut out, &buffer[..count])
 }

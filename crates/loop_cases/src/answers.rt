@@ -2,103 +2,112 @@
 use cases::{say, say_number};
 use descriptors::{ExtensionRecord, HierarchyRecord, Record};
 use es_loop::{Entry, LoopRead, MOST_ENTRIES, Outcome};
+use std::io::{Result, Write};
 use vocabulary::{LayerIndex, Refusal};
 
-fn say_place(name: &[u8], value: usize) {
-    say_number(name, value as u64);
+fn say_place<W: Write>(out: &mut W, name: &[u8], value: usize) -> Result<()> {
+    say_number(out, name, value as u64)
 }
 
-fn say_byte(name: &[u8], value: u8) {
-    say_number(name, value as u64);
+fn say_byte<W: Write>(out: &mut W, name: &[u8], value: u8) -> Result<()> {
+    say_number(out, name, value as u64)
 }
 
-fn say_flag(name: &[u8], value: bool) {
+fn say_flag<W: Write>(out: &mut W, name: &[u8], value: bool) -> Result<()> {
     if value {
-        say_number(name, 1);
+        say_number(out, name, 1)?;
     } else {
-        say_number(name, 0);
+        say_number(out, name, 0)?;
     }
+    Ok(())
 }
 
-fn print_hierarchy(hierarchy: HierarchyRecord) {
-    say(b" hierarchy");
-    say_flag(b" no_view ", hierarchy.no_view);
-    say_flag(b" no_temporal ", hierarchy.no_temporal);
-    say_flag(b" no_spatial ", hierarchy.no_spatial);
-    say_flag(b" no_quality ", hierarchy.no_quality);
-    say_byte(b" type ", hierarchy.hierarchy_type);
-    say_byte(b" index ", hierarchy.layer_index.0);
-    say_flag(b" tref ", hierarchy.tref_present_flag);
-    say_byte(b" embedded ", hierarchy.embedded_layer_index.0);
-    say_byte(b" channel ", hierarchy.channel.0);
+fn print_hierarchy<W: Write>(out: &mut W, hierarchy: HierarchyRecord) -> Result<()> {
+    say(out, b" hierarchy")?;
+    say_flag(out, b" no_view ", hierarchy.no_view)?;
+    say_flag(out, b" no_temporal ", hierarchy.no_temporal)?;
+    say_flag(out, b" no_spatial ", hierarchy.no_spatial)?;
+    say_flag(out, b" no_quality ", hierarchy.no_quality)?;
+    say_byte(out, b" type ", hierarchy.hierarchy_type)?;
+    say_byte(out, b" index ", hierarchy.layer_index.0)?;
+    say_flag(out, b" tref ", hierarchy.tref_present_flag)?;
+    say_byte(out, b" embedded ", hierarchy.embedded_layer_index.0)?;
+    say_byte(out, b" channel ", hierarchy.channel.0)
 }
 
-fn print_extension(extension: ExtensionRecord) {
-    say(b" extension");
-    say_number(b" dimensions ", extension.dimension_bits as u64);
-    say_byte(b" index ", extension.layer_index.0);
-    say_byte(b" temporal_id ", extension.temporal_id.0);
-    say_byte(b" nuh_layer_id ", extension.nuh_layer_id.0);
-    say_flag(b" tref ", extension.tref_present_flag);
-    say_byte(b" channel ", extension.channel.0);
+fn print_extension<W: Write>(out: &mut W, extension: ExtensionRecord) -> Result<()> {
+    say(out, b" extension")?;
+    say_number(out, b" dimensions ", extension.dimension_bits as u64)?;
+    say_byte(out, b" index ", extension.layer_index.0)?;
+    say_byte(out, b" temporal_id ", extension.temporal_id.0)?;
+    say_byte(out, b" nuh_layer_id ", extension.nuh_layer_id.0)?;
+    say_flag(out, b" tref ", extension.tref_present_flag)?;
+    say_byte(out, b" channel ", extension.channel.0)
 }
 
 // The list of an extension, as many as it counts.
-fn print_embedded(count: u8, embedded: [LayerIndex; 63]) {
-    say(b" embedded");
+fn print_embedded<W: Write>(out: &mut W, count: u8, embedded: [LayerIndex; 63]) -> Result<()> {
+    say(out, b" embedded")?;
     let mut i = 0;
     while i < 63 {
         if i < count as usize {
             let index = embedded[i];
-            say_byte(b" ", index.0);
+            say_byte(out, b" ", index.0)?;
         }
         i += 1;
     }
+    Ok(())
 }
 
-fn print_entry(entry: Entry) {
+fn print_entry<W: Write>(out: &mut W, entry: Entry) -> Result<()> {
     let record = entry.record;
     let embedded = entry.embedded;
-    say_byte(b"  type ", entry.stream_type);
-    say_number(b" pid ", entry.pid as u64);
+    say_byte(out, b"  type ", entry.stream_type)?;
+    say_number(out, b" pid ", entry.pid as u64)?;
     match record {
-        Record::NoRecord => say(b" no record"),
-        Record::Hierarchy(hierarchy) => print_hierarchy(hierarchy),
+        Record::NoRecord => say(out, b" no record")?,
+        Record::Hierarchy(hierarchy) => print_hierarchy(out, hierarchy)?,
         Record::Extension(extension) => {
-            print_extension(extension);
-            print_embedded(extension.num_embedded_layers, embedded);
+            print_extension(out, extension)?;
+            print_embedded(out, extension.num_embedded_layers, embedded)?;
         }
-        Record::Implied => say(b" implied"),
+        Record::Implied => say(out, b" implied")?,
     }
-    say(b"\n");
+    say(out, b"\n")
 }
 
-fn print_entries(count: usize, entries: [Entry; MOST_ENTRIES]) {
+fn print_entries<W: Write>(
+    out: &mut W,
+    count: usize,
+    entries: [Entry; MOST_ENTRIES],
+) -> Result<()> {
     let mut i = 0;
     while i < MOST_ENTRIES {
         if i < count {
-            print_entry(entries[i]);
+            print_entry(out, entries[i])?;
         }
         i += 1;
     }
+    Ok(())
 }
 
-fn print_refusal(refusal: Refusal) {
-    say_byte(b"refused ", vocabulary::number(refusal));
-    say_place(b" entry ", vocabulary::place(refusal));
-    say(b"\n");
+fn print_refusal<W: Write>(out: &mut W, refusal: Refusal) -> Result<()> {
+    say_byte(out, b"refused ", vocabulary::number(refusal))?;
+    say_place(out, b" entry ", vocabulary::place(refusal))?;
+    say(out, b"\n")
 }
 
 // The whole answer for one loop.
-pub fn print(read: LoopRead) {
+pub fn print<W: Write>(out: &mut W, read: LoopRead) -> Result<()> {
     let outcome = read.outcome;
     let entries = read.entries;
     match outcome {
         Outcome::Accepted => {
-            say_place(b"accepted ", read.count);
-            say(b"\n");
-            print_entries(read.count, entries);
+            say_place(out, b"accepted ", read.count)?;
+            say(out, b"\n")?;
+            print_entries(out, read.count, entries)?;
         }
-        Outcome::Refused(refusal) => print_refusal(refusal),
+        Outcome::Refused(refusal) => print_refusal(out, refusal)?,
     }
+    Ok(())
 }

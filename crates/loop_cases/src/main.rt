@@ -17,6 +17,7 @@ ghost use Rattle.std.specs.Prelude.{◌≤◌, length};
 mod answers;
 
 use cases::unreadable;
+use std::io::{self, Result, Write};
 use vocabulary::Reading;
 
 // The year that a case begins with.
@@ -41,20 +42,24 @@ fn year_of(line: &[u8]) -> Year
     Year::Unknown
 }
 
-fn answer_loop(reading: Reading, count: usize, room: [u8; 2048])
+fn answer_loop<W: Write>(
+    out: &mut W,
+    reading: Reading,
+    count: usize,
+    room: [u8; 2048],
+) -> Result<()>
     requires { count ≤ 2048 }
 {
-    answers::print(es_loop::read_loop(reading, &room[..count]));
+    answers::print(out, es_loop::read_loop(reading, &room[..count]))
 }
 
-fn answer_case(reading: Reading, words: &[u8]) {
+fn answer_case<W: Write>(out: &mut W, reading: Reading, words: &[u8]) -> Result<()> {
     let mut room = cases::empty_room();
     let found = cases::read_bytes(words, &mut room);
     if !found.readable {
-        unreadable();
-        return;
+        return unreadable(out);
     }
-    answer_loop(reading, found.count, room);
+    answer_loop(out, reading, found.count, room)
 }
 
 // Past the year there is nothing more, or a blank.
@@ -65,43 +70,45 @@ fn ends_word(rest: &[u8]) -> bool {
     rest[0] == b' '
 }
 
-fn answer_year(line: &[u8]) {
+fn answer_year<W: Write>(out: &mut W, line: &[u8]) -> Result<()> {
     if line.len() < 4 {
-        unreadable();
-        return;
+        return unreadable(out);
     }
     let words = &line[4..];
     if !ends_word(words) {
-        unreadable();
-        return;
+        return unreadable(out);
     }
     match year_of(line) {
-        Year::Known(reading) => answer_case(reading, words),
-        Year::Unknown => unreadable(),
+        Year::Known(reading) => answer_case(out, reading, words)?,
+        Year::Unknown => unreadable(out)?,
     }
+    Ok(())
 }
 
-fn answer_line(line: &[u8]) {
+fn answer_line<W: Write>(out: &mut W, line: &[u8]) -> Result<()> {
     if cases::is_comment(line) {
-        cases::copy(line);
+        cases::copy(out, line)?;
     } else {
-        answer_year(line);
+        answer_year(out, line)?;
     }
+    Ok(())
 }
 
-fn answer_lines(text: &[u8]) {
+fn answer_lines<W: Write>(out: &mut W, text: &[u8]) -> Result<()> {
     let mut at = 0;
     while at < text.len() {
         let rest = &text[at..];
         let line = cases::first_part(b'\n', rest);
         let size = line.size;
-        answer_line(&rest[..size]);
+        answer_line(out, &rest[..size])?;
         at += line.step;
     }
+    Ok(())
 }
 
-fn main() {
-    let mut buffer = io::large_buffer();
-    let count = cases::read_cases(&mut buffer);
-    answer_lines(&buffer[..count]);
+fn main(rt: HostRuntime) -> Result<()> {
+    let mut buffer = [0u8; 65536];
+    let mut out = io::writer(&rt);
+    let count = cases::read_cases(&mut rt.reader(), &mut out, &mut buffer)?;
+    answer_lines(&mut out, &buffer[..count])
 }

@@ -29,6 +29,7 @@ mod recording;
 mod whole;
 
 use cases::{Numbers, first_part, number_or, numbers_of, unreadable};
+use std::io::{self, Result, Write};
 
 // What is asked of a recording: by which call, with which numbers, and for which target.
 #[derive(Clone, Copy)]
@@ -59,23 +60,21 @@ fn places(numbers: Numbers, list: usize) -> usize
     count as usize
 }
 
-fn ask(question: Question, streams: &[u8], packets: &[u8]) {
+fn ask<W: Write>(out: &mut W, question: Question, streams: &[u8], packets: &[u8]) -> Result<()> {
     let kind = question.kind;
     let numbers = question.numbers;
     if kind == ROWS {
-        whole::answer_rows(streams, packets);
-        return;
+        return whole::answer_rows(out, streams, packets);
     }
     if kind == UNITS {
-        whole::answer_units(streams, question.target, packets);
-        return;
+        return whole::answer_units(out, streams, question.target, packets);
     }
     if kind == CUT {
-        pieces::answer_cut(numbers, streams, question.target, packets);
-        return;
+        return pieces::answer_cut(out, numbers, streams, question.target, packets);
     }
     if kind == ROOM {
-        whole::answer_lists(
+        return whole::answer_lists(
+            out,
             places(numbers, 0),
             places(numbers, 1),
             places(numbers, 2),
@@ -84,117 +83,132 @@ fn ask(question: Question, streams: &[u8], packets: &[u8]) {
             question.target,
             packets,
         );
-        return;
     }
-    whole::answer_columns(places(numbers, 0), streams, packets);
+    whole::answer_columns(out, places(numbers, 0), streams, packets)
 }
 
 // The packets of the case, out of its words.
-fn answer_packets(question: Question, streams: &[u8], words: &[u8], room: &mut [u8]) {
+fn answer_packets<W: Write>(
+    out: &mut W,
+    question: Question,
+    streams: &[u8],
+    words: &[u8],
+    room: &mut [u8],
+) -> Result<()> {
     let found = recording::lay_packets(words, room);
     if !found.readable {
-        unreadable();
-        return;
+        return unreadable(out);
     }
     let count = found.count;
-    ask(question, streams, &room[..count]);
+    ask(out, question, streams, &room[..count])
 }
 
 // Words with no number in front.
-fn plain_case(streams: &[u8], words: &[u8], room: &mut [u8]) {
+fn plain_case<W: Write>(out: &mut W, streams: &[u8], words: &[u8], room: &mut [u8]) -> Result<()> {
     let question = Question {
         kind: ROWS,
         numbers: numbers_of(b""),
         target: 0,
     };
-    answer_packets(question, streams, words, room);
+    answer_packets(out, question, streams, words, room)
 }
 
 // Words with a target in front, behind a bar the packets.
-fn target_case(kind: u8, numbers: Numbers, streams: &[u8], words: &[u8], room: &mut [u8]) {
+fn target_case<W: Write>(
+    out: &mut W,
+    kind: u8,
+    numbers: Numbers,
+    streams: &[u8],
+    words: &[u8],
+    room: &mut [u8],
+) -> Result<()> {
     let part = first_part(b'|', words);
     let step = part.step;
     let word = first_part(b' ', words);
     let size = word.size;
     let named = numbers_of(&words[..size]);
     if named.last != 0 {
-        unreadable();
-        return;
+        return unreadable(out);
     }
     let question = Question {
         kind,
         numbers,
         target: number_or(named, 0, 0),
     };
-    answer_packets(question, streams, &words[step..], room);
+    answer_packets(out, question, streams, &words[step..], room)
 }
 
 // Words with numbers and a target in front.
-fn numbers_case(kind: u8, streams: &[u8], words: &[u8], room: &mut [u8]) {
+fn numbers_case<W: Write>(
+    out: &mut W,
+    kind: u8,
+    streams: &[u8],
+    words: &[u8],
+    room: &mut [u8],
+) -> Result<()> {
     let word = first_part(b' ', words);
     let size = word.size;
     let step = word.step;
     let numbers = numbers_of(&words[..size]);
     if 7 < numbers.last {
-        unreadable();
-        return;
+        return unreadable(out);
     }
-    target_case(kind, numbers, streams, &words[step..], room);
+    target_case(out, kind, numbers, streams, &words[step..], room)
 }
 
 // Words with one number in front, which is no target.
-fn places_case(streams: &[u8], words: &[u8], room: &mut [u8]) {
+fn places_case<W: Write>(out: &mut W, streams: &[u8], words: &[u8], room: &mut [u8]) -> Result<()> {
     let word = first_part(b' ', words);
     let size = word.size;
     let numbers = numbers_of(&words[..size]);
-    target_case(PLACES, numbers, streams, words, room);
+    target_case(out, PLACES, numbers, streams, words, room)
 }
 
-fn answer_case(streams: &[u8], line: &[u8], room: &mut [u8]) {
+fn answer_case<W: Write>(out: &mut W, streams: &[u8], line: &[u8], room: &mut [u8]) -> Result<()> {
     let kind = first_part(b' ', line);
     let size = kind.size;
     let step = kind.step;
     let words = &line[step..];
     if check::same(&line[..size], b"rows") {
-        plain_case(streams, words, room);
-        return;
+        return plain_case(out, streams, words, room);
     }
     if check::same(&line[..size], b"units") {
-        target_case(UNITS, numbers_of(b""), streams, words, room);
-        return;
+        return target_case(out, UNITS, numbers_of(b""), streams, words, room);
     }
     if check::same(&line[..size], b"cut") {
-        numbers_case(CUT, streams, words, room);
-        return;
+        return numbers_case(out, CUT, streams, words, room);
     }
     if check::same(&line[..size], b"room") {
-        numbers_case(ROOM, streams, words, room);
-        return;
+        return numbers_case(out, ROOM, streams, words, room);
     }
     if check::same(&line[..size], b"places") {
-        places_case(streams, words, room);
-        return;
+        return places_case(out, streams, words, room);
     }
-    unreadable();
+    unreadable(out)
 }
 
-fn with_loop(count: usize, streams: [u8; 2048], line: &[u8], room: &mut [u8])
+fn with_loop<W: Write>(
+    out: &mut W,
+    count: usize,
+    streams: [u8; 2048],
+    line: &[u8],
+    room: &mut [u8],
+) -> Result<()>
     requires { count ≤ 2048 }
 {
-    answer_case(&streams[..count], line, room);
+    answer_case(out, &streams[..count], line, room)
 }
 
 // The bytes of the loop that was named last, and the case.
-fn read_loop(named: &[u8], line: &[u8], room: &mut [u8]) {
+fn read_loop<W: Write>(out: &mut W, named: &[u8], line: &[u8], room: &mut [u8]) -> Result<()> {
     let words = first_part(b' ', named);
     let step = words.step;
     let mut streams = cases::empty_room();
     let found = cases::read_bytes(&named[step..], &mut streams);
     if !found.readable {
-        unreadable();
-        return;
+        return unreadable(out);
     }
-    with_loop(found.count, streams, line, room);
+    with_loop(out, found.count, streams, line, room)
 }
 
 fn is_loop(line: &[u8]) -> bool {
@@ -214,20 +228,24 @@ fn named_last(line: &[u8], at: usize, named: usize) -> usize
     named
 }
 
-fn answer_line(from_loop: &[u8], line: &[u8], room: &mut [u8]) {
+fn answer_line<W: Write>(
+    out: &mut W,
+    from_loop: &[u8],
+    line: &[u8],
+    room: &mut [u8],
+) -> Result<()> {
     if cases::is_comment(line) {
-        cases::copy(line);
-        return;
+        return cases::copy(out, line);
     }
     if is_loop(line) {
-        return;
+        return Ok(());
     }
     let named = first_part(b'\n', from_loop);
     let size = named.size;
-    read_loop(&from_loop[..size], line, room);
+    read_loop(out, &from_loop[..size], line, room)
 }
 
-fn answer_lines(text: &[u8], room: &mut [u8]) {
+fn answer_lines<W: Write>(out: &mut W, text: &[u8], room: &mut [u8]) -> Result<()> {
     let mut at = 0;
     let mut named = 0;
     while at < text.len() {
@@ -235,19 +253,21 @@ fn answer_lines(text: &[u8], room: &mut [u8]) {
         let line = first_part(b'\n', rest);
         let size = line.size;
         named = named_last(&rest[..size], at, named);
-        answer_line(&text[named..], &rest[..size], room);
+        answer_line(out, &text[named..], &rest[..size], room)?;
         at += line.step;
     }
+    Ok(())
 }
 
 // Room for 600 packets.
-fn answer_text(text: &[u8]) {
+fn answer_text<W: Write>(out: &mut W, text: &[u8]) -> Result<()> {
     let mut room = [0u8; 112800];
-    answer_lines(text, &mut room);
+    answer_lines(out, text, &mut room)
 }
 
-fn main() {
-    let mut buffer = io::large_buffer();
-    let count = cases::read_cases(&mut buffer);
-    answer_text(&buffer[..count]);
+fn main(rt: HostRuntime) -> Result<()> {
+    let mut buffer = [0u8; 65536];
+    let mut out = io::writer(&rt);
+    let count = cases::read_cases(&mut rt.reader(), &mut out, &mut buffer)?;
+    answer_text(&mut out, &buffer[..count])
 }

@@ -3,6 +3,7 @@ ghost use Rattle.std.specs.Prelude.{◌≤◌};
 
 use super::answers;
 use cases::{Numbers, number_or, say, say_number};
+use std::io::{Result, Write};
 
 fn lesser(a: u64, b: usize) -> usize
     ensures { result ≤ b }
@@ -171,14 +172,15 @@ fn same_lags(a: &[i64], b: &[i64]) -> bool {
 }
 
 // What differs from the whole is printed, and held to no answer by hand: so it fails the case.
-fn print_different(size: u64, answer: u64) {
-    say_number(b"differs in pieces of ", size);
-    say(b" bytes: ");
-    answers::print_answer(answer);
-    say(b"\n");
+fn print_different<W: Write>(out: &mut W, size: u64, answer: u64) -> Result<()> {
+    say_number(out, b"differs in pieces of ", size)?;
+    say(out, b" bytes: ")?;
+    answers::print_answer(out, answer)?;
+    say(out, b"\n")
 }
 
-fn rows_fed(
+fn rows_fed<W: Write>(
+    out: &mut W,
     size: u64,
     streams: &[u8],
     packets: &[u8],
@@ -195,7 +197,7 @@ fn rows_fed(
     matches: &mut [u64],
     trefs: &mut [u8],
     numbers: &mut [u64],
-) {
+) -> Result<()> {
     let no_cuts = cases::numbers_of(b"");
     let begun = fed(
         size, no_cuts, streams, packets, state, counts, indices, decodings, matches, trefs, numbers,
@@ -209,11 +211,13 @@ fn rows_fed(
     // After a refusal the columns hold rows of the pieces before it.
     let same = (end == answer) & (columns | (answer % 256 != 0));
     if !same {
-        print_different(size, end);
+        print_different(out, size, end)?;
     }
+    Ok(())
 }
 
-fn check_rows(
+fn check_rows<W: Write>(
+    out: &mut W,
     size: u64,
     streams: &[u8],
     packets: &[u8],
@@ -223,7 +227,7 @@ fn check_rows(
     whole_matches: &[u64],
     whole_trefs: &[u8],
     whole_numbers: &[u64],
-) {
+) -> Result<()> {
     let mut state = [0u8; 20412];
     let mut counts = [0u64; 72];
     let mut indices = [0u8; 512];
@@ -232,6 +236,7 @@ fn check_rows(
     let mut trefs = [0u8; 512];
     let mut numbers = [0u64; 512];
     rows_fed(
+        out,
         size,
         streams,
         packets,
@@ -248,7 +253,7 @@ fn check_rows(
         &mut matches,
         &mut trefs,
         &mut numbers,
-    );
+    )
 }
 
 // One byte, or for a long recording, which would be long in bytes, less than a few packets.
@@ -260,7 +265,8 @@ fn smallest(length: usize) -> u64 {
 }
 
 // Whether the rows of a recording, and what is told, are the same in pieces: of one byte, of less than a packet, of a packet, and of more.
-pub fn same_rows(
+pub fn same_rows<W: Write>(
+    out: &mut W,
     streams: &[u8],
     packets: &[u8],
     answer: u64,
@@ -269,8 +275,9 @@ pub fn same_rows(
     matches: &[u64],
     trefs: &[u8],
     numbers: &[u64],
-) {
+) -> Result<()> {
     check_rows(
+        out,
         smallest(packets.len()),
         streams,
         packets,
@@ -280,16 +287,16 @@ pub fn same_rows(
         matches,
         trefs,
         numbers,
-    );
+    )?;
     check_rows(
-        61, streams, packets, answer, indices, decodings, matches, trefs, numbers,
-    );
+        out, 61, streams, packets, answer, indices, decodings, matches, trefs, numbers,
+    )?;
     check_rows(
-        188, streams, packets, answer, indices, decodings, matches, trefs, numbers,
-    );
+        out, 188, streams, packets, answer, indices, decodings, matches, trefs, numbers,
+    )?;
     check_rows(
-        1000, streams, packets, answer, indices, decodings, matches, trefs, numbers,
-    );
+        out, 1000, streams, packets, answer, indices, decodings, matches, trefs, numbers,
+    )
 }
 
 fn join(
@@ -335,7 +342,8 @@ fn join(
 }
 
 // What is told at the end of the pieces, and the rows.
-fn print_told(
+fn print_told<W: Write>(
+    out: &mut W,
     printed: bool,
     begun: u64,
     state: &[u8],
@@ -345,15 +353,17 @@ fn print_told(
     matches: &[u64],
     trefs: &[u8],
     numbers: &[u64],
-) {
+) -> Result<()> {
     if printed {
         let end = told(begun, state, counts);
-        answers::print_rows(end, indices, decodings, matches, trefs, numbers);
+        answers::print_rows(out, end, indices, decodings, matches, trefs, numbers)?;
     }
+    Ok(())
 }
 
 // From the start of a recording to its end, and where it is cut by hand what is told then, and the rows.
-fn fed_and_told(
+fn fed_and_told<W: Write>(
+    out: &mut W,
     size: u64,
     cuts: Numbers,
     streams: &[u8],
@@ -365,11 +375,12 @@ fn fed_and_told(
     matches: &mut [u64],
     trefs: &mut [u8],
     numbers: &mut [u64],
-) -> u64 {
+) -> Result<u64> {
     let begun = fed(
         size, cuts, streams, packets, state, counts, indices, decodings, matches, trefs, numbers,
     );
     print_told(
+        out,
         size == 0,
         begun,
         state,
@@ -379,12 +390,13 @@ fn fed_and_told(
         matches,
         trefs,
         numbers,
-    );
-    begun
+    )?;
+    Ok(begun)
 }
 
 // From the start of a recording to its units, in columns and lists that are lent.
-fn units_fed(
+fn units_fed<W: Write>(
+    out: &mut W,
     size: u64,
     cuts: Numbers,
     streams: &[u8],
@@ -401,8 +413,9 @@ fn units_fed(
     lags: &mut [i64],
     sizes: &mut [u64],
     summary: &mut [u64],
-) -> u64 {
+) -> Result<u64> {
     let begun = fed_and_told(
+        out,
         size,
         cuts,
         streams,
@@ -414,17 +427,18 @@ fn units_fed(
         matches,
         trefs,
         packet_numbers,
-    );
+    )?;
     if begun % 256 != 0 {
-        return begun;
+        return Ok(begun);
     }
-    join(
+    Ok(join(
         streams, target, state, counts, indices, decodings, matches, numbers, lags, sizes, summary,
-    )
+    ))
 }
 
 // The same, in columns of 512 places.
-fn units_in_pieces(
+fn units_in_pieces<W: Write>(
+    out: &mut W,
     size: u64,
     cuts: Numbers,
     streams: &[u8],
@@ -434,7 +448,7 @@ fn units_in_pieces(
     lags: &mut [i64],
     sizes: &mut [u64],
     summary: &mut [u64],
-) -> u64 {
+) -> Result<u64> {
     let mut state = [0u8; 20412];
     let mut counts = [0u64; 72];
     let mut indices = [0u8; 512];
@@ -443,6 +457,7 @@ fn units_in_pieces(
     let mut trefs = [0u8; 512];
     let mut packet_numbers = [0u64; 512];
     units_fed(
+        out,
         size,
         cuts,
         streams,
@@ -462,7 +477,8 @@ fn units_in_pieces(
     )
 }
 
-fn compare_units(
+fn compare_units<W: Write>(
+    out: &mut W,
     size: u64,
     streams: &[u8],
     target: u64,
@@ -476,22 +492,24 @@ fn compare_units(
     lags: &mut [i64],
     sizes: &mut [u64],
     summary: &mut [u64],
-) {
+) -> Result<()> {
     let no_cuts = cases::numbers_of(b"");
     let end = units_in_pieces(
-        size, no_cuts, streams, target, packets, numbers, lags, sizes, summary,
-    );
+        out, size, no_cuts, streams, target, packets, numbers, lags, sizes, summary,
+    )?;
     let same = (end == answer)
         & same_numbers(numbers, whole_numbers)
         & same_lags(lags, whole_lags)
         & same_numbers(sizes, whole_sizes)
         & same_numbers(summary, whole_summary);
     if !same {
-        print_different(size, end);
+        print_different(out, size, end)?;
     }
+    Ok(())
 }
 
-fn check_units(
+fn check_units<W: Write>(
+    out: &mut W,
     size: u64,
     streams: &[u8],
     target: u64,
@@ -501,12 +519,13 @@ fn check_units(
     whole_lags: &[i64],
     whole_sizes: &[u64],
     whole_summary: &[u64],
-) {
+) -> Result<()> {
     let mut numbers = [0u64; 512];
     let mut lags = [0i64; 512];
     let mut sizes = [0u64; 512];
     let mut summary = [0u64; 2];
     compare_units(
+        out,
         size,
         streams,
         target,
@@ -520,11 +539,12 @@ fn check_units(
         &mut lags,
         &mut sizes,
         &mut summary,
-    );
+    )
 }
 
 // Whether the units of a recording, or the refusal, are the same in pieces.
-pub fn same_units(
+pub fn same_units<W: Write>(
+    out: &mut W,
     streams: &[u8],
     target: u64,
     packets: &[u8],
@@ -533,8 +553,9 @@ pub fn same_units(
     lags: &[i64],
     sizes: &[u64],
     summary: &[u64],
-) {
+) -> Result<()> {
     check_units(
+        out,
         smallest(packets.len()),
         streams,
         target,
@@ -544,19 +565,20 @@ pub fn same_units(
         lags,
         sizes,
         summary,
-    );
+    )?;
     check_units(
-        61, streams, target, packets, answer, numbers, lags, sizes, summary,
-    );
+        out, 61, streams, target, packets, answer, numbers, lags, sizes, summary,
+    )?;
     check_units(
-        188, streams, target, packets, answer, numbers, lags, sizes, summary,
-    );
+        out, 188, streams, target, packets, answer, numbers, lags, sizes, summary,
+    )?;
     check_units(
-        1000, streams, target, packets, answer, numbers, lags, sizes, summary,
-    );
+        out, 1000, streams, target, packets, answer, numbers, lags, sizes, summary,
+    )
 }
 
-fn cut_into(
+fn cut_into<W: Write>(
+    out: &mut W,
     cuts: Numbers,
     streams: &[u8],
     target: u64,
@@ -565,20 +587,27 @@ fn cut_into(
     lags: &mut [i64],
     sizes: &mut [u64],
     summary: &mut [u64],
-) {
+) -> Result<()> {
     let answer = units_in_pieces(
-        0, cuts, streams, target, packets, numbers, lags, sizes, summary,
-    );
-    answers::print_units(answer, numbers, lags, sizes, summary);
+        out, 0, cuts, streams, target, packets, numbers, lags, sizes, summary,
+    )?;
+    answers::print_units(out, answer, numbers, lags, sizes, summary)
 }
 
 // The rows and the units of a recording that is cut into pieces of these lengths.
-pub fn answer_cut(cuts: Numbers, streams: &[u8], target: u64, packets: &[u8]) {
+pub fn answer_cut<W: Write>(
+    out: &mut W,
+    cuts: Numbers,
+    streams: &[u8],
+    target: u64,
+    packets: &[u8],
+) -> Result<()> {
     let mut numbers = [0u64; 512];
     let mut lags = [0i64; 512];
     let mut sizes = [0u64; 512];
     let mut summary = [0u64; 2];
     cut_into(
+        out,
         cuts,
         streams,
         target,
@@ -587,5 +616,5 @@ pub fn answer_cut(cuts: Numbers, streams: &[u8], target: u64, packets: &[u8]) {
         &mut lags,
         &mut sizes,
         &mut summary,
-    );
+    )
 }

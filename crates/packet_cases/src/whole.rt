@@ -2,9 +2,11 @@
 ghost use Rattle.std.specs.Prelude.{◌≤◌};
 
 use super::{answers, pieces};
+use std::io::{Result, Write};
 
 // Lends the columns, and prints the rows.
-fn rows_into(
+fn rows_into<W: Write>(
+    out: &mut W,
     streams: &[u8],
     packets: &[u8],
     starts: &mut [u64],
@@ -13,18 +15,18 @@ fn rows_into(
     matches: &mut [u64],
     trefs: &mut [u8],
     numbers: &mut [u64],
-) {
+) -> Result<()> {
     let answer = thoquenry_packets::thq_packets_rows(
         streams, packets, starts, indices, decodings, matches, trefs, numbers,
     );
-    answers::print_rows(answer, indices, decodings, matches, trefs, numbers);
+    answers::print_rows(out, answer, indices, decodings, matches, trefs, numbers)?;
     pieces::same_rows(
-        streams, packets, answer, indices, decodings, matches, trefs, numbers,
-    );
+        out, streams, packets, answer, indices, decodings, matches, trefs, numbers,
+    )
 }
 
 // The rows, in columns of 512 places.
-pub fn answer_rows(streams: &[u8], packets: &[u8]) {
+pub fn answer_rows<W: Write>(out: &mut W, streams: &[u8], packets: &[u8]) -> Result<()> {
     let mut starts = [0u64; 512];
     let mut indices = [0u8; 512];
     let mut decodings = [0u64; 512];
@@ -32,6 +34,7 @@ pub fn answer_rows(streams: &[u8], packets: &[u8]) {
     let mut trefs = [0u8; 512];
     let mut numbers = [0u64; 512];
     rows_into(
+        out,
         streams,
         packets,
         &mut starts,
@@ -40,11 +43,12 @@ pub fn answer_rows(streams: &[u8], packets: &[u8]) {
         &mut matches,
         &mut trefs,
         &mut numbers,
-    );
+    )
 }
 
 // Lends the columns, and prints them to their ends.
-fn columns_into(
+fn columns_into<W: Write>(
+    out: &mut W,
     streams: &[u8],
     packets: &[u8],
     starts: &mut [u64],
@@ -53,15 +57,20 @@ fn columns_into(
     matches: &mut [u64],
     trefs: &mut [u8],
     numbers: &mut [u64],
-) {
+) -> Result<()> {
     let answer = thoquenry_packets::thq_packets_rows(
         streams, packets, starts, indices, decodings, matches, trefs, numbers,
     );
-    answers::print_columns(answer, indices, decodings, matches, trefs, numbers);
+    answers::print_columns(out, answer, indices, decodings, matches, trefs, numbers)
 }
 
 // The rows, in columns of so many places, each holding 170 before.
-pub fn answer_columns(places: usize, streams: &[u8], packets: &[u8])
+pub fn answer_columns<W: Write>(
+    out: &mut W,
+    places: usize,
+    streams: &[u8],
+    packets: &[u8],
+) -> Result<()>
     requires { places ≤ 64 }
 {
     let mut starts = [170u64; 64];
@@ -71,6 +80,7 @@ pub fn answer_columns(places: usize, streams: &[u8], packets: &[u8])
     let mut trefs = [170u8; 64];
     let mut numbers = [170u64; 64];
     columns_into(
+        out,
         streams,
         packets,
         &mut starts,
@@ -79,11 +89,12 @@ pub fn answer_columns(places: usize, streams: &[u8], packets: &[u8])
         &mut matches[..places],
         &mut trefs[..places],
         &mut numbers[..places],
-    );
+    )
 }
 
 // Lends the lists, and prints the units.
-fn units_into(
+fn units_into<W: Write>(
+    out: &mut W,
     streams: &[u8],
     target: u64,
     packets: &[u8],
@@ -91,23 +102,29 @@ fn units_into(
     lags: &mut [i64],
     sizes: &mut [u64],
     summary: &mut [u64],
-) {
+) -> Result<()> {
     let answer = thoquenry_packet_imports::thq_packets_import(
         streams, target, packets, numbers, lags, sizes, summary,
     );
-    answers::print_units(answer, numbers, lags, sizes, summary);
+    answers::print_units(out, answer, numbers, lags, sizes, summary)?;
     pieces::same_units(
-        streams, target, packets, answer, numbers, lags, sizes, summary,
-    );
+        out, streams, target, packets, answer, numbers, lags, sizes, summary,
+    )
 }
 
 // The units of at most 512 rows.
-pub fn answer_units(streams: &[u8], target: u64, packets: &[u8]) {
+pub fn answer_units<W: Write>(
+    out: &mut W,
+    streams: &[u8],
+    target: u64,
+    packets: &[u8],
+) -> Result<()> {
     let mut numbers = [0u64; 512];
     let mut lags = [0i64; 512];
     let mut sizes = [0u64; 512];
     let mut summary = [0u64; 2];
     units_into(
+        out,
         streams,
         target,
         packets,
@@ -115,11 +132,12 @@ pub fn answer_units(streams: &[u8], target: u64, packets: &[u8]) {
         &mut lags,
         &mut sizes,
         &mut summary,
-    );
+    )
 }
 
 // Lends the lists, and prints them to their ends.
-fn lists_into(
+fn lists_into<W: Write>(
+    out: &mut W,
     streams: &[u8],
     target: u64,
     packets: &[u8],
@@ -127,15 +145,16 @@ fn lists_into(
     lags: &mut [i64],
     sizes: &mut [u64],
     summary: &mut [u64],
-) {
+) -> Result<()> {
     let answer = thoquenry_packet_imports::thq_packets_import(
         streams, target, packets, numbers, lags, sizes, summary,
     );
-    answers::print_lists(answer, numbers, lags, sizes, summary);
+    answers::print_lists(out, answer, numbers, lags, sizes, summary)
 }
 
 // The units, in lists of so many places, each holding 170 before.
-pub fn answer_lists(
+pub fn answer_lists<W: Write>(
+    out: &mut W,
     number_places: usize,
     lag_places: usize,
     size_places: usize,
@@ -143,7 +162,7 @@ pub fn answer_lists(
     streams: &[u8],
     target: u64,
     packets: &[u8],
-)
+) -> Result<()>
     requires { (number_places ≤ 64) × (lag_places ≤ 64) × (size_places ≤ 64) × (summary_places ≤ 64) }
 {
     let mut numbers = [170u64; 64];
@@ -151,6 +170,7 @@ pub fn answer_lists(
     let mut sizes = [170u64; 64];
     let mut summary = [170u64; 64];
     lists_into(
+        out,
         streams,
         target,
         packets,
@@ -158,5 +178,5 @@ pub fn answer_lists(
         &mut lags[..lag_places],
         &mut sizes[..size_places],
         &mut summary[..summary_places],
-    );
+    )
 }

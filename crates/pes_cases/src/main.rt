@@ -7,81 +7,83 @@
 ghost use Rattle.std.specs.Prelude.{◌≤◌};
 
 use cases::{number_or, numbers_of, say, say_number};
-use libc::STDOUT_FILENO;
 use pes::{Answer, Header, Times, Written};
+use std::io::{self, Result, Write};
 
-fn say_refused(refusal: vocabulary::Refusal) {
-    say_number(b"refused ", vocabulary::number(refusal) as u64);
+fn say_refused<W: Write>(out: &mut W, refusal: vocabulary::Refusal) -> Result<()> {
+    say_number(out, b"refused ", vocabulary::number(refusal) as u64)
 }
 
-fn say_times(times: Times) {
-    say_number(b"times ", times.pts);
-    say_number(b" ", times.decoding);
-    say_number(b" ", times.matching);
+fn say_times<W: Write>(out: &mut W, times: Times) -> Result<()> {
+    say_number(out, b"times ", times.pts)?;
+    say_number(out, b" ", times.decoding)?;
+    say_number(out, b" ", times.matching)
 }
 
-fn say_header(header: Header) {
-    say_times(header.times);
+fn say_header<W: Write>(out: &mut W, header: Header) -> Result<()> {
+    say_times(out, header.times)?;
     if header.tref_sent {
-        say(b", TREF");
+        say(out, b", TREF")?;
     } else {
-        say(b", no TREF");
+        say(out, b", no TREF")?;
     }
-    say_number(b", ends at ", header.end as u64);
+    say_number(out, b", ends at ", header.end as u64)
 }
 
-fn say_byte(byte: u8) {
-    say(b" ");
-    io::print_hex(STDOUT_FILENO, byte as u64, 2);
+fn say_byte<W: Write>(out: &mut W, byte: u8) -> Result<()> {
+    write!(out, " {byte:02x}")
 }
 
-fn say_bytes(bytes: &[u8]) {
+fn say_bytes<W: Write>(out: &mut W, bytes: &[u8]) -> Result<()> {
     let mut i = 0;
     while i < bytes.len() {
-        say_byte(bytes[i]);
+        say_byte(out, bytes[i])?;
         i += 1;
     }
+    Ok(())
 }
 
 // A header, and what the reader answers.
-fn read(header: &[u8]) {
+fn read<W: Write>(out: &mut W, header: &[u8]) -> Result<()> {
     let answer = pes::read(header);
     match answer {
-        Answer::Read(header) => say_header(header),
-        Answer::Refused(refusal) => say_refused(refusal),
+        Answer::Read(header) => say_header(out, header)?,
+        Answer::Refused(refusal) => say_refused(out, refusal)?,
     }
+    Ok(())
 }
 
-fn read_header(count: usize, room: [u8; 2048])
+fn read_header<W: Write>(out: &mut W, count: usize, room: [u8; 2048]) -> Result<()>
     requires { count ≤ 2048 }
 {
-    read(&room[..count]);
+    read(out, &room[..count])
 }
 
-fn read_case(words: &[u8]) {
+fn read_case<W: Write>(out: &mut W, words: &[u8]) -> Result<()> {
     let mut room = cases::empty_room();
     let found = cases::read_bytes(words, &mut room);
     if found.readable {
-        read_header(found.count, room);
+        read_header(out, found.count, room)?;
     } else {
-        say(b"unreadable");
+        say(out, b"unreadable")?;
     }
+    Ok(())
 }
 
 // Three times, whether a TREF is asked for and a buffer, what the writer answers, and the whole buffer after it.
-fn write(times: Times, with_tref: bool, out: &mut [u8]) {
-    let written = pes::write(times, with_tref, out);
+fn write<W: Write>(out: &mut W, times: Times, with_tref: bool, buffer: &mut [u8]) -> Result<()> {
+    let written = pes::write(times, with_tref, buffer);
     match written {
-        Written::Bytes(n) => say_number(b"bytes ", n as u64),
-        Written::Refused(refusal) => say_refused(refusal),
+        Written::Bytes(n) => say_number(out, b"bytes ", n as u64)?,
+        Written::Refused(refusal) => say_refused(out, refusal)?,
     }
-    say(b" leaves");
-    say_bytes(out);
+    say(out, b" leaves")?;
+    say_bytes(out, buffer)
 }
 
-fn write_case(words: &[u8]) {
+fn write_case<W: Write>(out: &mut W, words: &[u8]) -> Result<()> {
     let numbers = numbers_of(words);
-    let mut out = [0xAAu8; 32];
+    let mut buffer = [0xAAu8; 32];
     let size = number_or(numbers, 5, 0);
     if size <= 32 {
         let end = size as usize;
@@ -90,42 +92,50 @@ fn write_case(words: &[u8]) {
             decoding: number_or(numbers, 2, 0),
             matching: number_or(numbers, 3, 0),
         };
-        write(times, number_or(numbers, 4, 0) == 1, &mut out[..end]);
+        write(
+            out,
+            times,
+            number_or(numbers, 4, 0) == 1,
+            &mut buffer[..end],
+        )?;
     }
+    Ok(())
 }
 
 // A line of the input: its name is repeated, and what stands after the colon is the case. A blank parts the two, and so the numbers of a
 // word that starts with it count from 1.
-fn answer_line(line: &[u8]) {
+fn answer_line<W: Write>(out: &mut W, line: &[u8]) -> Result<()> {
     if line.len() == 0 {
-        return;
+        return Ok(());
     }
     let name = cases::first_part(b':', line);
     let size = name.size;
     let case = name.step;
-    say(&line[..size]);
-    say(b": ");
+    say(out, &line[..size])?;
+    say(out, b": ")?;
     if line[0] == b'r' {
-        read_case(&line[case..]);
+        read_case(out, &line[case..])?;
     } else {
-        write_case(&line[case..]);
+        write_case(out, &line[case..])?;
     }
-    say(b"\n");
+    say(out, b"\n")
 }
 
-fn answer_lines(text: &[u8]) {
+fn answer_lines<W: Write>(out: &mut W, text: &[u8]) -> Result<()> {
     let mut at = 0;
     while at < text.len() {
         let rest = &text[at..];
         let line = cases::first_part(b'\n', rest);
         let size = line.size;
-        answer_line(&rest[..size]);
+        answer_line(out, &rest[..size])?;
         at += line.step;
     }
+    Ok(())
 }
 
-fn main() {
-    let mut buffer = io::large_buffer();
-    let count = cases::read_cases(&mut buffer);
-    answer_lines(&buffer[..count]);
+fn main(rt: HostRuntime) -> Result<()> {
+    let mut buffer = [0u8; 65536];
+    let mut out = io::writer(&rt);
+    let count = cases::read_cases(&mut rt.reader(), &mut out, &mut buffer)?;
+    answer_lines(&mut out, &buffer[..count])
 }

@@ -22,48 +22,49 @@ mod reading;
 mod writing;
 
 use cases::unreadable;
+use std::io::{self, Result, Write};
 
-fn answer_case(line: &[u8]) {
+fn answer_case<W: Write>(out: &mut W, line: &[u8]) -> Result<()> {
     let kind = cases::first_part(b' ', line);
     let size = kind.size;
     let step = kind.step;
     let words = &line[step..];
     if check::same(&line[..size], b"read") {
-        reading::read_case(words);
-        return;
+        return reading::read_case(out, words);
     }
     if check::same(&line[..size], b"room") {
-        reading::room_case(words);
-        return;
+        return reading::room_case(out, words);
     }
     if check::same(&line[..size], b"write") {
-        writing::write_case(words);
-        return;
+        return writing::write_case(out, words);
     }
-    unreadable();
+    unreadable(out)
 }
 
-fn answer_line(line: &[u8]) {
+fn answer_line<W: Write>(out: &mut W, line: &[u8]) -> Result<()> {
     if cases::is_comment(line) {
-        cases::copy(line);
+        cases::copy(out, line)?;
     } else {
-        answer_case(line);
+        answer_case(out, line)?;
     }
+    Ok(())
 }
 
-fn answer_lines(text: &[u8]) {
+fn answer_lines<W: Write>(out: &mut W, text: &[u8]) -> Result<()> {
     let mut at = 0;
     while at < text.len() {
         let rest = &text[at..];
         let line = cases::first_part(b'\n', rest);
         let size = line.size;
-        answer_line(&rest[..size]);
+        answer_line(out, &rest[..size])?;
         at += line.step;
     }
+    Ok(())
 }
 
-fn main() {
-    let mut buffer = io::large_buffer();
-    let count = cases::read_cases(&mut buffer);
-    answer_lines(&buffer[..count]);
+fn main(rt: HostRuntime) -> Result<()> {
+    let mut buffer = [0u8; 65536];
+    let mut out = io::writer(&rt);
+    let count = cases::read_cases(&mut rt.reader(), &mut out, &mut buffer)?;
+    answer_lines(&mut out, &buffer[..count])
 }

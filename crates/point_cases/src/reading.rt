@@ -3,9 +3,11 @@ ghost use Rattle.std.specs.Prelude.{◌≤◌};
 
 use super::answers;
 use cases::{Numbers, first_part, number_or, read_bytes, unreadable};
+use std::io::{Result, Write};
 
 // Lends the lists, and prints what is answered and what they hold then: what was written of them, or to their ends.
-fn read_into(
+fn read_into<W: Write>(
+    out: &mut W,
     to_the_end: bool,
     program: &[u8],
     bytes: &[u8],
@@ -16,7 +18,7 @@ fn read_into(
     layers: &mut [u8],
     streams: &mut [u8],
     summary: &mut [u32],
-) {
+) -> Result<()> {
     let answer = thoquenry_points::thq_read_points(
         program,
         bytes,
@@ -29,6 +31,7 @@ fn read_into(
         summary,
     );
     answers::print_read(
+        out,
         answer,
         to_the_end,
         descriptors,
@@ -38,11 +41,11 @@ fn read_into(
         layers,
         streams,
         summary,
-    );
+    )
 }
 
 // A loop of 1,008 bytes has at most 336 descriptors and 336 points, each with at most 64 streams.
-fn read_points(program: &[u8], bytes: &[u8]) {
+fn read_points<W: Write>(out: &mut W, program: &[u8], bytes: &[u8]) -> Result<()> {
     let mut descriptors = [0u32; 672];
     let mut profiles = [0u8; 1008];
     let mut points = [0u32; 4032];
@@ -51,6 +54,7 @@ fn read_points(program: &[u8], bytes: &[u8]) {
     let mut streams = [0u8; 21504];
     let mut summary = [0u32; 6];
     read_into(
+        out,
         false,
         program,
         bytes,
@@ -61,7 +65,7 @@ fn read_points(program: &[u8], bytes: &[u8]) {
         &mut layers,
         &mut streams,
         &mut summary,
-    );
+    )
 }
 
 // The places of a list.
@@ -76,7 +80,7 @@ fn places(rooms: Numbers, list: usize) -> usize
 }
 
 // Each place holds 170 before.
-fn room_points(program: &[u8], bytes: &[u8], rooms: Numbers) {
+fn room_points<W: Write>(out: &mut W, program: &[u8], bytes: &[u8], rooms: Numbers) -> Result<()> {
     let descriptor_places = places(rooms, 0);
     let profile_places = places(rooms, 1);
     let point_places = places(rooms, 2);
@@ -92,6 +96,7 @@ fn room_points(program: &[u8], bytes: &[u8], rooms: Numbers) {
     let mut streams = [170u8; 64];
     let mut summary = [170u32; 64];
     read_into(
+        out,
         true,
         program,
         bytes,
@@ -102,62 +107,73 @@ fn room_points(program: &[u8], bytes: &[u8], rooms: Numbers) {
         &mut layers[..layer_places],
         &mut streams[..stream_places],
         &mut summary[..summary_places],
-    );
+    )
 }
 
 // With the lists of a case `room`, or with such as are long enough.
-fn answer(rooms: Numbers, program: &[u8], bytes: &[u8]) {
+fn answer<W: Write>(out: &mut W, rooms: Numbers, program: &[u8], bytes: &[u8]) -> Result<()> {
     if rooms.last == 6 {
-        room_points(program, bytes, rooms);
+        room_points(out, program, bytes, rooms)?;
     } else {
-        read_points(program, bytes);
+        read_points(out, program, bytes)?;
     }
+    Ok(())
 }
 
-fn with_loop(rooms: Numbers, program: &[u8], count: usize, room: [u8; 2048])
+fn with_loop<W: Write>(
+    out: &mut W,
+    rooms: Numbers,
+    program: &[u8],
+    count: usize,
+    room: [u8; 2048],
+) -> Result<()>
     requires { count ≤ 2048 }
 {
-    answer(rooms, program, &room[..count]);
+    answer(out, rooms, program, &room[..count])
 }
 
 // The bytes of the elementary-stream loop.
-fn read_loop(rooms: Numbers, program: &[u8], words: &[u8]) {
+fn read_loop<W: Write>(out: &mut W, rooms: Numbers, program: &[u8], words: &[u8]) -> Result<()> {
     let mut room = cases::empty_room();
     let found = read_bytes(words, &mut room);
     if !found.readable {
-        unreadable();
-        return;
+        return unreadable(out);
     }
-    with_loop(rooms, program, found.count, room);
+    with_loop(out, rooms, program, found.count, room)
 }
 
-fn with_program(rooms: Numbers, count: usize, room: [u8; 2048], words: &[u8])
+fn with_program<W: Write>(
+    out: &mut W,
+    rooms: Numbers,
+    count: usize,
+    room: [u8; 2048],
+    words: &[u8],
+) -> Result<()>
     requires { count ≤ 2048 }
 {
-    read_loop(rooms, &room[..count], words);
+    read_loop(out, rooms, &room[..count], words)
 }
 
 // The bytes of the program's loop, which end at a bar, and of the other.
-fn read_program(rooms: Numbers, words: &[u8]) {
+fn read_program<W: Write>(out: &mut W, rooms: Numbers, words: &[u8]) -> Result<()> {
     let part = first_part(b'|', words);
     let size = part.size;
     let step = part.step;
     let mut room = cases::empty_room();
     let found = read_bytes(&words[..size], &mut room);
     if !found.readable {
-        unreadable();
-        return;
+        return unreadable(out);
     }
-    with_program(rooms, found.count, room, &words[step..]);
+    with_program(out, rooms, found.count, room, &words[step..])
 }
 
 // A case of lists that are long enough.
-pub fn read_case(words: &[u8]) {
+pub fn read_case<W: Write>(out: &mut W, words: &[u8]) -> Result<()> {
     let rooms = Numbers {
         last: 0,
         list: [0; 8],
     };
-    read_program(rooms, words);
+    read_program(out, rooms, words)
 }
 
 fn too_long(rooms: Numbers, list: usize) -> bool {
@@ -175,18 +191,16 @@ fn any_too_long(rooms: Numbers) -> bool {
 }
 
 // A case whose first word has the places of all seven lists.
-pub fn room_case(words: &[u8]) {
+pub fn room_case<W: Write>(out: &mut W, words: &[u8]) -> Result<()> {
     let word = first_part(b' ', words);
     let size = word.size;
     let step = word.step;
     let rooms = cases::numbers_of(&words[..size]);
     if rooms.last != 6 {
-        unreadable();
-        return;
+        return unreadable(out);
     }
     if any_too_long(rooms) {
-        unreadable();
-        return;
+        return unreadable(out);
     }
-    read_program(rooms, &words[step..]);
+    read_program(out, rooms, &words[step..])
 }

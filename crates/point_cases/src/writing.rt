@@ -3,6 +3,7 @@ ghost use Rattle.std.specs.Prelude.{◌≤◌};
 
 use super::answers;
 use cases::{Numbers, first_part, number_or, numbers_of, read_bytes, unreadable};
+use std::io::{Result, Write};
 
 // The most numbers of a case: one point more than a descriptor can have, and one more.
 const MOST: usize = 3084;
@@ -94,60 +95,95 @@ fn put_words(list: &mut [u32; 3084], words: &[u8]) -> usize
     count
 }
 
-fn write_into(profiles: &[u8], points: &[u32], references: &[u8], layers: &[u8], out: &mut [u8]) {
+fn write_into<W: Write>(
+    out: &mut W,
+    profiles: &[u8],
+    points: &[u32],
+    references: &[u8],
+    layers: &[u8],
+    buffer: &mut [u8],
+) -> Result<()> {
     let answer = thoquenry_points_written::thq_write_points(
-        profiles, points, references, layers, out,
+        profiles, points, references, layers, buffer,
     );
-    answers::print_written(answer, out);
+    answers::print_written(out, answer, buffer)
 }
 
 // Each byte of the room holds 0xAA before.
-fn write(room: usize, profiles: &[u8], points: &[u32], references: &[u8], layers: &[u8])
+fn write<W: Write>(
+    out: &mut W,
+    room: usize,
+    profiles: &[u8],
+    points: &[u32],
+    references: &[u8],
+    layers: &[u8],
+) -> Result<()>
     requires { room ≤ 300 }
 {
-    let mut out = [0xAAu8; 300];
-    write_into(profiles, points, references, layers, &mut out[..room]);
+    let mut buffer = [0xAAu8; 300];
+    write_into(
+        out,
+        profiles,
+        points,
+        references,
+        layers,
+        &mut buffer[..room],
+    )
 }
 
-fn with_layers(
+fn with_layers<W: Write>(
+    out: &mut W,
     room: usize,
     profiles: &[u8],
     points: &[u32],
     references: &[u8],
     count: usize,
     bytes: [u8; 2048],
-)
+) -> Result<()>
     requires { (room ≤ 300) × (count ≤ 2048) }
 {
-    write(room, profiles, points, references, &bytes[..count]);
+    write(out, room, profiles, points, references, &bytes[..count])
 }
 
-fn read_layers(room: usize, profiles: &[u8], points: &[u32], references: &[u8], words: &[u8])
+fn read_layers<W: Write>(
+    out: &mut W,
+    room: usize,
+    profiles: &[u8],
+    points: &[u32],
+    references: &[u8],
+    words: &[u8],
+) -> Result<()>
     requires { room ≤ 300 }
 {
     let mut bytes = cases::empty_room();
     let found = read_bytes(words, &mut bytes);
     if !found.readable {
-        unreadable();
-        return;
+        return unreadable(out);
     }
-    with_layers(room, profiles, points, references, found.count, bytes);
+    with_layers(out, room, profiles, points, references, found.count, bytes)
 }
 
-fn with_references(
+fn with_references<W: Write>(
+    out: &mut W,
     room: usize,
     profiles: &[u8],
     points: &[u32],
     count: usize,
     bytes: [u8; 2048],
     words: &[u8],
-)
+) -> Result<()>
     requires { (room ≤ 300) × (count ≤ 2048) }
 {
-    read_layers(room, profiles, points, &bytes[..count], words);
+    read_layers(out, room, profiles, points, &bytes[..count], words)
 }
 
-fn read_references(room: usize, profiles: &[u8], points: &[u32], words: &[u8])
+fn read_references<W: Write>(
+    out: &mut W,
+    room: usize,
+    profiles: &[u8],
+    points: &[u32],
+    words: &[u8],
+) -> Result<()>
     requires { room ≤ 300 }
 {
     let part = first_part(b'|', words);
@@ -156,19 +192,33 @@ fn read_references(room: usize, profiles: &[u8], points: &[u32], words: &[u8])
     let mut bytes = cases::empty_room();
     let found = read_bytes(&words[..size], &mut bytes);
     if !found.readable {
-        unreadable();
-        return;
+        return unreadable(out);
     }
-    with_references(room, profiles, points, found.count, bytes, &words[step..]);
+    with_references(
+        out,
+        room,
+        profiles,
+        points,
+        found.count,
+        bytes,
+        &words[step..],
+    )
 }
 
-fn with_points(room: usize, profiles: &[u8], count: usize, numbers: [u32; 3084], words: &[u8])
+fn with_points<W: Write>(
+    out: &mut W,
+    room: usize,
+    profiles: &[u8],
+    count: usize,
+    numbers: [u32; 3084],
+    words: &[u8],
+) -> Result<()>
     requires { (room ≤ 300) × (count ≤ 3084) }
 {
-    read_references(room, profiles, &numbers[..count], words);
+    read_references(out, room, profiles, &numbers[..count], words)
 }
 
-fn read_points(room: usize, profiles: &[u8], words: &[u8])
+fn read_points<W: Write>(out: &mut W, room: usize, profiles: &[u8], words: &[u8]) -> Result<()>
     requires { room ≤ 300 }
 {
     let part = first_part(b'|', words);
@@ -177,19 +227,24 @@ fn read_points(room: usize, profiles: &[u8], words: &[u8])
     let mut numbers = [0u32; 3084];
     let count = put_words(&mut numbers, &words[..size]);
     if MOST < count {
-        unreadable();
-        return;
+        return unreadable(out);
     }
-    with_points(room, profiles, count, numbers, &words[step..]);
+    with_points(out, room, profiles, count, numbers, &words[step..])
 }
 
-fn with_profiles(room: usize, count: usize, bytes: [u8; 2048], words: &[u8])
+fn with_profiles<W: Write>(
+    out: &mut W,
+    room: usize,
+    count: usize,
+    bytes: [u8; 2048],
+    words: &[u8],
+) -> Result<()>
     requires { (room ≤ 300) × (count ≤ 2048) }
 {
-    read_points(room, &bytes[..count], words);
+    read_points(out, room, &bytes[..count], words)
 }
 
-fn read_profiles(room: usize, words: &[u8])
+fn read_profiles<W: Write>(out: &mut W, room: usize, words: &[u8]) -> Result<()>
     requires { room ≤ 300 }
 {
     let part = first_part(b'|', words);
@@ -198,26 +253,23 @@ fn read_profiles(room: usize, words: &[u8])
     let mut bytes = cases::empty_room();
     let found = read_bytes(&words[..size], &mut bytes);
     if !found.readable {
-        unreadable();
-        return;
+        return unreadable(out);
     }
-    with_profiles(room, found.count, bytes, &words[step..]);
+    with_profiles(out, room, found.count, bytes, &words[step..])
 }
 
 // The room is the first word, of one number.
-pub fn write_case(words: &[u8]) {
+pub fn write_case<W: Write>(out: &mut W, words: &[u8]) -> Result<()> {
     let word = first_part(b' ', words);
     let size = word.size;
     let numbers = numbers_of(&words[..size]);
     if numbers.last != 0 {
-        unreadable();
-        return;
+        return unreadable(out);
     }
     let room = number_or(numbers, 0, 0);
     if 300 < room {
-        unreadable();
-        return;
+        return unreadable(out);
     }
     let step = first_part(b'|', words).step;
-    read_profiles(room as usize, &words[step..]);
+    read_profiles(out, room as usize, &words[step..])
 }

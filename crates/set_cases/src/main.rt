@@ -22,43 +22,70 @@ ghost use Rattle.std.specs.Prelude.{◌≤◌};
 mod answers;
 
 use cases::{Numbers, number_or, numbers_of, unreadable};
+use std::io::{self, Result, Write};
 
 // What is more than all numbers of an entry: a word that is none was among them.
 const WRONG: usize = 81;
 
-fn answer_empty(layers: &mut [u16], stored: &mut [u64]) {
-    answers::print_answer(thoquenry_sets::thq_set_read(2015, b"", layers, stored));
-    answers::print_set(layers, stored);
+fn answer_empty<W: Write>(out: &mut W, layers: &mut [u16], stored: &mut [u64]) -> Result<()> {
+    answers::print_answer(out, thoquenry_sets::thq_set_read(2015, b"", layers, stored))?;
+    answers::print_set(out, layers, stored)
 }
 
-fn read_set(year: u64, count: usize, room: [u8; 2048], layers: &mut [u16], stored: &mut [u64])
+fn read_set<W: Write>(
+    out: &mut W,
+    year: u64,
+    count: usize,
+    room: [u8; 2048],
+    layers: &mut [u16],
+    stored: &mut [u64],
+) -> Result<()>
     requires { count ≤ 2048 }
 {
-    answers::print_answer(thoquenry_sets::thq_set_read(year, &room[..count], layers, stored));
-    answers::print_set(layers, stored);
+    answers::print_answer(
+        out,
+        thoquenry_sets::thq_set_read(year, &room[..count], layers, stored),
+    )?;
+    answers::print_set(out, layers, stored)
 }
 
-fn answer_bytes(year: Numbers, words: &[u8], layers: &mut [u16], stored: &mut [u64]) {
+fn answer_bytes<W: Write>(
+    out: &mut W,
+    year: Numbers,
+    words: &[u8],
+    layers: &mut [u16],
+    stored: &mut [u64],
+) -> Result<()> {
     let mut room = cases::empty_room();
     let found = cases::read_bytes(words, &mut room);
     if !found.readable {
-        unreadable();
-        return;
+        return unreadable(out);
     }
-    read_set(number_or(year, 0, 0), found.count, room, layers, stored);
+    read_set(
+        out,
+        number_or(year, 0, 0),
+        found.count,
+        room,
+        layers,
+        stored,
+    )
 }
 
 // A year and the bytes of a loop.
-fn answer_loop(words: &[u8], layers: &mut [u16], stored: &mut [u64]) {
+fn answer_loop<W: Write>(
+    out: &mut W,
+    words: &[u8],
+    layers: &mut [u16],
+    stored: &mut [u64],
+) -> Result<()> {
     let word = cases::first_part(b' ', words);
     let size = word.size;
     let step = word.step;
     let year = numbers_of(&words[..size]);
     if year.last != 0 {
-        unreadable();
-        return;
+        return unreadable(out);
     }
-    answer_bytes(year, &words[step..], layers, stored);
+    answer_bytes(out, year, &words[step..], layers, stored)
 }
 
 fn narrow(number: u64) -> u16 {
@@ -98,114 +125,157 @@ fn put_words(words: &[u8], row: &mut [u16; 80]) -> usize {
     place
 }
 
-fn add_row(row: [u16; 80], layers: &mut [u16], stored: &mut [u64]) {
-    answers::print_answer(thoquenry_sets::thq_set_add(layers, stored, &row));
-    answers::print_set(layers, stored);
+fn add_row<W: Write>(
+    out: &mut W,
+    row: [u16; 80],
+    layers: &mut [u16],
+    stored: &mut [u64],
+) -> Result<()> {
+    answers::print_answer(out, thoquenry_sets::thq_set_add(layers, stored, &row))?;
+    answers::print_set(out, layers, stored)
 }
 
-fn answer_add(words: &[u8], layers: &mut [u16], stored: &mut [u64]) {
+fn answer_add<W: Write>(
+    out: &mut W,
+    words: &[u8],
+    layers: &mut [u16],
+    stored: &mut [u64],
+) -> Result<()> {
     let mut row = [0u16; 80];
     let given = put_words(words, &mut row);
     if given == WRONG {
-        unreadable();
-        return;
+        return unreadable(out);
     }
-    add_row(row, layers, stored);
+    add_row(out, row, layers, stored)
 }
 
-fn answer_remove(index: u64, layers: &mut [u16], stored: &mut [u64]) {
-    answers::print_answer(thoquenry_sets::thq_set_remove(layers, stored, index));
-    answers::print_set(layers, stored);
+fn answer_remove<W: Write>(
+    out: &mut W,
+    index: u64,
+    layers: &mut [u16],
+    stored: &mut [u64],
+) -> Result<()> {
+    answers::print_answer(out, thoquenry_sets::thq_set_remove(layers, stored, index))?;
+    answers::print_set(out, layers, stored)
 }
 
-fn answer_target(target: u64, layers: &[u16], stored: &[u64]) {
+fn answer_target<W: Write>(out: &mut W, target: u64, layers: &[u16], stored: &[u64]) -> Result<()> {
     let mut closure = [0u64; 1];
     let answer = thoquenry_sets::thq_set_closure(layers, stored, target, &mut closure);
-    answers::print_closure(answer, closure[0]);
+    answers::print_closure(out, answer, closure[0])
 }
 
 // A number put by the caller.
-fn answer_stored(place: u64, value: u64, layers: &[u16], stored: &mut [u64]) {
+fn answer_stored<W: Write>(
+    out: &mut W,
+    place: u64,
+    value: u64,
+    layers: &[u16],
+    stored: &mut [u64],
+) -> Result<()> {
     let at = place as usize;
     if stored.len() <= at {
-        unreadable();
-        return;
+        return unreadable(out);
     }
     stored[at] = value;
-    cases::say(b"stored\n");
-    answers::print_set(layers, stored);
+    cases::say(out, b"stored\n")?;
+    answers::print_set(out, layers, stored)
 }
 
 // The operations that are given one number, or two.
-fn answer_numbers(letter: u8, words: &[u8], layers: &mut [u16], stored: &mut [u64]) {
+fn answer_numbers<W: Write>(
+    out: &mut W,
+    letter: u8,
+    words: &[u8],
+    layers: &mut [u16],
+    stored: &mut [u64],
+) -> Result<()> {
     if words.len() == 0 {
-        unreadable();
-        return;
+        return unreadable(out);
     }
     let numbers = numbers_of(words);
     let first = number_or(numbers, 0, 0);
     match letter {
         b'r' => {
             if numbers.last == 0 {
-                answer_remove(first, layers, stored);
+                answer_remove(out, first, layers, stored)?;
             } else {
-                unreadable();
+                unreadable(out)?;
             }
         }
         b't' => {
             if numbers.last == 0 {
-                answer_target(first, layers, stored);
+                answer_target(out, first, layers, stored)?;
             } else {
-                unreadable();
+                unreadable(out)?;
             }
         }
         b's' => {
             if numbers.last == 1 {
-                answer_stored(first, number_or(numbers, 1, 0), layers, stored);
+                answer_stored(out, first, number_or(numbers, 1, 0), layers, stored)?;
             } else {
-                unreadable();
+                unreadable(out)?;
             }
         }
-        _ => unreadable(),
+        _ => unreadable(out)?,
     }
+    Ok(())
 }
 
-fn answer_operation(letter: u8, words: &[u8], layers: &mut [u16], stored: &mut [u64]) {
+fn answer_operation<W: Write>(
+    out: &mut W,
+    letter: u8,
+    words: &[u8],
+    layers: &mut [u16],
+    stored: &mut [u64],
+) -> Result<()> {
     match letter {
-        b'e' => answer_empty(layers, stored),
-        b'l' => answer_loop(words, layers, stored),
-        b'a' => answer_add(words, layers, stored),
-        _ => answer_numbers(letter, words, layers, stored),
+        b'e' => answer_empty(out, layers, stored)?,
+        b'l' => answer_loop(out, words, layers, stored)?,
+        b'a' => answer_add(out, words, layers, stored)?,
+        _ => answer_numbers(out, letter, words, layers, stored)?,
     }
+    Ok(())
 }
 
-fn answer_line(line: &[u8], layers: &mut [u16], stored: &mut [u64]) {
+fn answer_line<W: Write>(
+    out: &mut W,
+    line: &[u8],
+    layers: &mut [u16],
+    stored: &mut [u64],
+) -> Result<()> {
     if cases::is_comment(line) {
-        cases::copy(line);
-        return;
+        return cases::copy(out, line);
     }
     if line.len() == 0 {
-        return;
+        return Ok(());
     }
     let step = cases::first_part(b' ', line).step;
-    answer_operation(line[0], &line[step..], layers, stored);
+    answer_operation(out, line[0], &line[step..], layers, stored)
 }
 
-fn answer_lines(text: &[u8], layers: &mut [u16], stored: &mut [u64]) {
+fn answer_lines<W: Write>(
+    out: &mut W,
+    text: &[u8],
+    layers: &mut [u16],
+    stored: &mut [u64],
+) -> Result<()> {
     let mut at = 0;
     while at < text.len() {
         let rest = &text[at..];
         let line = cases::first_part(b'\n', rest);
         let size = line.size;
-        answer_line(&rest[..size], layers, stored);
+        answer_line(out, &rest[..size], layers, stored)?;
         at += line.step;
     }
+    Ok(())
 }
 
-fn main() {
-    let mut buffer = io::large_buffer();
-    let count = cases::read_cases(&mut buffer);
+fn main(rt: HostRuntime) -> Result<()> {
+    let mut buffer = [0u8; 65536];
+    let mut out = io::writer(&rt);
+    let count = cases::read_cases(&mut rt.reader(), &mut out, &mut buffer)?;
     let mut layers = [0u16; 5120];
     let mut stored = [0u64; 192];
-    answer_lines(&buffer[..count], &mut layers, &mut stored);
+    answer_lines(&mut out, &buffer[..count], &mut layers, &mut stored)
 }

@@ -26,95 +26,102 @@ mod given;
 
 use cases::unreadable;
 use given::{ROW, ROWS};
+use std::io::{self, Result, Write};
 
-fn read_loop(count: usize, room: [u8; 2048])
+fn read_loop<W: Write>(out: &mut W, count: usize, room: [u8; 2048]) -> Result<()>
     requires { count ≤ 2048 }
 {
-    answers::print_read(stereo_set::read_stereo(&room[..count]));
+    answers::print_read(out, stereo_set::read_stereo(&room[..count]))
 }
 
-fn read_case(words: &[u8]) {
+fn read_case<W: Write>(out: &mut W, words: &[u8]) -> Result<()> {
     let mut room = cases::empty_room();
     let found = cases::read_bytes(words, &mut room);
     if !found.readable {
-        unreadable();
-        return;
+        return unreadable(out);
     }
-    read_loop(found.count, room);
+    read_loop(out, found.count, room)
 }
 
-fn write(rows: &[u16], extensions: &[u16], out: &mut [u8]) {
-    answers::print_number(thoquenry_stereo::thq_write_stereo(rows, extensions, out));
-    answers::print_left(out);
+fn write<W: Write>(out: &mut W, rows: &[u16], extensions: &[u16], buffer: &mut [u8]) -> Result<()> {
+    answers::print_number(
+        out,
+        thoquenry_stereo::thq_write_stereo(rows, extensions, buffer),
+    )?;
+    answers::print_left(out, buffer)
 }
 
 // The lists cut to their lengths. A line without a room and two descriptors, or with more room than there is here, is none that can be read.
-fn write_loop(words: usize, room: u64, extensions: [u16; 16], count: usize, rows: [u16; ROWS]) {
-    let mut out = [0xAAu8; 64];
+fn write_loop<W: Write>(
+    out: &mut W,
+    words: usize,
+    room: u64,
+    extensions: [u16; 16],
+    count: usize,
+    rows: [u16; ROWS],
+) -> Result<()> {
+    let mut buffer = [0xAAu8; 64];
     if words < 3 {
-        unreadable();
-        return;
+        return unreadable(out);
     }
     if 64 < room {
-        unreadable();
-        return;
+        return unreadable(out);
     }
     if 202 < count {
-        unreadable();
-        return;
+        return unreadable(out);
     }
     let size = room as usize;
     let length = count * ROW;
-    write(&rows[..length], &extensions, &mut out[..size]);
+    write(out, &rows[..length], &extensions, &mut buffer[..size])
 }
 
-fn write_case(line: &[u8]) {
+fn write_case<W: Write>(out: &mut W, line: &[u8]) -> Result<()> {
     let given = given::read(line);
     if !given.readable {
-        unreadable();
-        return;
+        return unreadable(out);
     }
     let extensions = given.extensions;
     let rows = given.rows;
-    write_loop(given.words, given.room, extensions, given.count, rows);
+    write_loop(out, given.words, given.room, extensions, given.count, rows)
 }
 
-fn answer_case(line: &[u8]) {
+fn answer_case<W: Write>(out: &mut W, line: &[u8]) -> Result<()> {
     let kind = cases::first_part(b' ', line);
     let size = kind.size;
     let words = &line[size..];
     if check::same(&line[..size], b"read") {
-        read_case(words);
-        return;
+        return read_case(out, words);
     }
     if check::same(&line[..size], b"write") {
-        write_case(words);
-        return;
+        return write_case(out, words);
     }
-    unreadable();
+    unreadable(out)
 }
 
-fn answer_line(line: &[u8]) {
+fn answer_line<W: Write>(out: &mut W, line: &[u8]) -> Result<()> {
     if cases::is_comment(line) {
-        cases::copy(line);
+        cases::copy(out, line)?;
     } else {
-        answer_case(line);
+        answer_case(out, line)?;
     }
+    Ok(())
 }
 
-fn answer_lines(text: &[u8]) {
+fn answer_lines<W: Write>(out: &mut W, text: &[u8]) -> Result<()> {
     let mut at = 0;
     while at < text.len() {
         let rest = &text[at..];
         let line = cases::first_part(b'\n', rest);
         let size = line.size;
-        answer_line(&rest[..size]);
+        answer_line(out, &rest[..size])?;
         at += line.step;
     }
+    Ok(())
 }
 
-fn main() {
-    let mut buffer = io::large_buffer();
-    let count = cases::read_cases(&mut buffer);
-    answer_lines(&buffer[..count]);
+fn main(rt: HostRuntime) -> Result<()> {
+    let mut buffer = [0u8; 65536];
+    let mut out = io::writer(&rt);
+    let count = cases::read_cases(&mut rt.reader(), &mut out, &mut buffer)?;
+    answer_lines(&mut out, &buffer[..count])
 }

@@ -1,11 +1,7 @@
 // What is printed of a loop: its name, and its bytes in hexadecimal, or its refusal.
-use libc::STDOUT_FILENO;
 use loop_writer::Written;
+use std::io::{Result, Write};
 use vocabulary::Refusal;
-
-fn say(text: &[u8]) {
-    io::write_all(STDOUT_FILENO, text);
-}
 
 // A hexadecimal digit in ASCII.
 fn digit(n: u8) -> u8 {
@@ -16,35 +12,35 @@ fn digit(n: u8) -> u8 {
     }
 }
 
-fn show_byte(byte: u8) {
+fn show_byte<W: Write>(out: &mut W, byte: u8) -> Result<()> {
     let text = [32, digit(byte / 16), digit(byte % 16)];
-    say(&text);
+    out.write_all(&text)
 }
 
-fn show_bytes(bytes: &[u8]) {
+fn show_bytes<W: Write>(out: &mut W, bytes: &[u8]) -> Result<()> {
     let mut i = 0;
     while i < bytes.len() {
-        show_byte(bytes[i]);
+        show_byte(out, bytes[i])?;
         i += 1;
     }
+    Ok(())
 }
 
-fn show_refusal(refusal: Refusal) {
-    say(b" refused ");
-    io::print_decimal(STDOUT_FILENO, vocabulary::number(refusal) as u64);
-    say(b" entry ");
-    io::print_decimal(STDOUT_FILENO, vocabulary::place(refusal) as u64);
+fn show_refusal<W: Write>(out: &mut W, refusal: Refusal) -> Result<()> {
+    let number = vocabulary::number(refusal);
+    let place = vocabulary::place(refusal);
+    write!(out, " refused {number} entry {place}")
 }
 
-pub fn show(name: &[u8], written: Written, out: &[u8]) {
-    say(name);
+pub fn show<W: Write>(out: &mut W, name: &[u8], written: Written, buffer: &[u8]) -> Result<()> {
+    out.write_all(name)?;
     match written {
         Written::Bytes(count) => {
-            if count <= out.len() {
-                show_bytes(&out[..count]);
+            if count <= buffer.len() {
+                show_bytes(out, &buffer[..count])?;
             }
         }
-        Written::Refused(refusal) => show_refusal(refusal),
+        Written::Refused(refusal) => show_refusal(out, refusal)?,
     }
-    say(b"\n");
+    out.write_all(b"\n")
 }
