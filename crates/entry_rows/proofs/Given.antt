@@ -1,15 +1,14 @@
 -- The entries of rows as a list: the entry at a place, and that their array holds them all where there are at most 201.
 -- Assumes nothing.
 use Prim.Native.Nat.{ℕ, zero, suc, ◌-◌, ◌≤◌, ◌<◌, min}
-use mathlib.Core.Path.{◌≡◌, refl, sym, ◌∙◌, ap}
+use mathlib.Core.Path.{◌≡◌, sym, ◌∙◌, ap}
 use mathlib.Core.Bool.{false}
-use mathlib.Core.List.{List, [], ◌∷◌, ◌++◌}
+use mathlib.Core.List.{List, [], ◌∷◌}
 use native.Mathlib.Omega.{arith}
 use native.Mathlib.Decide.{dec_lt}
 use lib.ListN.{length, get_or, take, replicate, get_or-append}
 use lib.Seq.{take_at, get_or_at}
 use Rattle.combinators.specs.Below.{none_at}
-use Rattle.loop_entries.specs.declared.Entry.{Entry}
 use Rattle.loop_entries.specs.Entries.{blank_entry}
 use Rattle.loop_writer.specs.Layout.{too_wide}
 use Rattle.entry_rows.specs.Rows.{row_too_wide, entry_in, row_count, row_at, some_too_wide, entries_below, entries_in}

@@ -1,24 +1,24 @@
 -- Whether a row has a value that is too wide, from the tests that the code makes in turn; and what follows where it has none.
 -- Assumes nothing.
 use Prim.Native.Nat.{ℕ, zero, suc, ◌≤◌, ◌<◌, ◌+◌, ◌-◌, ◌*◌}
-use mathlib.Core.Path.{◌≡◌, refl, sym, ◌∙◌, ap, subst}
+use mathlib.Core.Path.{◌≡◌, refl, sym, ◌∙◌, ap}
 use mathlib.Core.Logic.{◌≢◌}
-use mathlib.Core.Bool.{Bool, true, false, not, ◌&&◌, ◌||◌, and-false, or-false}
-use mathlib.Core.List.{List, [], ◌∷◌, ◌++◌}
+use mathlib.Core.Bool.{Bool, true, false, ◌&&◌, ◌||◌, and-false, or-false}
+use mathlib.Core.List.{List, [], ◌∷◌}
 use native.Mathlib.Numerals.{add-one}
 use native.Mathlib.Omega.{arith}
 use borrow.Author.Tests.{not-false, lt-ltb, le-ltb, ltb-false, ne_eqb}
 use lib.Dec.{eqb, ltb}
 use lib.ListN.{length, get_or, take, drop, length-append}
-use Rattle.combinators.specs.Bools.{both_right, neither_left, neither_right, either_left, either_right}
+use Rattle.combinators.specs.Bools.{neither_left, neither_right, either_left, either_right}
 use Rattle.combinators.specs.Lists.{any}
-use Rattle.syntax.specs.Table.{Table, fits}
+use Rattle.syntax.specs.Table.{fits}
 use Rattle.syntax.proofs.Laws.{fits_fit}
 use Rattle.syntax.proofs.Equations.{bounds}
 use Rattle.vocabulary.specs.declared.stream_types.Reading.TheVariants.{Edition2015}
 use Rattle.hierarchy.specs.Hierarchy.{hierarchy_descriptor}
 use Rattle.extension.specs.Extension.{extension_head}
-use Rattle.entry_rows.specs.Rows.{kind_in, fields_in, list_in, record_table, entry_table, too_wide_for, layer_too_wide, row_too_wide, entry_in, row_at, entries_below}
+use Rattle.entry_rows.specs.Rows.{kind_in, fields_in, list_in, entry_table, too_wide_for, layer_too_wide, row_too_wide, entry_in, row_at, entries_below}
 
 module _ (row : List ℕ) where
   abbrev listed : Bool

@@ -1,10 +1,10 @@
 -- How long rows are: 80 numbers each; and the entry of a row, kind by kind.
 -- Assumes nothing.
-use Prim.Native.Nat.{ℕ, zero, suc, ◌+◌, ◌*◌, ◌≤◌, ◌<◌, min}
-use mathlib.Core.Path.{◌≡◌, refl, sym, ◌∙◌, ap, ap₂}
+use Prim.Native.Nat.{ℕ, ◌+◌, ◌*◌, ◌≤◌}
+use mathlib.Core.Path.{◌≡◌, refl, ◌∙◌, ap₂}
 use mathlib.Core.List.{List, [], ◌∷◌, map}
 use native.Mathlib.Omega.{arith}
-use lib.ListN.{length, get_or, take, length-append, length-map, length-take}
+use lib.ListN.{length, get_or, length-append, length-map, length-take}
 use Rattle.syntax.specs.Named.{by_names}
 use Rattle.combinators.specs.Padding.{pad_to, length_pad_to}
 use Rattle.vocabulary.specs.declared.LayerIndex.{LayerIndex}
@@ -14,7 +14,7 @@ use Rattle.vocabulary.specs.declared.stream_types.Reading.TheVariants.{Edition20
 use Rattle.hierarchy.specs.Hierarchy.{hierarchy_descriptor, hierarchy_from}
 use Rattle.extension.specs.Extension.{extension_head, no_layer, extension_from}
 use Rattle.loop_entries.specs.declared.Entry.{Entry}
-use Rattle.entry_rows.specs.Rows.{layer_number, head_of, list_of, tail_of, row_of, fields_in, list_in, layer_of, entry_in, rows_of}
+use Rattle.entry_rows.specs.Rows.{head_of, list_of, tail_of, row_of, fields_in, list_in, layer_of, entry_in, rows_of}
 
 pub head_length : (stream_type pid : ℕ) («record» : Record) → length (head_of stream_type pid «record») ≡ 16
 unfolding head_of

@@ -1,13 +1,13 @@
 -- ROUND TRIPS. The entry of an entry's row is the entry again, and the row of a row's entry is the row again, each in the other's own shape: an entry whose
 -- array has blanks beyond its list, a row with nothing in it but the fields of its entry, none too wide.
 -- Assumes nothing.
-use Prim.Native.Nat.{ℕ, zero, suc, ◌-◌, ◌≤◌, ◌<◌, min}
+use Prim.Native.Nat.{ℕ, zero, suc, ◌-◌, ◌≤◌, min}
 use mathlib.Core.Path.{◌≡◌, refl, sym, ◌∙◌, ap, ap₂, subst}
-use mathlib.Core.Bool.{Bool, true, false, cond}
+use mathlib.Core.Bool.{false, cond}
 use mathlib.Core.List.{List, [], ◌∷◌, ◌++◌, map}
 use native.Mathlib.Omega.{arith}
 use lib.Dec.{eqb}
-use lib.ListN.{length, get_or, take, drop, replicate, length-map, length-take, length-append, length-replicate, take-append-drop}
+use lib.ListN.{length, get_or, take, drop, replicate, length-map, length-take, take-append-drop}
 use lib.Seq.{take_at}
 use Rattle.syntax.specs.Named.{by_names}
 use Rattle.combinators.specs.Padding.{pad_to, length_pad_to}
@@ -22,12 +22,11 @@ use Rattle.records.specs.declared.Record.TheVariants.{NoRecord, Hierarchy, Exten
 use Rattle.hierarchy.specs.Hierarchy.{hierarchy_descriptor, hierarchy_from, hierarchy_fields}
 use Rattle.extension.specs.Extension.{extension_head, no_layer, extension_from, extension_fields}
 use Rattle.loop_entries.specs.declared.Entry.{Entry}
-use Rattle.syntax.specs.Filled.{bit_of}
 use Rattle.descriptor_heads.proofs.Bits.{bit_there}
 use Rattle.hierarchy.proofs.Payloads.{hierarchy_fields_lem}
 use Rattle.extension.proofs.Payloads.{extension_fields_lem}
 use Rattle.entry_rows.specs.Names.{names_of, picked}
-use Rattle.entry_rows.specs.Rows.{row_names, entry_table, layer_number, head_of, list_of, tail_of, row_of, kind_in, count_in, fields_in, list_in, row_too_wide, layer_of, entry_in}
+use Rattle.entry_rows.specs.Rows.{row_names, entry_table, layer_number, head_of, tail_of, row_of, kind_in, count_in, fields_in, list_in, row_too_wide, layer_of, entry_in}
 use Rattle.entry_rows.proofs.Judged.{kind_fine, within_tables}
 use Rattle.entry_rows.proofs.Laws.{hierarchy_entry, extension_entry, no_record_entry, implied_entry}
 

@@ -2,11 +2,11 @@
 -- Assumes nothing.
 use Prim.Native.Nat.{ℕ, ◌≤◌, ◌<◌}
 use mathlib.Core.Path.{◌≡◌}
-use mathlib.Core.Bool.{Bool, true, false, not}
+use mathlib.Core.Bool.{true, false}
 use mathlib.Core.List.{List, [], ◌∷◌}
 use native.Mathlib.Omega.{arith}
 use borrow.Author.Tests.{not-false, lt-ltb, le-ltb}
-use Rattle.syntax.specs.Table.{Table, fits, Fit}
+use Rattle.syntax.specs.Table.{Table}
 use Rattle.syntax.proofs.Laws.{fits_fit}
 use Rattle.syntax.proofs.Equations.{Bounds, bounds}
 use Rattle.extension.specs.Extension.{embedded_layer}

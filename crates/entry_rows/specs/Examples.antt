@@ -5,7 +5,7 @@ use Rattle.std.specs.Prelude.{ℕ, List, [], ◌∷◌, ◌++◌, ◌≡◌, ref
 use Rattle.combinators.specs.Padding.{pad_to}
 use Rattle.vocabulary.specs.declared.refusal.Refusal.TheVariants.{TypeNotAllowed}
 use Rattle.records.specs.declared.Record.{Record}
-use Rattle.records.specs.declared.Record.TheVariants.{NoRecord, Implied}
+use Rattle.records.specs.declared.Record.TheVariants.{Implied}
 use Rattle.extension.specs.Extension.{no_layer}
 use Rattle.loop_entries.specs.declared.Entry.{Entry}
 use Rattle.loop_writer.specs.Layout.{loop_bytes}

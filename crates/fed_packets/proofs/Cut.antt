@@ -14,7 +14,7 @@ use Rattle.scanning.specs.declared.events.Row.{Row}
 use Rattle.scanning.specs.Events.{packets_in, none_yet}
 use Rattle.unit_starts.specs.declared.Found.{Found}
 use Rattle.unit_starts.specs.Finding.{nothing_found, found_from, rows_from, lasts_over, found_in, rows_in}
-use Rattle.unit_starts.proofs.Running.{Parted, parted, found_then, rows_then, lasts_then, last_part}
+use Rattle.unit_starts.proofs.Running.{parted, found_then, rows_then, lasts_then, last_part}
 use Rattle.fed_packets.specs.Feeding.{Progress, at_first, packets_whole, whole_of, left_of, gone_on, fed, rows_fed, fed_all, rows_fed_all, ended_by, ended, joined_up, HoweverCut}
 
 -- ---- the bytes: those of one piece, and then those of another

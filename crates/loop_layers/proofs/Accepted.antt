@@ -2,25 +2,21 @@
 -- indices alone (9). So nothing that its entries say is lost on the way to its closures.
 -- Assumes nothing.
 use Prim.Native.Nat.{ℕ, ◌<◌}
-use mathlib.Core.Path.{◌≡◌, refl, sym, ◌∙◌, ap, ap₂, subst}
+use mathlib.Core.Path.{◌≡◌, sym, ◌∙◌, ap, ap₂, subst}
 use mathlib.Core.Bool.{Bool, true, false, cond, ◌&&◌, true≢false}
 use mathlib.Core.List.{List, [], ◌∷◌, ◌++◌, map}
 use mathlib.Core.Logic.{◌↔◌}
 use native.Mathlib.Omega.{arith}
-use borrow.Author.Tests.{eq-eqb, ltb-false, leb-false, lt-ltb}
+use borrow.Author.Tests.{eq-eqb, leb-false, lt-ltb}
 use lib.Dec.{eqb, leb, ltb}
 use lib.ListN.{length, get_or, take}
 use Rattle.combinators.specs.Below.{none_at}
 use Rattle.combinators.specs.Bools.{neither_left, either_way}
 use Rattle.combinators.specs.Lists.{Nth, nth_inside, nth_get_d, nth_of_map, gather}
-use Rattle.combinators.specs.Lowest.{lowest_number, earliest_place}
-use Rattle.combinators.proofs.Lowest.{lowest_is}
 use Rattle.combinators.specs.Members.{member, member_which}
 use Rattle.framing.specs.Pieces.{Item, whole, broken, cut}
 use Rattle.vocabulary.specs.declared.stream_types.Reading.{Reading}
 use Rattle.vocabulary.specs.declared.stream_types.Reading.TheVariants.{Edition2009, Edition2015}
-use Rattle.vocabulary.specs.declared.refusal.Refusal.{Refusal}
-use Rattle.vocabulary.specs.declared.refusal.Refusal.TheVariants.{LoopTooLong}
 use Rattle.vocabulary.specs.StreamTypes.{known}
 use Rattle.hierarchy.specs.Hierarchy.{hierarchy_of}
 use Rattle.extension.specs.Extension.{extension_of, embedded_of}

@@ -27,7 +27,7 @@ use Rattle.loop_entries.proofs.Front.{left_at, left_long}
 use Rattle.es_loop.proofs.Walk.{rest_of, Cursor, cursor_start, size_5, size_fits, marked_front, next_here}
 use Rattle.closure.specs.declared.Layers.{Layers}
 use Rattle.loop_layers.specs.declared.table.LayerTable.{LayerTable}
-use Rattle.loop_layers.specs.Layers.{place_of, present_in, column_with, column_of, embedded_in, layers_of, table_of, put_at, with_entry}
+use Rattle.loop_layers.specs.Layers.{place_of, column_with, column_of, embedded_in, layers_of, table_of, put_at, with_entry}
 use Rattle.loop_layers.proofs.Columns.{column_length}
 
 -- ---- what was laid out so far, continued over more entries

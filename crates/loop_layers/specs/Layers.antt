@@ -1,7 +1,6 @@
 -- THE LAYERS of a loop, taken from its entries: which indices are present, and by index what each layer has.
 -- Assumes nothing.
 use Rattle.std.specs.Prelude.{ℕ, cond, List, [], ◌∷◌, map, ltb, set, replicate}
-use Rattle.vocabulary.specs.declared.HierarchyChannel.{HierarchyChannel}
 use Rattle.sets.specs.Sets.{added}
 use Rattle.records.specs.Records.{channel_of, with_indices, names_of}
 use Rattle.loop_entries.specs.declared.Entry.{Entry}

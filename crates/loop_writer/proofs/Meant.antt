@@ -10,7 +10,7 @@ use lib.Dec.{eqb, ltb}
 use lib.ListN.{length, drop, get_or, take}
 use Rattle.combinators.specs.Below.{some_at, some_which}
 use Rattle.combinators.specs.Bools.{both_left, both_right, either_right, apart, both_ways, false_unless}
-use Rattle.combinators.specs.Lists.{Nth, here, nth_inside, get_d_nth, nth_map, nth_of_map, get_d_map, any, any_true, any_false, any_which, handled}
+use Rattle.combinators.specs.Lists.{Nth, nth_inside, get_d_nth, nth_map, nth_of_map, get_d_map, any, any_true, any_false, any_which, handled}
 use Rattle.combinators.specs.Lowest.{Lowest, lowest_number, earliest_place}
 use Rattle.combinators.proofs.Lowest.{lowest_number_lem, earliest_place_lem, lowest_is}
 use Rattle.syntax.specs.Table.{fits}

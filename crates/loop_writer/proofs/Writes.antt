@@ -1,16 +1,15 @@
 -- The bytes computed for entries are those that are meant, and no others are.
 -- Assumes nothing.
 use Prim.Native.Nat.{ℕ}
-use mathlib.Core.Path.{◌≡◌, refl, sym, ◌∙◌, ap, ap₂, subst}
+use mathlib.Core.Path.{◌≡◌, refl, ◌∙◌, ap, ap₂, subst}
 use mathlib.Core.Bool.{false}
 use mathlib.Core.List.{List, [], ◌∷◌, ◌++◌, map}
 use lib.ListN.{length, take}
 use Rattle.combinators.specs.Bools.{neither_left, neither_right}
 use Rattle.combinators.specs.Lists.{any, gather}
-use Rattle.syntax.specs.Table.{Sound}
 use Rattle.syntax.specs.Filled.{Filled, bytes_in, too_wide_in, Writes}
 use Rattle.syntax.proofs.NamedLaws.{written_by_meant, written_by_only}
-use Rattle.syntax.proofs.FilledLaws.{Proper, AllProper, none, one_then, NoneTooWide, none as all_fit, one_then as fit_then, bytes_of_all, writes_meant, writes_only}
+use Rattle.syntax.proofs.FilledLaws.{AllProper, none, one_then, NoneTooWide, none as all_fit, one_then as fit_then, bytes_of_all, writes_meant, writes_only}
 use Rattle.vocabulary.specs.declared.LayerIndex.{LayerIndex}
 use Rattle.records.specs.declared.Record.{Record}
 use Rattle.records.specs.declared.Record.TheVariants.{NoRecord, Hierarchy, Extension, Implied}

@@ -8,7 +8,7 @@ use mathlib.Core.List.{List, [], ◌∷◌, ◌++◌, nil≢cons, head-eq_of_con
 use native.Mathlib.Omega.{arith}
 use native.Mathlib.Nat.{not-suc-le-zero}
 use native.Mathlib.Decide.{dec_lt}
-use borrow.Author.Tests.{eq-eqb, ne_eqb, eqb-true, eqb-false}
+use borrow.Author.Tests.{eqb-true, eqb-false}
 use lib.Dec.{eqb}
 use lib.ListN.{length}
 use Rattle.combinators.specs.Lists.{Nth, here, there, nth_inside, nth_one, gather}
@@ -20,7 +20,7 @@ use Rattle.mvc_extension.specs.declared.MvcExtension.{MvcExtension}
 use Rattle.mvc_extension.specs.MvcExtension.{mvc_extension_of}
 use Rattle.mvc_descriptors.specs.declared.Found.{Found}
 use Rattle.mvc_descriptors.specs.declared.Found.TheVariants.{Missing, One, Wrong}
-use Rattle.mvc_descriptors.specs.Finding.{payload_if, payloads_of, extension_payloads, found_first, found_in, extension_in}
+use Rattle.mvc_descriptors.specs.Finding.{payloads_of, extension_payloads, found_in, extension_in}
 use Rattle.mvc_descriptors.specs.Meaning.{ExtensionAt, WrongExtension, missing, doubled, other_length, HasExtension}
 
 -- one place more before the others

@@ -14,7 +14,7 @@ use Rattle.descriptor_heads.specs.Head.{descriptor_tag, descriptor_length}
 use Rattle.descriptor_heads.proofs.Heads.{tag_alone}
 use Rattle.mvc_descriptors.specs.declared.Found.{Found}
 use Rattle.mvc_descriptors.specs.declared.Found.TheVariants.{Missing, One, Wrong}
-use Rattle.mvc_descriptors.specs.Finding.{payload_if, payloads_of, extension_payloads, found_first, found_in, found_next, found_by, found_after}
+use Rattle.mvc_descriptors.specs.Finding.{payload_if, payloads_of, extension_payloads, found_in, found_next, found_by, found_after}
 
 -- what is wrong stays so
 stays_wrong : (ps : List (List ℕ)) → found_after Wrong ps ≡ Wrong

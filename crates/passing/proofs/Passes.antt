@@ -13,7 +13,7 @@ use Rattle.framing.specs.Pieces.{Item, whole, broken}
 use Rattle.packets.specs.Reading.{packet_bytes, packet_of}
 use Rattle.packets.specs.Judging.{lost_sync}
 use Rattle.scanning.specs.declared.events.Row.{Row}
-use Rattle.scanning.specs.Events.{layers, packets_in, layer_of, on_layer, last_by, step_in, lasts_after, lasts_from, lasts_of, LastWithin, EndsWithin}
+use Rattle.scanning.specs.Events.{layers, packets_in, layer_of, on_layer, last_by, step_in, lasts_after, lasts_from, lasts_of, EndsWithin}
 use Rattle.unit_starts.specs.declared.Found.{Found}
 use Rattle.unit_starts.specs.Finding.{packet_in, found_from, rows_from, lasts_over, Walks}
 use Rattle.unit_starts.proofs.Running.{rows_counted_from}

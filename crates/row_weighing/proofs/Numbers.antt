@@ -1,17 +1,16 @@
 -- The entry of a row, as far as it is judged and sized, from the row's numbers.
 -- Assumes nothing.
 use Prim.Native.Nat.{ℕ, zero, suc, ◌+◌, ◌≤◌}
-use mathlib.Core.Path.{◌≡◌, refl, sym, ◌∙◌, ap, ap₂}
+use mathlib.Core.Path.{◌≡◌, refl, sym, ◌∙◌, ap}
 use mathlib.Core.Logic.{◌≢◌}
 use mathlib.Core.Bool.{Bool, true, false}
 use mathlib.Core.List.{List, [], ◌∷◌, map}
 use native.Mathlib.Omega.{arith}
-use lib.ListN.{length, get_or, take, drop, length-drop, length-map}
+use lib.ListN.{length, get_or, drop, length-drop, length-map}
 use lib.Seq.{length-take-le}
-use Rattle.combinators.specs.Lists.{any, first_true}
+use Rattle.combinators.specs.Lists.{first_true}
 use Rattle.combinators.specs.Padding.{pad_to, length_pad_to}
 use Rattle.syntax.specs.Named.{by_names}
-use Rattle.syntax.specs.Filled.{too_wide_in}
 use Rattle.vocabulary.specs.declared.LayerIndex.{LayerIndex}
 use Rattle.vocabulary.specs.declared.stream_types.Reading.TheVariants.{Edition2015}
 use Rattle.hierarchy.specs.declared.HierarchyRecord.{HierarchyRecord}
@@ -19,7 +18,7 @@ use Rattle.hierarchy.specs.Hierarchy.{hierarchy_descriptor, hierarchy_from}
 use Rattle.extension.specs.declared.ExtensionRecord.{ExtensionRecord}
 use Rattle.extension.specs.Extension.{extension_head, no_layer, extension_from}
 use Rattle.records.specs.declared.Record.TheVariants.{Hierarchy, Extension}
-use Rattle.records.specs.Records.{plain, hierarchy_list, record_tables}
+use Rattle.records.specs.Records.{plain, hierarchy_list}
 use Rattle.records.proofs.Naming.{padded_list}
 use Rattle.records.proofs.Sizes.{record_size_lem}
 use Rattle.judging.specs.Judging.{wrong_list, wrong_embedded}

@@ -1,23 +1,18 @@
 -- The packets of some bytes one after another: one off the front, quiet ones passed over, one part after another, and as many rows as are counted.
 -- Assumes nothing.
-use Prim.Native.Nat.{ℕ, zero, suc, ◌+◌, ◌-◌, ◌*◌, ◌/◌, ◌≤◌, ◌<◌}
+use Prim.Native.Nat.{ℕ, zero, suc, ◌+◌, ◌*◌, ◌/◌, ◌≤◌, ◌<◌}
 use mathlib.Core.Path.{◌≡◌, refl, sym, ap, ap₂, ◌∙◌}
-use mathlib.Core.Bool.{Bool, true, cond, not}
 use mathlib.Core.List.{List, [], ◌∷◌, ◌++◌, append_assoc}
 use native.Mathlib.Nat.{add-zero, zero-add, add-suc, suc-add}
-use native.Mathlib.Numerals.{add-one}
 use native.Mathlib.Omega.{arith}
-use borrow.Author.Tests.{not-true}
-use lib.ListN.{length, get_or, set, take, drop, length-drop, length-append, take-append-drop}
+use lib.ListN.{length, take, drop, length-drop, length-append, take-append-drop}
 use lib.Seq.{take_at, drop_at, drop-drop, drop-length, length-take-le}
-use Rattle.combinators.specs.Bools.{both_left, both_right}
 use Rattle.framing.specs.Pieces.{Item, whole, broken, cut_piece, cut_broken}
-use Rattle.packets.specs.Reading.{packet_bytes, packet_of}
-use Rattle.packets.specs.Judging.{lost_sync}
+use Rattle.packets.specs.Reading.{packet_bytes}
 use Rattle.scanning.specs.declared.events.Row.{Row}
 use Rattle.scanning.specs.declared.events.Event.{Event}
 use Rattle.scanning.specs.declared.events.Event.TheVariants.{Nothing, Fault, NotRead, Unit}
-use Rattle.scanning.specs.Events.{packets_in, none_yet, last_by, on_layer, step_event, layer_of, step_in, packet_event, event_of, packet_lasts, lasts_after, packet_at, PassedOver, none_yet_lem, one_more}
+use Rattle.scanning.specs.Events.{packets_in, none_yet, packet_event, event_of, packet_lasts, lasts_after, packet_at, PassedOver, none_yet_lem, one_more}
 use Rattle.unit_starts.specs.declared.Found.{Found}
 use Rattle.unit_starts.specs.Finding.{nothing_found, noted, row_in, found_from, rows_from, lasts_over, found_in, rows_in}
 

@@ -17,7 +17,7 @@ use Rattle.scanning.specs.declared.events.Event.TheVariants.{Fault}
 use Rattle.scanning.specs.Events.{packets_in, none_yet, packet_event, packet_lasts, packet_at, lasts_of, EndsWithin, Passes}
 use Rattle.unit_starts.specs.declared.Found.{Found}
 use Rattle.unit_starts.specs.Finding.{nothing_found, noted, row_in, packet_in, found_from, rows_from, lasts_over, found_in, rows_in, Walks}
-use Rattle.unit_starts.proofs.Running.{packets_from, found_from_lem, rows_from_lem, lasts_from, here, after, found_next, rows_next, lasts_next, passed, Parted, parted, found_then, rows_then, last_part, no_part, rows_noted, rows_counted_from, rows_few, one_row}
+use Rattle.unit_starts.proofs.Running.{packets_from, found_from_lem, rows_from_lem, lasts_from, after, found_next, rows_next, lasts_next, passed, Parted, parted, found_then, rows_then, last_part, no_part, rows_noted, rows_counted_from, rows_few, one_row}
 
 pub map_append : (f : Row → ℕ) (a b : List Row) → map f (a ++ b) ≡ map f a ++ map f b
 map_append f [] b = refl

@@ -1,5 +1,4 @@
 -- `unit_starts::judge` meets its contract: the walk over the whole packets, and 30 for a last part of one. Assumes nothing.
-use borrow.Author.Rules.{rules}
 use native.Mathlib.Omega.{arith}
 use Prim.Native.Nat.{◌*◌, ◌/◌, ◌≤◌}
 use mathlib.Core.Path.{sym, subst}

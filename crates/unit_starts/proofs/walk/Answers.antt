@@ -1,13 +1,13 @@
 -- `unit_starts::walk` meets its contract. The invariant: what is left, from what was found so far, gives what is found in all, and the packets of the rows so far
 -- are noted. The measure is the number of packets left. Assumes nothing.
 use native.Mathlib.Omega.{arith}
-use Prim.Native.Nat.{◌-◌, ◌/◌}
+use Prim.Native.Nat.{◌/◌}
 use mathlib.Core.Path.{ap, ◌∙◌}
 use mathlib.Core.List.{map}
 use lib.ListN.{length}
 use lib.Seq.{length-sets}
 use Rattle.unit_starts.specs.Finding.{packet_in}
-use Rattle.unit_starts.proofs.Walking.{Walking, walking_start, walking_past, walking_turn, walking_end}
+use Rattle.unit_starts.proofs.Walking.{walking_start, walking_past, walking_turn, walking_end}
 use Rattle.unit_starts.proofs.walk.Goals as goal
 
 pub loop-step-init : goal.loop-step-init

@@ -1,0 +1,14 @@
+-- `recordings::room_for` meets its contract: the least of six. Assumes nothing.
+use Prim.Native.Nat.{min}
+use mathlib.Core.Path.{ap, ◌∙◌}
+use Rattle.recordings.proofs.room_for.Goals as goal
+
+pub returns : goal.returns
+returns c =
+    let a = c.args in
+    c.lesser-5.ensures
+    ∙ ap (min a.starts)
+    (c.lesser-4.ensures
+    ∙ ap (min a.indices)
+    (c.lesser-3.ensures
+    ∙ ap (min a.decodings) (c.lesser-2.ensures ∙ ap (min a.matches) c.lesser.ensures)))
