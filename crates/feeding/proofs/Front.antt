@@ -1,8 +1,8 @@
 -- A piece that goes no further than the packet that is not whole yet: it is carried, or makes the packet whole.
 -- Assumes nothing.
-use Prim.Native.Nat.{ℕ, ◌+◌, ◌-◌, ◌*◌, ◌/◌, ◌≤◌, ◌<◌}
+use Prim.Native.Nat.{ℕ, ◌+◌, ◌-◌, ◌*◌, ◌≤◌, ◌<◌}
 use mathlib.Core.Path.{◌≡◌, refl, sym, ap, subst, ◌∙◌}
-use mathlib.Core.List.{List, [], ◌++◌, append_assoc}
+use mathlib.Core.List.{List, [], ◌++◌}
 use native.Mathlib.Omega.{arith}
 use lib.ListN.{length, take, drop, length-append, drop_of_length-le}
 use lib.Seq.{sets, sets-eq, take_at, take-nil, take-length, length-sets, length-take-le}
@@ -14,7 +14,7 @@ use Rattle.unit_starts.specs.Finding.{rows_from}
 use Rattle.unit_starts.proofs.Running.{rows_counted_from, rows_few}
 use Rattle.recording_rows.specs.Columns.{Columns}
 use Rattle.passing.specs.Passing.{stored_from, with_room, Passed}
-use Rattle.fed_packets.specs.Feeding.{Progress as Known, packets_whole, whole_of, left_of, gone_on}
+use Rattle.fed_packets.specs.Feeding.{Progress as Known, packets_whole, whole_of, left_of}
 use Rattle.fed_packets.proofs.Cut.{packets_many, none_whole, nothing_gone}
 use Rattle.feeding.specs.declared.Progress.{Progress}
 use Rattle.feeding.specs.Pieces.{known_by, Ready, Feeds}

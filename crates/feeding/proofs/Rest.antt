@@ -1,21 +1,20 @@
 -- A piece that starts where a packet does: its whole packets are passed, and what is left over is carried.
 -- Assumes nothing.
-use Prim.Native.Nat.{ℕ, ◌+◌, ◌-◌, ◌*◌, ◌/◌, ◌≤◌, ◌<◌}
-use mathlib.Core.Path.{◌≡◌, refl, sym, ap, subst, ◌∙◌}
+use Prim.Native.Nat.{ℕ, ◌+◌, ◌-◌, ◌*◌, ◌≤◌, ◌<◌}
+use mathlib.Core.Path.{◌≡◌, sym, ap, subst, ◌∙◌}
 use mathlib.Core.List.{List, [], ◌++◌}
-use native.Mathlib.Nat.{le_trans}
 use native.Mathlib.Omega.{arith}
-use lib.ListN.{length, take, drop, length-drop}
-use lib.Seq.{sets, take_at, length-sets, length-take-le}
+use lib.ListN.{length, take, length-drop}
+use lib.Seq.{sets, take_at, length-sets}
 use Rattle.buffers.proofs.Laws.{sets_over}
 use Rattle.packets.specs.Reading.{packet_bytes}
 use Rattle.scanning.specs.Events.{packets_in, lasts_of}
 use Rattle.unit_starts.specs.declared.Found.{Found}
-use Rattle.unit_starts.specs.Finding.{found_from, rows_from}
+use Rattle.unit_starts.specs.Finding.{rows_from}
 use Rattle.unit_starts.proofs.Running.{rows_counted_from, rows_few}
 use Rattle.recording_rows.specs.Columns.{Columns}
-use Rattle.passing.specs.Passing.{Held, stored_from, with_room, Passed}
-use Rattle.fed_packets.specs.Feeding.{Progress as Known, packets_whole, whole_of, left_of, gone_on, fed, rows_fed}
+use Rattle.passing.specs.Passing.{stored_from, with_room, Passed}
+use Rattle.fed_packets.specs.Feeding.{Progress as Known, packets_whole, whole_of, left_of, gone_on}
 use Rattle.fed_packets.proofs.Cut.{packets_many}
 use Rattle.feeding.specs.declared.Progress.{Progress}
 use Rattle.feeding.specs.Pieces.{known_by, Ready, Feeds}

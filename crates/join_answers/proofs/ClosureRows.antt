@@ -3,7 +3,7 @@
 use Prim.Native.Nat.{ℕ, zero, suc, ◌+◌, ◌-◌, ◌^◌, ◌≤◌, ◌<◌}
 use mathlib.Core.Bool.{Bool, true, false, cond, ◌||◌}
 use mathlib.Core.List.{List}
-use mathlib.Core.Path.{◌≡◌, refl, sym, ap, ap₂, ◌∙◌}
+use mathlib.Core.Path.{◌≡◌, refl, sym, ap, ◌∙◌}
 use native.Mathlib.Omega.{arith}
 use borrow.Author.Tests.{eqb-true}
 use lib.Dec.{eqb}
@@ -13,7 +13,7 @@ use Rattle.combinators.specs.Bools.{both_ways, false_unless}
 use Rattle.sets.specs.Sets.{has, lowest, rest}
 use Rattle.sets.proofs.Laws.{has_none}
 use Rattle.sets.proofs.Members.{has_next, lowest_small, rest_past, rest_within}
-use Rattle.row_index.specs.Index.{is_of, start_of, Starts}
+use Rattle.row_index.specs.Index.{is_of, Starts}
 use Rattle.row_index.proofs.Placing.{start_next}
 
 -- tests that never pass together are counted apart

@@ -2,12 +2,11 @@
 -- the set has not, and its PID is new.
 -- Assumes nothing.
 use Prim.Native.Nat.{ℕ, ◌≤◌, ◌<◌}
-use mathlib.Core.Bool.{Bool, true, false, not, cond}
+use mathlib.Core.Bool.{Bool, true, false, not}
 use mathlib.Core.List.{List}
-use mathlib.Core.Path.{◌≡◌, refl, sym, ap, ◌∙◌}
+use mathlib.Core.Path.{◌≡◌, refl, ap, ◌∙◌}
 use native.Mathlib.Omega.{arith}
 use lib.ListN.{get_or}
-use Rattle.combinators.specs.Below.{First}
 use Rattle.combinators.specs.Bools.{both_ways}
 use Rattle.combinators.specs.Lists.{any, first_true, first_true_lem}
 use Rattle.syntax.specs.Filled.{too_wide_in}
@@ -17,7 +16,7 @@ use Rattle.hierarchy.proofs.Widths.{hierarchy_fit}
 use Rattle.extension.proofs.Widths.{extension_fit}
 use Rattle.records.specs.declared.Record.{Record}
 use Rattle.records.specs.declared.Record.TheVariants.{NoRecord, Hierarchy, Extension, Implied}
-use Rattle.records.specs.Records.{is_layer, index_of, record_tables}
+use Rattle.records.specs.Records.{is_layer, record_tables}
 use Rattle.judging.specs.Judging.{type_not_allowed, wrong_flags, wrong_embedded}
 use Rattle.judging.specs.Meaning.{has_descriptor}
 use Rattle.sets.specs.Sets.{has}

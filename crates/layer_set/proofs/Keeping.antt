@@ -1,19 +1,18 @@
 -- EVERY CALL KEEPS THE INVARIANT: the set after adding, after removing, and after any sequence of the two.
 -- Assumes nothing.
-use Prim.Native.Nat.{ℕ, ◌^◌, ◌≤◌, ◌<◌}
+use Prim.Native.Nat.{ℕ, ◌≤◌, ◌<◌}
 use mathlib.Core.Bool.{Bool, true, false, not, cond, ◌&&◌, ◌||◌}
 use mathlib.Core.List.{List, [], ◌∷◌}
 use mathlib.Core.Logic.{◌≢◌}
 use mathlib.Core.Path.{◌≡◌, refl, sym, ap, ap₂, ◌∙◌, subst}
 use native.Mathlib.Decide.{ℕ_discrete}
-use native.Mathlib.Omega.{arith}
 use borrow.Author.Tests.{eq-eqb, ne_eqb, lt-ltb, ltb-true, ltb-false}
 use lib.Dec.{eqb, ltb}
-use lib.ListN.{length, get_or, set, length-set}
+use lib.ListN.{length, length-set}
 use lib.Seq.{get_or-set_same, get_or-set_other}
 use Rattle.combinators.specs.Below.{none_at}
 use Rattle.combinators.specs.Bools.{both_left, both_right, both_ways, either_right}
-use Rattle.sets.specs.Sets.{has, added, without, only}
+use Rattle.sets.specs.Sets.{has, only}
 use Rattle.sets.proofs.Laws.{has_added, has_without, has_only, added_within, without_within}
 use Rattle.vocabulary.specs.declared.refusal.Refusal.TheVariants.{TooWide, NoSuchLayer}
 use Rattle.records.specs.declared.Record.{Record}
@@ -31,8 +30,8 @@ use Rattle.kept_closures.proofs.Less.{removed_kept}
 use Rattle.loop_layers.specs.Layers.{place_of, embedded_in}
 use Rattle.layer_set.specs.declared.«set».LayerSet.{LayerSet}
 use Rattle.layer_set.specs.declared.changing.Changed.{Changed}
-use Rattle.layer_set.specs.Sets.{stored_in, entry_at, no_entry, held_at, pid_held, fault_of, unchanged, changed, with_layer_of, judged_add, added_to, without_layer_at, removed_from}
-use Rattle.layer_set.specs.Meaning.{Stands, At, a_layer, nothing, Places, IsSet, Change, adding, removing, after, after_all}
+use Rattle.layer_set.specs.Sets.{stored_in, entry_at, no_entry, held_at, pid_held, fault_of, unchanged, changed, with_layer_of, added_to, without_layer_at, removed_from}
+use Rattle.layer_set.specs.Meaning.{Stands, At, a_layer, nothing, IsSet, Change, adding, removing, after, after_all}
 use Rattle.layer_set.proofs.Judged.{pid_new, allowed, right_flags, index_new, right_list, described, place_small}
 use Rattle.layer_set.proofs.Stored.{kept_stored, set_kept}
 

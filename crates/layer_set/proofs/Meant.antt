@@ -1,53 +1,51 @@
 -- The laws that join the meaning to what is computed, both ways: of adding, of removing, and of the answer to a target. A set is known by its layers.
 -- Assumes nothing.
-use Prim.Native.Nat.{ℕ, ◌^◌, ◌≤◌, ◌<◌}
+use Prim.Native.Nat.{ℕ, ◌≤◌, ◌<◌}
 use mathlib.Core.Bool.{Bool, true, false, not, cond, ◌&&◌}
-use mathlib.Core.List.{List, [], ◌∷◌}
-use mathlib.Core.Logic.{◌↔◌, ◌≢◌, ◌⊎◌, inl, inr}
+use mathlib.Core.List.{List}
+use mathlib.Core.Logic.{◌↔◌, ◌≢◌}
 use mathlib.Core.Path.{◌≡◌, refl, sym, ap, ap₂, ◌∙◌, subst}
 use native.Mathlib.Decide.{ℕ_discrete, dec_lt}
 use native.Mathlib.Omega.{arith}
-use borrow.Author.Tests.{eqb-true, eq-eqb, lt-ltb, ltb-true, not-true}
+use borrow.Author.Tests.{eqb-true, eq-eqb, lt-ltb}
 use lib.Dec.{eqb, ltb}
-use lib.ListN.{length, get_or}
+use lib.ListN.{get_or}
 use lib.Seq.{ext_get_or}
-use Rattle.combinators.specs.Below.{some_which, some_at, First, first_unique}
-use Rattle.combinators.specs.Bools.{both_left, both_right, both_ways, same_test, false_unless, apart}
-use Rattle.combinators.specs.Lists.{first_true, first_true_lem, handled}
+use Rattle.combinators.specs.Below.{some_which, some_at, First}
+use Rattle.combinators.specs.Bools.{both_left, both_right, both_ways, false_unless, apart}
+use Rattle.combinators.specs.Lists.{first_true_lem, handled}
 use Rattle.sets.specs.Sets.{has}
 use Rattle.sets.proofs.Laws.{has_within, same_members}
 use Rattle.vocabulary.specs.declared.refusal.Refusal.{Refusal}
-use Rattle.vocabulary.specs.declared.refusal.Refusal.TheVariants.{TooWide, NoSuchLayer}
 use Rattle.vocabulary.specs.Refusals.{number_of, place_of as refusalPlace}
 use Rattle.records.specs.declared.Record.{Record}
 use Rattle.records.specs.declared.Record.TheVariants.{NoRecord, Hierarchy, Extension, Implied}
 use Rattle.records.specs.Records.{is_layer, index_of}
-use Rattle.judging.specs.Judging.{type_not_allowed, wrong_flags, wrong_embedded}
-use Rattle.judging.specs.Meaning.{has_descriptor, TypeNotAllowed}
+use Rattle.judging.specs.Judging.{type_not_allowed}
+use Rattle.judging.specs.Meaning.{has_descriptor}
 use Rattle.judging.proofs.Meant.{refusal_6, refusal_7, refusal_9}
 use Rattle.loop_entries.specs.declared.Entry.{Entry}
 use Rattle.loop_entries.specs.Entries.{blank_entry}
-use Rattle.loop_faults.specs.Conditions.{conditions, slot_of, refusal_of}
+use Rattle.loop_faults.specs.Conditions.{refusal_of}
 use Rattle.es_loop.proofs.Meant.{named_refusal}
 use Rattle.loop_writer.specs.Layout.{too_wide}
-use Rattle.loop_writer.specs.Verdict.{stream_for}
 use Rattle.closure.specs.declared.Layers.{Layers}
 use Rattle.closure.specs.declared.Closure.{Closure}
 use Rattle.closure.specs.Closures.{is_layer as in_layers, closure_of}
 use Rattle.closure.specs.Meaning as Target
 use Rattle.closure.proofs.Reached.{layer_below_64}
 use Rattle.closure.proofs.Meant.{closure_meant, closure_only}
-use Rattle.kept_closures.specs.Kept.{Columns, columns, layers_by, fresh_columns}
+use Rattle.kept_closures.specs.Kept.{layers_by, fresh_columns}
 use Rattle.kept_closures.proofs.Worked.{kept_only}
 use Rattle.kept_closures.proofs.Answered.{answer_kept_lem}
 use Rattle.loop_layers.specs.Layers.{place_of, embedded_in}
 use Rattle.layer_set.specs.declared.«set».LayerSet.{LayerSet}
 use Rattle.layer_set.specs.declared.changing.Changed.{Changed}
 use Rattle.layer_set.specs.Sets.{stored_in, set_with, entry_at, no_entry, held_at, pid_held, fault_of, unchanged, changed, with_layer_of, added_to, without_layer_at, removed_from, closure_in}
-use Rattle.layer_set.specs.Meaning.{Stands, At, a_layer, nothing, Places, IsSet, Layer, Condition, pid_held_lem, type_wrong, implied_mark, no_layer_lem, flags_wrong, index_held, embedded_wrong, OneMore, Adds, too_wide_lem, refuses, adds, OneLess, Removes, no_such_layer, removes}
+use Rattle.layer_set.specs.Meaning.{Stands, At, a_layer, nothing, IsSet, Layer, Condition, pid_held_lem, type_wrong, implied_mark, no_layer_lem, flags_wrong, index_held, embedded_wrong, OneMore, Adds, too_wide_lem, refuses, adds, OneLess, Removes, no_such_layer, removes}
 use Rattle.layer_set.proofs.Judged.{tests}
 use Rattle.layer_set.proofs.Stored.{set_kept}
-use Rattle.layer_set.proofs.Keeping.{small, stands, entry_here, entry_other, present_here, present_other, more_set, less_other, less_here, left_other, left_here, less_set, Added, is_wide, is_refused, is_added, added_case, Removed, is_absent, is_removed, removed_case}
+use Rattle.layer_set.proofs.Keeping.{small, stands, entry_here, entry_other, present_here, present_other, more_set, less_other, left_other, left_here, less_set, Added, is_wide, is_refused, is_added, added_case, Removed, is_absent, is_removed, removed_case}
 
 -- ---- a set is known by its entries, and they by its layers
 

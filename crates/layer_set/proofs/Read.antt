@@ -1,16 +1,16 @@
 -- A SET FROM ENTRIES: of those of an accepted loop, in either reading, and of none; and what a fresh reading gives is the set with those layers.
 -- Assumes nothing.
-use Prim.Native.Nat.{ℕ, ◌^◌, ◌≤◌, ◌<◌}
-use mathlib.Core.Bool.{Bool, true, false, not, cond, ◌&&◌}
+use Prim.Native.Nat.{ℕ, ◌<◌}
+use mathlib.Core.Bool.{Bool, true, false, not}
 use mathlib.Core.List.{List, [], map}
 use mathlib.Core.Logic.{◌↔◌}
-use mathlib.Core.Path.{◌≡◌, refl, sym, ap, ap₂, ◌∙◌, subst}
+use mathlib.Core.Path.{◌≡◌, refl, sym, ap, ◌∙◌, subst}
 use native.Mathlib.Decide.{dec_lt}
 use native.Mathlib.Nat.{not-suc-le-zero}
 use native.Mathlib.Omega.{arith}
-use borrow.Author.Tests.{eq-eqb, lt-ltb, not-false}
+use borrow.Author.Tests.{eq-eqb, not-false}
 use lib.Dec.{eqb, ltb}
-use lib.ListN.{length, get_or, length-replicate}
+use lib.ListN.{length, get_or}
 use lib.Pow.{pow_pos}
 use Rattle.combinators.specs.Below.{none_at}
 use Rattle.combinators.specs.Bools.{both_left, both_right, both_ways, false_unless}
@@ -30,17 +30,16 @@ use Rattle.loop_entries.specs.Entries.{blank_entry, no_stream, streams_of, entry
 use Rattle.loop_faults.specs.Conditions.{stream_at, pid_at}
 use Rattle.es_loop.specs.Reading.{loop_read}
 use Rattle.es_loop.proofs.Judged.{Taken, taken}
-use Rattle.closure.specs.Closures.{is_layer as in_layers}
 use Rattle.closure.proofs.Reached.{layer_below_64}
 use Rattle.kept_closures.proofs.Worked.{fresh_kept}
-use Rattle.loop_layers.specs.Layers.{place_of, embedded_in, layers_of}
+use Rattle.loop_layers.specs.Layers.{place_of, embedded_in}
 use Rattle.loop_layers.specs.Closures.{entries_read}
-use Rattle.loop_layers.specs.Meaning.{LayerAt, LayerOf, HasLayer}
+use Rattle.loop_layers.specs.Meaning.{LayerAt, LayerOf}
 use Rattle.loop_layers.proofs.Columns.{LayerOrNone, a_layer as is_layer_lem, no_layer_lem, layer_or_none, column_meant}
 use Rattle.loop_layers.proofs.Meant.{layers_meant, entries_read_lem}
-use Rattle.loop_layers.proofs.Accepted.{index_small, every_layer}
+use Rattle.loop_layers.proofs.Accepted.{every_layer}
 use Rattle.layer_set.specs.declared.«set».LayerSet.{LayerSet}
-use Rattle.layer_set.specs.Sets.{entries_by, set_of, loop_set, entry_at, no_entry}
+use Rattle.layer_set.specs.Sets.{set_of, loop_set, entry_at, no_entry}
 use Rattle.layer_set.specs.Meaning.{Stands, At, a_layer, nothing, IsSet, Layer}
 use Rattle.layer_set.proofs.Stored.{kept_stored}
 use Rattle.layer_set.proofs.Meant.{in_set, same_layers}

@@ -2,10 +2,9 @@
 -- Assumes nothing.
 use Prim.Native.Nat.{ℕ, ◌^◌, ◌≤◌, ◌<◌}
 use mathlib.Core.Bool.{Bool, true, false, not, cond, ◌&&◌}
-use mathlib.Core.Logic.{◌↔◌}
 use mathlib.Core.Path.{◌≡◌, refl, sym, ap, ap₂, ◌∙◌, subst}
 use native.Mathlib.Omega.{arith}
-use borrow.Author.Tests.{eqb-true, eqb-false, eq-eqb, not-true, not-false}
+use borrow.Author.Tests.{eqb-true, eqb-false, not-true}
 use lib.Dec.{eqb, ltb}
 use lib.ListN.{get_or}
 use Rattle.combinators.specs.Bools.{both_left, both_right, both_ways, same_test}
@@ -16,12 +15,12 @@ use Rattle.closure.specs.Closures.{is_layer, rested_on}
 use Rattle.closure.specs.Meaning.{RestsOn, Missing}
 use Rattle.closure.proofs.Reached.{member_rests_on, rests_on_member, rests_on_at_most}
 use Rattle.closure.proofs.Scan.{is_layer_lem}
-use Rattle.kept_closures.specs.Kept.{columns, fresh_of, lacks_one, FreshAt, Kept}
+use Rattle.kept_closures.specs.Kept.{lacks_one, FreshAt, Kept}
 use Rattle.kept_closures.proofs.Answered.{closure_small}
 use Rattle.kept_closures.proofs.Worked.{lacks_none}
 use Rattle.layer_set.specs.declared.«set».LayerSet.{LayerSet}
 use Rattle.layer_set.specs.Sets.{stored_in}
-use Rattle.layer_set.specs.Meaning.{Stored, of_layer_lem, of_none, Places, IsSet}
+use Rattle.layer_set.specs.Meaning.{Stored, of_layer_lem, of_none, IsSet}
 
 no_size : size 0 ≡ 0
 unfolding size

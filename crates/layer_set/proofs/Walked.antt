@@ -1,6 +1,5 @@
 -- What was placed so far, continued over the entries that are left, is the answer.
 -- Assumes nothing.
-use Prim.Native.Nat.{ℕ}
 use mathlib.Core.Path.{◌≡◌, ap}
 use mathlib.Core.List.{List, ◌∷◌}
 use Rattle.loop_entries.specs.declared.Entry.{Entry}

@@ -1,7 +1,7 @@
 -- WHAT A LAYER SET IS, and what its changes mean, in the words of document 02, W-207. proofs/Kept.antt has the laws that every call keeps it, proofs/Meant.antt those
 -- that join the changes to what is computed: the computed answer has this meaning, and no other answer has it.
 -- Assumes nothing.
-use Rattle.std.specs.Prelude.{ℕ, ◌^◌, ◌<◌, Bool, true, false, List, [], ◌∷◌, ◌↔◌, ◌≢◌, ◌≡◌, length, get_or}
+use Rattle.std.specs.Prelude.{ℕ, ◌^◌, ◌<◌, true, false, List, [], ◌∷◌, ◌↔◌, ◌≢◌, ◌≡◌, length, get_or}
 use Rattle.sets.specs.Sets.{has, size}
 use Rattle.vocabulary.specs.declared.refusal.Refusal.{Refusal}
 use Rattle.vocabulary.specs.declared.refusal.Refusal.TheVariants.{TooWide, NoSuchLayer}

@@ -19,7 +19,7 @@ use Rattle.closure.specs.declared.Closure.{Closure}
 use Rattle.closure.specs.Closures.{closure_of}
 use Rattle.loop_layers.specs.declared.table.LayerTable.{LayerTable}
 use Rattle.loop_layers.specs.Layers.{table_of}
-use Rattle.loop_layers.specs.Closures.{entries_read, loop_table}
+use Rattle.loop_layers.specs.Closures.{entries_read}
 use Rattle.loop_layers.proofs.Columns.{column_meant}
 use Rattle.loop_layers.proofs.Meant.{layers_meant}
 use Rattle.layer_set.specs.declared.«set».LayerSet.{LayerSet}

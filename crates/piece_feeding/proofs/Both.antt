@@ -1,7 +1,7 @@
 -- One half of a piece after the other: what is known goes on over both, and their rows stand one after another.
 -- Assumes nothing.
 use Prim.Native.Nat.{ℕ, zero, suc, ◌+◌, ◌-◌, ◌*◌, ◌/◌, ◌≤◌, ◌<◌, min}
-use mathlib.Core.Path.{◌≡◌, refl, sym, ap, ap₂, subst, ◌∙◌}
+use mathlib.Core.Path.{◌≡◌, sym, ap, ap₂, subst, ◌∙◌}
 use mathlib.Core.List.{List, [], ◌∷◌, ◌++◌, map, append-nil}
 use native.Mathlib.Decide.{dec_lt}
 use native.Mathlib.Omega.{arith}
@@ -12,7 +12,6 @@ use Rattle.combinators.specs.Lists.{part_to_end}
 use Rattle.packets.specs.Reading.{packet_bytes}
 use Rattle.scanning.specs.declared.events.Row.{Row}
 use Rattle.scanning.specs.Events.{packets_in}
-use Rattle.unit_starts.specs.declared.Found.{Found}
 use Rattle.unit_starts.specs.Finding.{packet_in}
 use Rattle.unit_starts.proofs.Running.{rows_counted_from}
 use Rattle.unit_starts.proofs.Walking.{map_append}

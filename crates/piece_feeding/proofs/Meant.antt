@@ -15,7 +15,7 @@ use Rattle.recording_rows.specs.Columns.{Columns}
 use Rattle.fed_packets.specs.Feeding.{Progress as Known, at_first, fed, fed_all, ended_by, ended, joined_up}
 use Rattle.fed_packets.proofs.Cut.{however_cut}
 use Rattle.feeding.specs.declared.Progress.{Progress}
-use Rattle.feeding.specs.Pieces.{known_by, Ready, Feeds}
+use Rattle.feeding.specs.Pieces.{Ready, Feeds}
 use Rattle.piece_feeding.specs.Told.{starts_with, no_ends, HasBeenFed, found_at_end}
 
 -- before the first piece

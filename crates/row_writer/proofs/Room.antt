@@ -8,7 +8,7 @@ use native.Mathlib.Omega.{arith}
 use borrow.Author.Tests.{ltb-false}
 use lib.Dec.{ltb}
 use lib.ListN.{length, get_or, take, drop, length-append, take-append-drop}
-use Rattle.combinators.specs.Lists.{gather, gather_append, gather_next}
+use Rattle.combinators.specs.Lists.{gather_append, gather_next}
 use Rattle.vocabulary.specs.declared.refusal.Refusal.TheVariants.{LoopTooLong, NoRoom}
 use Rattle.loop_entries.specs.declared.Entry.{Entry}
 use Rattle.loop_faults.specs.Conditions.{refusal_of}

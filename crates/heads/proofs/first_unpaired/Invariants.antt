@@ -1,19 +1,12 @@
 -- `heads::first_unpaired` meets its contract. The invariant: none of the rows so far is a head without an assembly. The measure is
 -- the number of rows left. Assumes nothing.
 use Prim.Native.Nat.{ℕ, ◌-◌, ◌<◌}
-use mathlib.Core.Bool.{true, false}
+use mathlib.Core.Bool.{false}
 use mathlib.Core.List.{[]}
-use mathlib.Core.Logic.{⊎_elim}
-use mathlib.Core.Path.{◌≡◌, refl, sym, ◌∙◌}
-use native.Mathlib.Omega.{arith}
-use borrow.Author.Count.{below_more}
-use borrow.Author.Rules.{rules}
-use borrow.Author.Tests.{not-true, not-false}
+use mathlib.Core.Path.{◌≡◌}
 use lib.ListN.{length}
-use Rattle.combinators.proofs.Seeking.{seek_here, seek_end}
 use Rattle.rows.specs.Table.{table}
 use Rattle.heads.specs.Units.{frame, unpaired}
-use Rattle.heads.proofs.Tested.{head_tested, head_layer, is_unpaired, no_head}
 use Rattle.heads.proofs.first_unpaired.Given as goal
 
 abbrev pub invariant-loop-row : goal.invariant-loop-row

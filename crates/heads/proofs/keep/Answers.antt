@@ -2,10 +2,8 @@
 -- The measure is the number of members left. Assumes nothing.
 use Prim.Native.Nat.{◌<◌}
 use native.Mathlib.Omega.{arith}
-use borrow.Author.Rules.{rules}
 use lib.ListN.{length}
-use Rattle.sets.specs.Sets.{members_of}
-use Rattle.heads.proofs.Marking.{Keeping, keeping_start, keeping_more, row_before, here_own, place_inside, all_cleared, all_marked, all_kept, small_layer, less_left}
+use Rattle.heads.proofs.Marking.{keeping_start, keeping_more, row_before, here_own, place_inside, all_cleared, all_marked, all_kept, small_layer, less_left}
 use Rattle.heads.proofs.keep.Goals as goal
 use Rattle.heads.proofs.keep.Goals.{After-lowest-layer}
 

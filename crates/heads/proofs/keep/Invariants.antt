@@ -1,11 +1,8 @@
 -- `heads::keep` meets its contract. The invariant, what is left of the unit marked and kept from here on, and each turn are in Marking.
 -- The measure is the number of members left. Assumes nothing.
-use Prim.Native.Nat.{◌<◌}
-use native.Mathlib.Omega.{arith}
-use borrow.Author.Rules.{rules}
 use lib.ListN.{length}
 use Rattle.sets.specs.Sets.{members_of}
-use Rattle.heads.proofs.Marking.{Keeping, keeping_start, keeping_more, row_before, here_own, place_inside, all_cleared, all_marked, all_kept, small_layer, less_left}
+use Rattle.heads.proofs.Marking.{Keeping}
 use Rattle.heads.proofs.keep.Given as goal
 
 abbrev pub invariant-loop-left : goal.invariant-loop-left

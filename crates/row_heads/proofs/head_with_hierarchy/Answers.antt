@@ -1,0 +1,8 @@
+-- `row_heads::head_with_hierarchy` meets its contract: the numbers in the order of the names, 0 for those that its table lacks.
+-- Assumes nothing.
+use Rattle.entry_rows.specs.Rows.{head_of}
+use Rattle.row_heads.proofs.head_with_hierarchy.Goals as goal
+
+pub returns : goal.returns
+unfolding head_of
+returns c = cc
