@@ -1,15 +1,14 @@
 -- Lists copied, place after place: what an array and a list of numbers then hold.
 -- Assumes nothing.
 use Prim.Native.Nat.{ℕ, ◌+◌, ◌-◌, ◌≤◌, ◌<◌}
-use mathlib.Core.Path.{◌≡◌, refl, sym, ap, ◌∙◌}
-use mathlib.Core.List.{List, [], ◌∷◌, ◌++◌, append-nil}
+use mathlib.Core.Path.{◌≡◌, sym, ap, ◌∙◌}
+use mathlib.Core.List.{List, ◌++◌, append-nil}
 use native.Mathlib.Omega.{arith}
 use native.Mathlib.Nat.{zero-add}
 use native.Mathlib.Numerals.{add-one}
-use lib.ListN.{length, get_or, set, take, drop, replicate, length-append, length-replicate, drop_of_length-le}
+use lib.ListN.{length, get_or, set, take, replicate, length-append, length-replicate, drop_of_length-le}
 use lib.Seq.{sets, take_all, take-suc, length-take-le}
 use Rattle.combinators.specs.Padding.{pad_to, store_pad_to}
-use Rattle.buffers.specs.Buffers.{over}
 use Rattle.buffers.proofs.Laws.{one_more, sets_append, sets_over}
 
 -- an array filled from the front, one number more

@@ -1,8 +1,8 @@
 -- One piece more: the lists that it leaves are a state again, and stand for what was known, gone on over the piece.
 -- Assumes nothing.
-use Prim.Native.Nat.{ℕ, zero, suc, ◌+◌, ◌-◌, ◌*◌, ◌/◌, ◌≤◌, ◌<◌}
+use Prim.Native.Nat.{ℕ, suc, ◌+◌, ◌-◌, ◌/◌, ◌≤◌, ◌<◌}
 use mathlib.Core.Path.{◌≡◌, refl, sym, ap, ap₂, subst, ◌∙◌}
-use mathlib.Core.Bool.{Bool, true, false, cond, ◌&&◌, ◌||◌}
+use mathlib.Core.Bool.{Bool, true, false, cond, ◌||◌}
 use mathlib.Core.List.{List, [], ◌∷◌, ◌++◌}
 use native.Mathlib.Decide.{dec_lt}
 use native.Mathlib.Omega.{arith}
@@ -10,7 +10,7 @@ use borrow.Author.Tests.{ltb-true, leb-true, eqb-true}
 use lib.Dec.{ltb, leb, eqb}
 use lib.ListN.{length, get_or, take, drop, length-append, length-take, length-drop, get_or-eq_default, get_or-append}
 use lib.Seq.{sets, sets-eq, take_at, drop_at, take-take, get_or-take, take-append-le, get_or-append-add, drop-append-add, length-take-le}
-use Rattle.combinators.specs.Bools.{both_left, both_right, either_way}
+use Rattle.combinators.specs.Bools.{both_left, either_way}
 use Rattle.framing.specs.Pieces.{Item}
 use Rattle.packets.specs.Reading.{packet_bytes}
 use Rattle.vocabulary.specs.Refusals.{number_of}
@@ -26,7 +26,7 @@ use Rattle.recording_rows.specs.Columns.{Columns}
 use Rattle.fed_packets.specs.Feeding.{Progress as Known, whole_of, packets_whole, fed}
 use Rattle.feeding.specs.declared.Progress.{Progress}
 use Rattle.feeding.specs.Pieces.{known_by, Ready, Feeds}
-use Rattle.packet_states.specs.States.{state_bytes, most_packets, is_state, table_in, part_in, kept_in, state_of, ends_in, progress_in, no_room_in, numbers_of, counts_of, Standing, standing, fed_on, standing_fed, no_room_after, may_feed}
+use Rattle.packet_states.specs.States.{state_bytes, most_packets, is_state, table_in, part_in, kept_in, state_of, ends_in, progress_in, no_room_in, numbers_of, counts_of, standing, standing_fed, no_room_after}
 use Rattle.packet_states.specs.Meaning.{Stated}
 use Rattle.packet_states.proofs.Judged.{a_state}
 
