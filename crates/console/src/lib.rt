@@ -46,3 +46,54 @@ pub fn looks_like_packets(bytes: &[u8]) -> bool
     }
     true
 }
+
+#[cfg(test)]
+mod tests {
+    use super::*;
+    use std::io::ErrorKind;
+
+    // Gives one byte at each of two reads, and then fails.
+    #[derive(Drop)]
+    struct Torn {
+        left: u8,
+    }
+
+    impl Read for Torn {
+        fn read(&mut self, buf: &mut [u8]) -> io::Result<usize> {
+            if self.left == 0 {
+                return Err(io::Error::from(ErrorKind::ConnectionReset));
+            }
+            if buf.is_empty() {
+                return Ok(0);
+            }
+            self.left -= 1;
+            buf[0] = b't';
+            Ok(1)
+        }
+    }
+
+    #[test]
+    fn reads_to_the_end_or_the_room(rt: HostRuntime) {
+        for (given, room, want) in [(3, 8, 3), (8, 8, 8), (9, 8, 8), (0, 8, 0), (9, 0, 0)] {
+            let bytes = *b"packets..";
+            let mut reader = &bytes[..given];
+            let mut buffer = [0u8; 8];
+            let count = read_input(&mut reader, &mut buffer[..room]);
+            assert_eq!(rt; count.ok(), Some(want), "of {given} into {room}");
+            assert!(rt; buffer[..want] == bytes[..want]);
+            assert_eq!(rt; reader.len(), given - want);
+        }
+    }
+
+    #[test]
+    fn a_read_that_fails_is_told(rt: HostRuntime) {
+        let mut buffer = [0u8; 8];
+        let failed = read_input(&mut Torn { left: 2 }, &mut buffer);
+        assert_eq!(rt;
+            failed.map_err(|e| e.kind()),
+            Err(ErrorKind::ConnectionReset)
+        );
+        let full = read_input(&mut Torn { left: 2 }, &mut buffer[..2]);
+        assert_eq!(rt; full.map_err(|e| e.kind()), Ok(2));
+    }
+}
