@@ -1,18 +1,18 @@
 -- Tests of every index, from what a loop finds; the parts of rows; and what is placed, one entry more.
 -- Assumes nothing.
-use Prim.Native.Nat.{ℕ, zero, suc, ◌+◌, ◌-◌, ◌*◌, ◌≤◌, ◌<◌}
-use mathlib.Core.Bool.{Bool, true, false, not, cond, ◌&&◌, ◌||◌}
+use Prim.Native.Nat.{ℕ, ◌+◌, ◌-◌, ◌*◌, ◌≤◌, ◌<◌}
+use mathlib.Core.Bool.{Bool, true, false, not, cond, ◌&&◌}
 use mathlib.Core.List.{List, [], ◌∷◌, ◌++◌, map, append_assoc}
 use mathlib.Core.Path.{◌≡◌, refl, sym, ap, ap₂, ◌∙◌}
 use native.Mathlib.Decide.{dec_lt, ℕ_discrete}
 use native.Mathlib.Omega.{arith}
 use borrow.Author.Tests.{lt-ltb, le-ltb, eq-eqb, ne_eqb}
-use lib.Dec.{eqb, ltb}
+use lib.Dec.{eqb}
 use lib.ListN.{length, get_or, take, drop, set, replicate, length-append, length-take, length-drop, length-replicate}
 use lib.Seq.{take_at, take_all, set_out, length-take-le, get_or-set_same, get_or-set_other}
 use Rattle.combinators.specs.Below.{every, every_at}
 use Rattle.combinators.specs.Bools.{both_ways, false_unless}
-use Rattle.combinators.specs.Lists.{gather, gather_append, gather_next}
+use Rattle.combinators.specs.Lists.{gather_next}
 use Rattle.sets.specs.Sets.{added}
 use Rattle.records.specs.Records.{with_indices}
 use Rattle.loop_entries.specs.declared.Entry.{Entry}
@@ -21,10 +21,9 @@ use Rattle.implied.specs.Rule.{given}
 use Rattle.judging.specs.Judging.{type_not_allowed, wrong_flags, wrong_embedded}
 use Rattle.loop_faults.specs.Conditions.{slot_of}
 use Rattle.entry_rows.specs.Rows.{row_at, some_too_wide, row_of, rows_of, entry_in}
-use Rattle.entry_rows.proofs.Laws.{row_length, rows_length}
-use Rattle.loop_layers.specs.Layers.{place_of, column_with, column_of, embedded_in, layers_of, put_at}
+use Rattle.entry_rows.proofs.Laws.{row_length}
+use Rattle.loop_layers.specs.Layers.{place_of, column_with, column_of, embedded_in, put_at}
 use Rattle.loop_layers.proofs.Columns.{column_length}
-use Rattle.layer_set.specs.declared.«set».Placed.{Placed}
 use Rattle.layer_set.specs.Sets.{entries_by, placed_of, placed_next, no_entry}
 use Rattle.layer_set_rows.specs.Buffers.{wrong_at, right_at, same_numbers, row_right, pid_again, row_fine, rows_right, rows_hold}
 

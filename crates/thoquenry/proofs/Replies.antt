@@ -1,16 +1,14 @@
 -- From what a function's code found to its reply, answer and buffer together.
 -- Assumes nothing.
-use Prim.Native.Nat.{ℕ, ◌+◌, ◌-◌, ◌*◌, ◌≤◌, ◌<◌}
-use mathlib.Core.Path.{◌≡◌, refl, sym, ◌∙◌, ap, ap₂}
+use Prim.Native.Nat.{ℕ, ◌-◌, ◌*◌, ◌≤◌, ◌<◌}
+use mathlib.Core.Path.{◌≡◌, sym, ap, ap₂}
 use mathlib.Core.Bool.{Bool, true, false, cond}
 use mathlib.Core.List.{List, map}
-use native.Mathlib.Numerals.{add-one}
 use native.Mathlib.Omega.{arith}
 use borrow.Author.Tests.{lt-ltb, le-ltb}
 use lib.Dec.{ltb}
-use lib.ListN.{length, get_or, set, take, replicate, length-map}
-use lib.Seq.{take-suc, take_at, length-take-le}
-use Rattle.combinators.specs.Padding.{pad_to, store_pad_to}
+use lib.ListN.{length, replicate, length-map}
+use lib.Seq.{take_at}
 use Rattle.vocabulary.specs.declared.refusal.Refusal.TheVariants.{NoRoom, TooWide}
 use Rattle.vocabulary.specs.declared.stream_types.Reading.{Reading}
 use Rattle.loop_entries.specs.declared.Entry.{Entry}

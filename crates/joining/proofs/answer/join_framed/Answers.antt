@@ -5,7 +5,6 @@ use Prim.Native.Nat.{◌≤◌}
 use mathlib.Core.Bool.{false}
 use mathlib.Core.Path.{◌≡◌, refl, sym, ◌∙◌, ap}
 use native.Mathlib.Omega.{arith}
-use borrow.Author.Rules.{rules}
 use lib.ListN.{length}
 use Rattle.rows.specs.Table.{Table, table}
 use Rattle.spans.specs.Spans.{wide_span}

@@ -2,7 +2,6 @@
 -- may be. Assumes nothing.
 use Prim.Native.Nat.{ℕ}
 use mathlib.Core.Path.{refl, sym, ◌∙◌, ap}
-use borrow.Author.Rules.{rules}
 use lib.ListN.{length}
 use Rattle.closure.specs.Closures.{closure_of}
 use Rattle.rows.specs.Table.{table}

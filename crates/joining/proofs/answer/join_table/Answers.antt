@@ -1,7 +1,6 @@
 -- `joining::answer::join_table` meets its contract: each arm is a case of the definition by the verdict on the table.
 -- Assumes nothing.
 use mathlib.Core.Path.{refl, sym, ◌∙◌, ap}
-use borrow.Author.Rules.{rules}
 use Rattle.rows.specs.Table.{Table, table}
 use Rattle.rows.proofs.Verdicts.{sound, shape_short}
 use Rattle.heads.proofs.Orderly.{orderly_by}

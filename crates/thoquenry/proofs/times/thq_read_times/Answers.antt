@@ -1,0 +1,55 @@
+-- `times::thq_read_times` meets its contract: 17 first, and then the reader's answer.
+-- Assumes nothing.
+use Prim.Native.Nat.{ℕ}
+use mathlib.Core.Path.{sym, ◌∙◌, ap}
+use mathlib.Core.List.{[], ◌∷◌}
+use lib.ListN.{length-set}
+use Rattle.pes_reader.specs.declared.Answer.{Answer}
+use Rattle.pes_reader.specs.Reading.{read_of}
+use Rattle.buffers.specs.Buffers.{over}
+use Rattle.buffers.proofs.Laws.{sets_over}
+use Rattle.thoquenry.specs.Times.{times_read}
+use Rattle.thoquenry.proofs.Replies.{answers, buffers, no_room, has_room}
+use native.Mathlib.Omega.{arith}
+use Rattle.thoquenry.proofs.times.thq_read_times.Goals as goal
+
+pub returns-then-times-lt5 : goal.returns-then-times-lt5
+returns-then-times-lt5 c =
+    let a = c.args in
+    let same = no_room 5 a.times.now (times_read (read_of a.bytes.now) a.times.now) c.if-times-lt5.true in record {
+      answer = c.refused.ensures ∙ answers same;
+      content = buffers same;
+    }
+
+pub bounds-times-1 : goal.bounds-times-1
+bounds-times-1 c = simp length-set (omega arith)
+
+pub bounds-times-2 : goal.bounds-times-2
+bounds-times-2 c = simp length-set (omega arith)
+
+pub bounds-times-3 : goal.bounds-times-3
+bounds-times-3 c = simp length-set (omega arith)
+
+pub returns-in-Read : goal.returns-in-Read
+returns-in-Read c =
+    let a = c.args in
+    let room = c.if-times-lt5.false in
+    let same =
+    ap (λ (r : Answer). times_read r a.times.now) (sym c.in-Read.is ∙ c.read-read.ensures)
+    ∙ has_room 5 a.times.now (times_read (read_of a.bytes.now) a.times.now) room in
+    let header = c.in-Read.header in record {
+      answer = c.accepted.ensures ∙ answers same;
+      content = sets_over (header.times.pts ∷ header.times.decoding ∷ header.times.matching ∷ c.bit.result ∷ header.end ∷ []) a.times.now room
+          ∙ ap (λ (sent : ℕ). over (header.times.pts ∷ header.times.decoding ∷ header.times.matching ∷ sent ∷ header.end ∷ []) a.times.now) c.bit.ensures
+          ∙ buffers same;
+    }
+
+pub returns-in-Refused : goal.returns-in-Refused
+returns-in-Refused c =
+    let a = c.args in
+    let same =
+    ap (λ (r : Answer). times_read r a.times.now) (sym c.in-Refused.is ∙ c.read-read.ensures)
+    ∙ has_room 5 a.times.now (times_read (read_of a.bytes.now) a.times.now) c.if-times-lt5.false in record {
+      answer = c.refused-in-Refused.ensures ∙ answers same;
+      content = buffers same;
+    }
