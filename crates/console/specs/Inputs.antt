@@ -1,15 +1,12 @@
 -- What an input came to, and what looks like a recording.
 -- Assumes nothing.
-use Rattle.std.specs.Prelude.{ℕ, ◌+◌, ◌-◌, ◌*◌, ◌/◌, Bool, ◌&&◌, not, List, eqb, ltb, get_or, length}
+use Rattle.std.specs.Prelude.{ℕ, ◌+◌, ◌-◌, ◌*◌, ◌/◌, Bool, ◌&&◌, not, List, eqb, ltb, get_or, length, Result, IfOk}
 use Rattle.combinators.specs.Below.{every}
 use Rattle.io.specs.Counts.{IsPrefixLen}
-use Rattle.console.specs.declared.Input.{Input}
-use Rattle.console.specs.declared.Input.TheVariants.{Bytes, Failed}
 
--- the bytes that were read stand at the start of the buffer
-abbrev pub Counted : Input → List ℕ → Type 0
-Counted (Bytes count) buffer = IsPrefixLen count buffer
-Counted Failed buffer = Unit {0}
+-- the bytes that were read stand at the start of the buffer; of a read that failed nothing is said
+abbrev pub Counted : {E : Type 0} → Result ℕ E → List ℕ → Type 0
+Counted read buffer = IfOk read (λ count. IsPrefixLen count buffer)
 
 -- A packet of a transport stream has 188 bytes, of which the first is sync_byte, 0x47.
 abbrev pub starts_packet : List ℕ → ℕ → Bool

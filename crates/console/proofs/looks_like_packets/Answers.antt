@@ -1,6 +1,6 @@
 -- `console::looks_like_packets` meets its contract. The loop's invariant: every packet passed starts with the sync byte.
 -- Assumes nothing.
-use Prim.Native.Nat.{ℕ, ◌≤◌, ◌<◌, ◌-◌}
+use Prim.Native.Nat.{ℕ, ◌<◌}
 use mathlib.Core.Bool.{Bool, true, false}
 use mathlib.Core.List.{List}
 use mathlib.Core.Path.{◌≡◌, refl}
@@ -26,16 +26,16 @@ returns-then-bytes-lt188 c = rw (lt-ltb _ _ c.if-bytes-lt188.true)
 pub loop-k-init : goal.loop-k-init
 loop-k-init c = (omega arith, refl)
 
-pub returns-then-bytes-k-ne71 : goal.returns-then-bytes-k-ne71
-returns-then-bytes-k-ne71 c =
+pub returns-then-bytes-k-ne-SYNC_BYTE : goal.returns-then-bytes-k-ne-SYNC_BYTE
+returns-then-bytes-k-ne-SYNC_BYTE c =
     let bytes = c.args.bytes.now in
     let k = c.loop-k.k in
-    rw (le-ltb _ _ c.if-bytes-lt188.false, not_every bytes k (packets_in bytes) (ne_eqb _ _ c.if-bytes-k-ne71.true) (omega arith))
+    rw (le-ltb _ _ c.if-bytes-lt188.false, not_every bytes k (packets_in bytes) (ne_eqb _ _ c.if-bytes-k-ne-SYNC_BYTE.true) (omega arith))
 
 pub loop-k-preserved : goal.loop-k-preserved
 loop-k-preserved c =
     let k = c.loop-k.k in
-    (omega arith, rw (add-one k, c.loop-k.invariant.1, eq-eqb _ _ c.if-bytes-k-ne71.false))
+    (omega arith, rw (add-one k, c.loop-k.invariant.1, eq-eqb _ _ c.if-bytes-k-ne-SYNC_BYTE.false))
 
 pub returns : goal.returns
 returns c =

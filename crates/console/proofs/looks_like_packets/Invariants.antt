@@ -1,15 +1,10 @@
 -- `console::looks_like_packets` meets its contract. The loop's invariant: every packet passed starts with the sync byte.
 -- Assumes nothing.
-use Prim.Native.Nat.{ℕ, ◌≤◌, ◌<◌, ◌-◌}
-use mathlib.Core.Bool.{Bool, true, false}
-use mathlib.Core.List.{List}
-use mathlib.Core.Path.{◌≡◌, refl}
-use native.Mathlib.Omega.{arith}
-use native.Mathlib.Numerals.{add-one}
-use borrow.Author.Tests.{eq-eqb, ne_eqb, lt-ltb, le-ltb}
-use Rattle.combinators.specs.Below.{every, every_at}
-use Rattle.combinators.specs.Bools.{both_ways}
-use Rattle.console.specs.Inputs.{starts_packet, packets_in}
+use Prim.Native.Nat.{◌≤◌, ◌-◌}
+use mathlib.Core.Bool.{true}
+use mathlib.Core.Path.{◌≡◌}
+use Rattle.combinators.specs.Below.{every}
+use Rattle.console.specs.Inputs.{starts_packet}
 use Rattle.console.proofs.looks_like_packets.Given as goal
 
 abbrev pub invariant-loop-k : goal.invariant-loop-k

@@ -1,29 +1,34 @@
--- `console::read_input` meets its contract. The loop's invariant: what was read so far lies within the buffer, which keeps its length. The
--- measure is the room that is left.
--- Assumes nothing.
-use Prim.Native.Nat.{◌≤◌, ◌-◌}
-use mathlib.Core.Path.{◌≡◌, subst}
-use lib.ListN.{length}
-use native.Mathlib.Omega.{arith}
-use borrow.Author.Rules.{rules}
-use Rattle.io.proofs.Counting.{prefix_len_of_le}
-use Rattle.console.specs.Inputs.{Counted}
+-- One read more: what it gave stands behind what stood in the buffer.
+use Rattle.std.proofs.Common.{◌≡◌, ℕ, ◌+◌, ◌-◌, ◌≤◌, List, ◌++◌, rules, arith, length, take, slice_range, sym, ap, ◌∙◌, subst, le_refl, drop_at, length-take-le}
+use Rattle.std.proofs.lemmas.Slice.{take-put_mid_below}
+use Rattle.std.specs.Io.KnownBytes.{Consumes}
+use Rattle.std.proofs.KnownBytes.{Consumes-trans}
+use borrow.Rule.Slice.PartMut.{put_mid, post_of}
+use lib.Seq.{take-add, take-append-le}
 use Rattle.console.proofs.read_input.Goals as goal
 
-pub returns-then-more-eq0 : goal.returns-then-more-eq0
-returns-then-more-eq0 c = prefix_len_of_le _ _ (omega arith)
+take_split : (a b : ℕ) (old new : List ℕ) → a ≤ b → take a new ≡ take a old → take a old ++ slice_range new a b ≡ take b new
+take_split a b old new h front =
+    let same : a + (b - a) ≡ b = omega arith in
+    ap (λ l. l ++ slice_range new a b) (sym front) ∙ sym (take-add a (b - a) new) ∙ ap (λ n. take n new) same
 
-pub overflow_add-done : goal.overflow_add-done
-overflow_add-done c =
-    let read = c.read_some-some in
-    let more = subst (λ o. Counted o read.new.buf) c.in-Bytes.is read.ensures in
-    omega (arith, more.0)
+slice_range-put_mid : (a k n : ℕ) (xs ys : List ℕ) → a ≤ length xs → n ≤ length ys → slice_range (put_mid a k xs ys) a (a + n) ≡ take n ys
+slice_range-put_mid a k n xs ys within fits =
+    let same : (a + n) - a ≡ n = omega arith in
+    let after = post_of a k xs in
+    ap (take ((a + n) - a)) (drop_at (take a xs) (ys ++ after) a (length-take-le a xs within)) ∙ ap (λ m. take m (ys ++ after)) same ∙ take-append-le n ys after fits
 
 pub loop-done-preserved : goal.loop-done-preserved
-loop-done-preserved c =
-    let read = c.read_some-some in
-    let more = subst (λ o. Counted o read.new.buf) c.in-Bytes.is read.ensures in
-    (omega (arith, more.0), omega arith)
-
-pub returns : goal.returns
-returns c = prefix_len_of_le _ _ c.loop-done.invariant.0
+loop-done-preserved g c =
+    let from = c.loop-done.done in
+    let more = c.in_ok-more.more in
+    let room = length c.loop-done.buf - from in
+    let within = c.loop-done.invariant.within in
+    let part = slice_range-put_mid from room more c.loop-done.buf c.read.new.buf within c.in_ok-more.ensures.bound.0 in
+    let joined = take_split from (from + more) c.loop-done.buf (put_mid from room c.loop-done.buf c.read.new.buf) (omega arith) (take-put_mid_below _ _ _ _ _ (le_refl _) within) in
+    record {
+      within = search rules;
+      same_length = search rules;
+      given = subst (Consumes _ _) (ap (λ l. take from c.loop-done.buf ++ l) (sym part) ∙ joined)
+          (Consumes-trans _ _ _ _ _ c.loop-done.invariant.given c.in_ok-more.ensures.bytes.0);
+    }
