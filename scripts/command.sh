@@ -1,6 +1,6 @@
 # shellcheck shell=sh
 # What the commands share: `layers`, and each further one that runs a program of the same name. A command sets `command` (its name) and `here`
-# (its folder), and then calls these functions. They give an exit status, which the programs themselves cannot:
+# (its folder), and then calls these functions. They give an exit status, which the programs themselves, that end with 0 in any case, do not:
 #
 #     0  accepted      1  refused      2  wrong use, an input that cannot be read, an output that cannot be written, or no program to run
 #
@@ -30,14 +30,25 @@ take_input() {
     exec <"$1" || wrong "$1: this file cannot be opened"
 }
 
+# Takes a file beside standard input: `second` is a path by which a program opens it. Such a path is UTF-8, so that the file is opened here, as
+# descriptor 3, and the path is that descriptor's. But a named pipe has one reader, who waits for what is written to it: the program opens it itself.
+take_second() {
+    may_be_read "$1"
+    second=$(readlink -f -- "$1")
+    [ ! -p "$second" ] || return 0
+    exec 3<"$1" || wrong "$1: this file cannot be opened"
+    second=/dev/fd/3
+}
+
 # Makes sure that there is a program to run, of this name or the command's.
 have_program() {
     name=${1:-$command}
     [ -f "$here/crates.txt" ] || return 0
-    if ! "$here/scripts/up-to-date" "$here/target/bin/$name" "$name"; then
+    built=$here/crates/$name/out/$name
+    if ! "$here/scripts/up-to-date" "$built" "$name"; then
         "$here/scripts/prove" "$name" </dev/null || wrong "the program could not be proved and built"
         # What has not changed is not built again; now it is newer than its sources.
-        touch "$here/target/bin/$name"
+        touch "$built"
     fi
 }
 

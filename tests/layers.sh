@@ -82,9 +82,10 @@ expect "a text cut short" 2 - "standard output cannot be written" sh -c "$limite
 # ---- from elsewhere, by a link, as another user, in a clone that cannot be written, without the kit
 ln -s "$root/layers" "$work/by-link"
 expect "by a link, from /" 0 tests/layers/loop-a.txt "" sh -c "cd / && '$work/by-link' '$root/$a'"
-mkdir "$work/clone" "$work/clone/target" "$work/clone/target/bin"
-cp -a crates crates.txt include layers samples scripts words "$work/clone"
-cp -a target/bin/layers "$work/clone/target/bin/layers"
+mkdir "$work/clone"
+tar -cf - --exclude='crates/*/out' crates crates.txt include layers samples scripts words | tar -xf - -C "$work/clone"
+mkdir "$work/clone/crates/layers/out"
+cp -a crates/layers/out/layers "$work/clone/crates/layers/out"
 cp "$a" "$work/closed.bin"
 chmod 0 "$work/closed.bin"
 chmod -R a-w,go+rX "$work/clone"

@@ -87,9 +87,9 @@ expect "a directory as standard input" 2 - "standard input cannot be read: Is a 
 expect "a directory as the descriptors" 2 - "descriptor 3 cannot be read: Is a directory" sh -c "./points - $streams <samples"
 expect "standard input closed" 2 - "standard input cannot be read: Bad file descriptor" sh -c "./points $views <&-"
 expect "standard output full" 2 - "standard output cannot be written" sh -c "./points $views $streams >/dev/full"
-expect "the program, descriptor 3 closed" 0 - "descriptor 3 cannot be read" sh -c "scripts/run points <$streams 3<&-"
-expect "the program, standard input closed" 0 - "standard input cannot be read" sh -c "scripts/run points 3<$views <&-"
-expect "the program, standard output full" 0 - "standard output was not written whole" sh -c "scripts/run points <$streams 3<$views >/dev/full"
-expect "the program, a word" 0 - "it takes no argument" sh -c "scripts/run points 2015 <$streams 3<$views"
+expect "the program, descriptor 3 closed" 0 - "descriptor 3 cannot be read" sh -c "scripts/run points /dev/fd/3 <$streams 3<&-"
+expect "the program, standard input closed" 0 - "standard input cannot be read" sh -c "scripts/run points /dev/fd/3 3<$views <&-"
+expect "the program, standard output full" 0 - "standard output was not written whole" sh -c "scripts/run points /dev/fd/3 <$streams 3<$views >/dev/full"
+expect "the program, a word" 0 - "it takes no argument" sh -c "scripts/run points /dev/fd/3 - 2015 <$streams 3<$views"
 
 conclude

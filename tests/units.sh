@@ -120,9 +120,9 @@ expect "standard output full" 2 - "standard output was not written whole" sh -c 
 expect "standard output full, of a refusal" 2 - "standard output was not written whole" sh -c "./units 1 $loop $recordings/late.ts >/dev/full"
 expect "standard output full, of many units" 2 - "standard output was not written whole" sh -c "./units 0 $loop '$work/many.ts' >/dev/full"
 expect "standard output closed" 2 - "standard output cannot be written" sh -c "./units 1 $loop $example >&-"
-expect "the program, descriptor 3 closed" 0 - "descriptor 3 cannot be read" sh -c "scripts/run units 1 <$example 3<&-"
-expect "the program, standard input closed" 0 - "standard input cannot be read" sh -c "scripts/run units 1 3<$loop <&-"
-expect "the program, standard output full" 0 - "standard output was not written whole" sh -c "scripts/run units 1 <$example 3<$loop >/dev/full"
+expect "the program, descriptor 3 closed" 0 - "descriptor 3 cannot be read" sh -c "scripts/run units 1 /dev/fd/3 <$example 3<&-"
+expect "the program, standard input closed" 0 - "standard input cannot be read" sh -c "scripts/run units 1 /dev/fd/3 3<$loop <&-"
+expect "the program, standard output full" 0 - "standard output was not written whole" sh -c "scripts/run units 1 /dev/fd/3 <$example 3<$loop >/dev/full"
 expect "the program, no target" 0 - "the target is a decimal number" sh -c "scripts/run units <$example 3<$loop"
 
 conclude

@@ -1,64 +1,107 @@
-// Reads the program's own descriptor loop of a program map section on descriptor 3 and the elementary-stream loop on standard input, and writes the operation points to standard
-// output, each with its target_ols, its highest temporal id, its rates, whether its list of streams is closed, and that list; or the refusal. What goes wrong at the edge is told on
-// standard error: an argument, of which it takes none, an input that cannot be read, an output that cannot be written whole. No program here has an exit status: the command
-// `points` beside the crates gives one, and opens descriptor 3.
+// Reads the program's own descriptor loop of a program map section from the file of the path that its first argument is and the elementary-stream loop from that of its second,
+// each on standard input where the path is `-`, as where there is no second; and writes the operation points to standard output, each with its target_ols, its highest temporal
+// id, its rates, whether its list of streams is closed, and that list; or the refusal. What goes wrong at the edge is told on standard error: an argument more, an input that
+// cannot be read, an output that cannot be written whole. The program itself ends with 0 in any case: the command `points` beside the crates gives a status that tells more, and
+// opens, as descriptor 3, what is not on standard input.
 #![tactic(auto)]
 
-use console::Input;
-use libc::{STDERR_FILENO, STDIN_FILENO, STDOUT_FILENO};
+ghost use Rattle.console.specs.Inputs.{Counted};
 
-// Of the program's own descriptor loop.
-const PROGRAM_FILENO: i32 = 3;
+use std::env::{Env, FillError};
+use std::fs;
+use std::io;
+use std::io::Write;
+use std::str;
 
 // A recording handed over where a loop was expected is refused as a loop, for some number that says little.
-fn hint(program: &[u8], bytes: &[u8]) {
+fn hint(rt: &HostRuntime, program: &[u8], bytes: &[u8]) {
     let either = console::looks_like_packets(program) | console::looks_like_packets(bytes);
     if either {
-        io::write_all(
-            STDERR_FILENO,
-            b"points: this looks like a transport stream, not a loop\n",
-        );
+        let _ = eprintln!(rt; "points: this looks like a transport stream, not a loop");
     }
 }
 
 // Writes the text for two loops of these bytes.
-fn answer(program: &[u8], bytes: &[u8]) {
+fn answer(rt: &HostRuntime, program: &[u8], bytes: &[u8]) {
     // No two loops' text is longer than 521,166 bytes (`text_length` of the crate `point_listing`), so the buffer holds all of it (`whole_text`).
     let mut text = [0u8; 521166];
     let end = point_listing::put_points(&mut text, 0, program, bytes);
-    let written = io::write_all(STDOUT_FILENO, &text[..end]);
-    if !written {
-        os::fail(b"points: standard output was not written whole");
+    let written = io::writer(rt).write_all(&text[..end]);
+    if let Err(error) = written {
+        let _ = eprintln!(rt; "points: standard output was not written whole: {error}");
     }
     // 'refused', and not 'accepted'
     if text[0] == b'r' {
-        hint(program, bytes);
+        hint(rt, program, bytes);
+    }
+}
+
+// Reads from the file of this path, or from standard input. The file is closed again here, so that it is never taken for a standard stream that was closed.
+fn read_at(rt: &HostRuntime, path: &str, input: &mut [u8]) -> io::Result<usize>
+    ensures { Counted result input.new }
+{
+    if path == "-" {
+        return console::read_input(&mut rt.reader(), input);
+    }
+    let mut file = fs::open(rt, path)?;
+    console::read_input(&mut file, input)
+}
+
+// Reads from where the argument of this number says, or from standard input where there is none.
+fn read_argument(rt: &HostRuntime, argument: usize, input: &mut [u8]) -> io::Result<usize>
+    ensures { Counted result input.new }
+{
+    let mut word = [0u8; 4096];
+    match rt.arg(argument, &mut word) {
+        Err(FillError::NotPresent) => read_at(rt, "-", input),
+        Err(FillError::TooLong) => Err(io::Error::from(io::ErrorKind::InvalidFilename)),
+        Ok(length) => match str::from_utf8(&word[..length]) {
+            Ok(path) => read_at(rt, path, input),
+            Err(_) => Err(io::Error::from(io::ErrorKind::InvalidFilename)),
+        },
     }
 }
 
 // Either loop has at most 1,008 bytes, so one byte more is enough to know that it is too long.
-fn list(program: &[u8]) {
+fn list(rt: &HostRuntime, program: &[u8]) {
     let mut input = [0u8; 1009];
-    let read = console::read_input(STDIN_FILENO, &mut input);
+    let read = read_argument(rt, 2, &mut input);
     match read {
-        Input::Bytes(count) => answer(program, &input[..count]),
-        Input::Failed => os::fail(b"points: standard input cannot be read"),
+        Ok(count) => answer(rt, program, &input[..count]),
+        Err(error) => {
+            let _ = eprintln!(rt; "points: standard input cannot be read: {error}");
+        }
     }
 }
 
-fn show() {
+fn show(rt: &HostRuntime) {
     let mut input = [0u8; 1009];
-    let read = console::read_input(PROGRAM_FILENO, &mut input);
+    let read = read_argument(rt, 1, &mut input);
     match read {
-        Input::Bytes(count) => list(&input[..count]),
-        Input::Failed => os::fail(b"points: descriptor 3 cannot be read"),
+        Ok(count) => list(rt, &input[..count]),
+        Err(error) => {
+            let _ = eprintln!(rt; "points: descriptor 3 cannot be read: {error}");
+        }
     }
 }
 
-fn main() {
-    if 1 < os::arg_count() {
-        io::write_all(STDERR_FILENO, b"points: it takes no argument\n");
+// Whether there is an argument of this number, however long.
+fn has_argument(rt: &HostRuntime, argument: usize) -> bool {
+    let mut word = [0u8; 4];
+    match rt.arg(argument, &mut word) {
+        Err(FillError::NotPresent) => false,
+        _ => true,
+    }
+}
+
+fn main(rt: HostRuntime) {
+    if !has_argument(&rt, 1) {
+        let _ = eprintln!(rt; "points: no loop is named");
         return;
     }
-    show();
+    if has_argument(&rt, 3) {
+        let _ = eprintln!(rt; "points: it takes no argument but the paths of two loops");
+        return;
+    }
+    show(&rt);
 }

@@ -1,13 +1,13 @@
-// What the program `units` writes: units or rows, a line each, through a buffer; or a refusal. Once everything is written it tells the command beside the crates what was, on descriptor 4:
-// 'units', 'rows' or the refusal, or 'more' where there were more rows than places and it was asked to leave that to another run. So nothing that was half written is told as whole.
+// What the program `units` writes: units or rows, a line each, through a buffer; or a refusal. Once everything is written it tells the command beside the crates what was, at the end of
+// the file of a path that the command gives: 'units', 'rows' or the refusal, or 'more' where there were more rows than places and it was asked to leave that to another run. So nothing
+// that was half written is told as whole.
 #![tactic(auto)]
 
 ghost use Rattle.std.specs.Prelude.{◌≤◌, length};
 
-use libc::{STDERR_FILENO, STDOUT_FILENO};
-
-// Of what was told, for the command.
-const TOLD_FILENO: i32 = 4;
+use std::fs::OpenOptions;
+use std::io;
+use std::io::Write;
 
 // No line of a unit or of a row is longer: a unit has at most 64 rows (`unit_line_short` of the crate `unit_lines`).
 const LONGEST_LINE: usize = 2753;
@@ -20,18 +20,21 @@ struct Filled {
 }
 
 // Writes the text out.
-fn write_out(text: &[u8], end: usize) -> bool
+fn write_out(rt: &HostRuntime, text: &[u8], end: usize) -> bool
     requires { end ≤ length text.now }
 {
-    let written = io::write_all(STDOUT_FILENO, &text[..end]);
-    if !written {
-        os::fail(b"units: standard output was not written whole");
+    let written = io::writer(rt).write_all(&text[..end]);
+    match written {
+        Ok(()) => true,
+        Err(error) => {
+            let _ = eprintln!(rt; "units: standard output was not written whole: {error}");
+            false
+        }
     }
-    written
 }
 
 // Writes the text out where a line more might find no room.
-fn make_room(text: &[u8], end: usize) -> Filled
+fn make_room(rt: &HostRuntime, text: &[u8], end: usize) -> Filled
     requires { end ≤ length text.now }
     ensures { result.end ≤ end }
 {
@@ -39,7 +42,7 @@ fn make_room(text: &[u8], end: usize) -> Filled
         return Filled { whole: true, end };
     }
     Filled {
-        whole: write_out(text, end),
+        whole: write_out(rt, text, end),
         end: 0,
     }
 }
@@ -85,18 +88,25 @@ fn put_unit(text: &mut [u8], end: usize, numbers: &[u64], lags: &[i64]) -> usize
 }
 
 // A line for each of so many units.
-fn write_units(units: u64, numbers: &[u64], lags: &[i64], sizes: &[u64], text: &mut [u8]) -> bool {
+fn write_units(
+    rt: &HostRuntime,
+    units: u64,
+    numbers: &[u64],
+    lags: &[i64],
+    sizes: &[u64],
+    text: &mut [u8],
+) -> bool {
     let rows = lesser(numbers.len(), lags.len());
     let mut at = 0;
     let mut unit = 0;
     let mut end = 0;
     while unit < sizes.len() {
         if units <= unit as u64 {
-            return write_out(text, end);
+            return write_out(rt, text, end);
         }
         let next = at + size_of(sizes, unit, rows - at);
         end = put_unit(text, end, &numbers[at..next], &lags[at..next]);
-        let filled = make_room(text, end);
+        let filled = make_room(rt, text, end);
         if !filled.whole {
             return false;
         }
@@ -104,7 +114,7 @@ fn write_units(units: u64, numbers: &[u64], lags: &[i64], sizes: &[u64], text: &
         at = next;
         unit += 1;
     }
-    write_out(text, end)
+    write_out(rt, text, end)
 }
 
 fn put_row(
@@ -133,6 +143,7 @@ fn put_row(
 
 // A line for each of so many rows.
 fn write_rows(
+    rt: &HostRuntime,
     rows: u64,
     indices: &[u8],
     decodings: &[u64],
@@ -145,17 +156,17 @@ fn write_rows(
     let mut end = 0;
     while row < indices.len() {
         if rows <= row as u64 {
-            return write_out(text, end);
+            return write_out(rt, text, end);
         }
         end = put_row(text, end, row, indices, decodings, matches, trefs, packets);
-        let filled = make_room(text, end);
+        let filled = make_room(rt, text, end);
         if !filled.whole {
             return false;
         }
         end = filled.end;
         row += 1;
     }
-    write_out(text, end)
+    write_out(rt, text, end)
 }
 
 fn put_refusal(text: &mut [u8], answer: u64) -> usize
@@ -165,33 +176,39 @@ fn put_refusal(text: &mut [u8], answer: u64) -> usize
 }
 
 // A recording handed over where a loop was expected is refused as a loop, for some number that says little.
-fn hint(bytes: &[u8]) {
+fn hint(rt: &HostRuntime, bytes: &[u8]) {
     if console::looks_like_packets(bytes) {
-        io::write_all(
-            STDERR_FILENO,
-            b"units: the loop looks like a transport stream\n",
-        );
+        let _ = eprintln!(rt; "units: the loop looks like a transport stream");
     }
 }
 
-// Tells the command what was written, where it was.
-fn tell(whole: bool, what: &[u8]) {
-    if whole {
-        io::write_all(TOLD_FILENO, what);
+// Writes at the end of the file of this path.
+fn append(rt: &HostRuntime, path: &str, what: &[u8]) -> io::Result<()> {
+    let mut file = OpenOptions::new().append(true).open(rt, path)?;
+    file.write_all(what)
+}
+
+// Tells the command what was written, where it was and there is a command to tell.
+fn tell(rt: &HostRuntime, told: &str, whole: bool, what: &[u8]) {
+    if whole & !told.is_empty() {
+        let appended = append(rt, told, what);
+        if let Err(error) = appended {
+            let _ = eprintln!(rt; "units: what was written cannot be told: {error}");
+        }
     }
 }
 
 // Writes a text of so many bytes, and tells the command the same.
-fn write_and_tell(text: &[u8], end: usize)
+fn write_and_tell(rt: &HostRuntime, told: &str, text: &[u8], end: usize)
     requires { end ≤ length text.now }
 {
-    tell(write_out(text, end), &text[..end]);
+    tell(rt, told, write_out(rt, text, end), &text[..end]);
 }
 
-pub fn write_refusal(answer: u64, bytes: &[u8], text: &mut [u8]) {
+pub fn write_refusal(rt: &HostRuntime, told: &str, answer: u64, bytes: &[u8], text: &mut [u8]) {
     let end = put_refusal(text, answer);
-    write_and_tell(text, end);
-    hint(bytes);
+    write_and_tell(rt, told, text, end);
+    hint(rt, bytes);
 }
 
 // The refusals of joining, 14 to 18, are none of the rows that they name.
@@ -203,8 +220,11 @@ fn has_rows(answer: u64) -> bool {
     (13 < number) & (number < 19)
 }
 
-// Writes the answer: the rows where they are to be listed, and else the units. `rows` is how many rows there are, and `answer` what joining answered.
+// Writes the answer: the rows where they are to be listed, and else the units. `rows` is how many rows there are, `answer` what joining answered, and `told` the path of the file in which
+// the command is told what was written; where it is empty nobody is.
 pub fn write_answer(
+    rt: &HostRuntime,
+    told: &str,
     listed: bool,
     more: bool,
     answer: u64,
@@ -222,19 +242,28 @@ pub fn write_answer(
     text: &mut [u8],
 ) {
     if more & (answer % 256 == 13) {
-        tell(true, b"more\n");
+        tell(rt, told, true, b"more\n");
         return;
     }
     if listed & has_rows(answer) {
         tell(
-            write_rows(rows, indices, decodings, matches, trefs, packets, text),
+            rt,
+            told,
+            write_rows(
+                rt, rows, indices, decodings, matches, trefs, packets, text,
+            ),
             b"rows\n",
         );
         return;
     }
     if answer % 256 == 0 {
-        tell(write_units(units, numbers, lags, sizes, text), b"units\n");
+        tell(
+            rt,
+            told,
+            write_units(rt, units, numbers, lags, sizes, text),
+            b"units\n",
+        );
         return;
     }
-    write_refusal(answer, bytes, text);
+    write_refusal(rt, told, answer, bytes, text);
 }

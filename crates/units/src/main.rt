@@ -1,4 +1,4 @@
-// Reads an elementary-stream loop on descriptor 3 and a recording on standard input, and writes its units or its rows, a line each, or the refusal, to standard output. It holds
+// Reads an elementary-stream loop and a recording, and writes its units or its rows, a line each, or the refusal, to standard output. It holds
 // 65,536 rows, as many as find room within the ordinary 8 MB of stack; `units_long` holds more. What it does is said in the crate `units_program`, and the command `units` beside the
 // crates gives an exit status.
 #![tactic(auto)]
@@ -7,7 +7,7 @@ use units_program::Question;
 
 const ROWS: usize = 65536;
 
-fn lend(question: Question) {
+fn lend(rt: &HostRuntime, question: Question) {
     let mut buffer = [0u8; 262144];
     let mut state = [0u8; 20412];
     let mut counts = [0u64; 72];
@@ -28,6 +28,7 @@ fn lend(question: Question) {
     let mut sizes = [0u64; ROWS];
     let mut text = [0u8; 65536];
     units_program::run(
+        rt,
         question,
         &mut buffer,
         &mut state,
@@ -51,9 +52,9 @@ fn lend(question: Question) {
     );
 }
 
-fn main() {
-    let question = units_program::asked();
+fn main(rt: HostRuntime) {
+    let question = units_program::asked(&rt);
     if question.known {
-        lend(question);
+        lend(&rt, question);
     }
 }

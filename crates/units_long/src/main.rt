@@ -38,7 +38,7 @@ fn blank_lags() -> [i64; ROWS]
     [0; ROWS]
 }
 
-fn lend(target: u64, rows: bool) {
+fn lend(rt: &HostRuntime, target: u64, rows: bool) {
     let question = Question {
         known: true,
         target,
@@ -65,6 +65,7 @@ fn lend(target: u64, rows: bool) {
     let mut sizes = blank_numbers();
     let mut text = io::large_buffer();
     units_program::run(
+        rt,
         question,
         &mut buffer,
         &mut state,
@@ -89,14 +90,14 @@ fn lend(target: u64, rows: bool) {
 }
 
 // Two calls, so that the compiler lays the lists into a frame of their own: in that of this function they would take the stack also where nothing is asked.
-fn main() {
-    let question = units_program::asked();
+fn main(rt: HostRuntime) {
+    let question = units_program::asked(&rt);
     if !question.known {
         return;
     }
     if question.rows {
-        lend(question.target, true);
+        lend(&rt, question.target, true);
     } else {
-        lend(question.target, false);
+        lend(&rt, question.target, false);
     }
 }

@@ -1,7 +1,13 @@
-// What is asked for, by the words of the command line: the target, then 'rows' for the rows, and 'more' where a larger program is at hand for more rows than there are places.
-ghost use Rattle.std.specs.Prelude.{◌≤◌};
+// What is asked for, by the words of the command line: the target; the paths of the loop, of the recording and of the file in which the command is told what was written; then 'rows'
+// for the rows, and 'more' where a larger program is at hand for more rows than there are places.
+ghost use Rattle.std.specs.Prelude.{◌≤◌, length};
 
-use libc::STDERR_FILENO;
+use std::env::Env;
+
+// Of the arguments that are paths.
+pub const LOOP: usize = 2;
+pub const RECORDING: usize = 3;
+pub const TOLD: usize = 4;
 
 #[derive(Clone, Copy)]
 pub struct Question {
@@ -53,20 +59,30 @@ fn number_of(word: &[u8]) -> u64 {
     number
 }
 
+// Reads the argument of this number, as no byte where there is none or it finds no room.
+pub fn read_argument(rt: &HostRuntime, argument: usize, buffer: &mut [u8]) -> usize
+    ensures { result ≤ length buffer.new }
+{
+    match rt.arg(argument, buffer) {
+        Ok(count) => count,
+        Err(_) => 0,
+    }
+}
+
 // Whether the argument of this number is this word.
-fn is_word(argument: usize, word: &[u8]) -> bool {
-    let mut buffer = io::buffer();
-    let count = os::arg(argument, &mut buffer);
+fn is_word(rt: &HostRuntime, argument: usize, word: &[u8]) -> bool {
+    let mut buffer = [0u8; 4096];
+    let count = read_argument(rt, argument, &mut buffer);
     check::same(&buffer[..count], word)
 }
 
 // What the words ask for; where the first is no number, this is told.
-fn asked_for(target: &[u8]) -> Question {
-    let rows = is_word(2, b"rows") | is_word(3, b"rows");
-    let more = is_word(2, b"more") | is_word(3, b"more");
+fn asked_for(rt: &HostRuntime, target: &[u8]) -> Question {
+    let rows = is_word(rt, 5, b"rows") | is_word(rt, 6, b"rows");
+    let more = is_word(rt, 5, b"more") | is_word(rt, 6, b"more");
     let known = is_number(target);
     if !known {
-        io::write_all(STDERR_FILENO, b"units: the target is a decimal number\n");
+        let _ = eprintln!(rt; "units: the target is a decimal number");
     }
     Question {
         known,
@@ -76,8 +92,8 @@ fn asked_for(target: &[u8]) -> Question {
     }
 }
 
-pub fn asked() -> Question {
-    let mut buffer = io::buffer();
-    let count = os::arg(1, &mut buffer);
-    asked_for(&buffer[..count])
+pub fn asked(rt: &HostRuntime) -> Question {
+    let mut buffer = [0u8; 4096];
+    let count = read_argument(rt, 1, &mut buffer);
+    asked_for(rt, &buffer[..count])
 }
