@@ -76,6 +76,9 @@ flag_read h spatial p = p
 flag_read h quality p = p
 
 flags_refused : (r : Record) → WrongFlags (record_in2009 r) → WrongFlags r
+flags_refused NoRecord x' = elim x' [ ]
+flags_refused (Extension _) x3 = elim x3 [ ]
+flags_refused Implied x3 = elim x3 [ ]
 flags_refused (Hierarchy h) (type_9 f t p) = type_9 f t (flag_read h f p)
 flags_refused (Hierarchy h) (more_than_one f g d p q t) = more_than_one f g d (flag_read h f p) (flag_read h g q) t
 

@@ -1,7 +1,7 @@
 -- JOINING LOOKS AT THE LAYERS OF THE CLOSURE ALONE. Two sets of layers that give a target the same closure, in which each layer has the same
 -- embedded layers and rests on the same, give it the same answer of joining and leave the same in the lists, for every row table, however long it may be, and every output room.
 -- Assumes nothing.
-use Rattle.std.specs.Prelude.{ℕ, zero, suc, ◌≡◌, refl, Bool, true, false, cond, ◌&&◌, List, eqb, ltb, get_or}
+use Rattle.std.specs.Prelude.{ℕ, ◌≡◌, refl, Bool, true, false, cond, ◌&&◌, eqb, ltb, get_or}
 use Rattle.std.proofs.Common.{sym, ◌∙◌, ap, ap₂}
 use Rattle.std.proofs.Math.Path.{fun_ext}
 use Rattle.combinators.specs.Below.{some}

@@ -36,7 +36,7 @@ use Rattle.recording_imports.specs.declared.RowsRead.TheVariants.{Rows, Refused,
 use Rattle.recording_imports.specs.declared.Imported.{Imported}
 use Rattle.recording_imports.specs.declared.LoopAsked.{LoopAsked}
 use Rattle.recording_imports.specs.Rows.{pid_table_of, pid_table, rows_told, rows_for, rows_of, columns_with}
-use Rattle.recording_imports.specs.Imports.{layers_of_loop, asked_of, imported_of, imported_by, table_of, import_rows, import_of, places_for, import_columns, lists_with, import_lists, held_rows, columns_hold, first_rows, rows_held, join_held, lists_held, rows_asked, import_told, lists_told}
+use Rattle.recording_imports.specs.Imports.{layers_of_loop, asked_of, imported_of, imported_by, table_of, import_rows, import_of, places_for, import_columns, lists_with, import_lists, columns_hold, first_rows, rows_held, join_held, lists_held, rows_asked, import_told, lists_told}
 
 -- ---- how many rows a table may have makes no difference to one that has no more
 

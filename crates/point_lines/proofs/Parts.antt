@@ -9,7 +9,7 @@ use borrow.Author.Tests.{eq-eqb, ne_eqb, lt-ltb, le-ltb}
 use lib.ListN.{length}
 use Rattle.text.specs.Text.{ascii}
 use Rattle.listing.specs.Lines.{labelled}
-use Rattle.operation_points.specs.Values.{FrameRate, constant, frame_rate_of, bit_rate_of}
+use Rattle.operation_points.specs.Values.{constant, frame_rate_of, bit_rate_of}
 use Rattle.point_lines.specs.Lines.{frame_text, rate_text, closed_text, members_text, streams_text}
 
 module _ (idc indicator : ℕ) where

@@ -1,23 +1,22 @@
 -- The pass over the rows finds the verdict: a row more, the walk over the rows, and what it comes to.
 -- Assumes nothing.
-use Prim.Native.Nat.{ℕ, zero, suc, ◌+◌, ◌-◌, ◌*◌, ◌/◌, ◌%◌, ◌<◌, ◌≤◌}
-use mathlib.Core.Path.{◌≡◌, refl, sym, ap, ap₂, ◌∙◌, subst}
-use mathlib.Core.Bool.{Bool, true, false, cond, not, ◌||◌, or-false, or-true, or_assoc}
+use Prim.Native.Nat.{ℕ, suc, ◌+◌, ◌-◌, ◌*◌, ◌/◌, ◌%◌, ◌<◌, ◌≤◌}
+use mathlib.Core.Path.{◌≡◌, refl, sym, ap, ap₂, ◌∙◌}
+use mathlib.Core.Bool.{Bool, true, false, not, ◌||◌, or-false, or-true, or_assoc}
 use mathlib.Core.List.{List, [], ◌∷◌}
 use native.Mathlib.Omega.{arith}
 use native.Mathlib.Nat.{add-zero, zero-add, add_assoc}
 use borrow.Author.Tests.{eq-eqb, ne_eqb, eqb-true, ltb-false, not-false}
 use lib.Dec.{eqb, ltb}
-use lib.ListN.{length, get_or, take, drop}
+use lib.ListN.{length, take, drop}
 use lib.Seq.{drop-drop}
 use Rattle.combinators.specs.Bools.{neither_left, neither_right}
 use Rattle.combinators.specs.Lists.{any}
-use Rattle.vocabulary.specs.declared.refusal.Refusal.TheVariants.{TooWide, ReservedEsCount}
+use Rattle.vocabulary.specs.declared.refusal.Refusal.TheVariants.{TooWide}
 use Rattle.point_fields.specs.Fields.{row_too_wide, reference_too_wide, references_counted, layers_counted, fields_size}
 use Rattle.point_weights.specs.declared.Weighed.{Weighed}
-use Rattle.point_weights.specs.declared.Written.{Written}
-use Rattle.point_weights.specs.declared.Written.TheVariants.{Bytes, Refused}
-use Rattle.point_weights.specs.Rows.{twelves, rows_in, total, counts_wrong, points_wrong, is_reserved, length_for, judged_points, judged}
+use Rattle.point_weights.specs.declared.Written.TheVariants.{Refused}
+use Rattle.point_weights.specs.Rows.{twelves, rows_in, total, counts_wrong, is_reserved, judged_points, judged}
 use Rattle.point_weights.specs.Weighing.{nothing_weighed, weigh_next, weighed_after, decided}
 
 -- ---- a reference of seven bits

@@ -1,6 +1,6 @@
 -- The one pass over the rows: what they come to, row after row.
 -- Assumes nothing.
-use Rattle.std.specs.Prelude.{ℕ, ◌+◌, Bool, true, false, cond, not, ◌||◌, List, [], ◌∷◌, eqb, ltb}
+use Rattle.std.specs.Prelude.{ℕ, ◌+◌, true, false, cond, not, ◌||◌, List, [], ◌∷◌, eqb, ltb}
 use Rattle.vocabulary.specs.declared.refusal.Refusal.TheVariants.{TooWide, ReservedEsCount}
 use Rattle.point_fields.specs.Fields.{row_too_wide, references_counted, layers_counted, fields_size}
 use Rattle.point_weights.specs.Rows.{is_reserved}

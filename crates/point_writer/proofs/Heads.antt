@@ -1,19 +1,16 @@
 -- What stands before the points: its bytes.
 -- Assumes nothing.
-use Prim.Native.Nat.{ℕ, zero, suc, ◌+◌, ◌*◌, ◌/◌, ◌%◌, ◌≤◌, ◌<◌}
+use Prim.Native.Nat.{ℕ, zero, suc, ◌+◌, ◌*◌, ◌/◌, ◌%◌, ◌≤◌}
 use mathlib.Core.Path.{◌≡◌, refl, sym, ap, ap₂, ◌∙◌}
 use mathlib.Core.List.{List, [], ◌∷◌, ◌++◌, map, append-nil}
 use native.Mathlib.Omega.{arith}
-use lib.ListN.{length, get_or, take, drop, length-drop, take-append-drop, drop_of_length-le}
-use lib.Seq.{take_all, length-take-le}
+use lib.ListN.{length, take, drop, length-drop, take-append-drop}
 use Rattle.combinators.specs.Lists.{gather}
-use Rattle.syntax.specs.Table.{Table, AreBytes, bytes, write_table, read_table, Sound}
+use Rattle.syntax.specs.Table.{AreBytes, write_table}
 use Rattle.syntax.specs.Named.{read_by, write_by}
-use Rattle.syntax.specs.Filled.{bytes_in}
 use Rattle.syntax.proofs.Number.{drop_bytes}
 use Rattle.syntax.proofs.Laws.{write_read, read_take}
 use Rattle.syntax.proofs.Equations.{each}
-use Rattle.descriptor_heads.specs.Head.{head_table}
 use Rattle.descriptor_heads.proofs.Heads.{head_written}
 use Rattle.operation_points.specs.Tables.{profiles_count, profile, points_count}
 use Rattle.point_weights.specs.Rows.{twelves}

@@ -1,18 +1,18 @@
 -- From the verdict to the answer: what an accepted descriptor is known to be, its bytes, and each way of the code.
 -- Assumes nothing.
-use Prim.Native.Nat.{ℕ, ◌+◌, ◌-◌, ◌/◌, ◌%◌, ◌≤◌, ◌<◌}
-use mathlib.Core.Path.{◌≡◌, refl, sym, ap, ◌∙◌, subst}
+use Prim.Native.Nat.{ℕ, ◌+◌, ◌-◌, ◌/◌, ◌≤◌, ◌<◌}
+use mathlib.Core.Path.{◌≡◌, refl, sym, ap, ◌∙◌}
 use mathlib.Core.Bool.{Bool, true, false, cond, ◌||◌}
-use mathlib.Core.List.{List, [], ◌∷◌, ◌++◌, append_assoc}
+use mathlib.Core.List.{List, [], ◌++◌, append_assoc}
 use native.Mathlib.Omega.{arith}
 use borrow.Author.Tests.{lt-ltb, le-ltb, ltb-false, eqb-true, not-false}
 use lib.Dec.{eqb, ltb}
-use lib.ListN.{length, length-append}
+use lib.ListN.{length}
 use Rattle.combinators.specs.Bools.{neither_left, neither_right}
 use Rattle.combinators.specs.Lists.{any}
 use Rattle.syntax.specs.Table.{write_table}
 use Rattle.syntax.specs.Filled.{bytes_in}
-use Rattle.buffers.specs.Buffers.{Laid, over}
+use Rattle.buffers.specs.Buffers.{Laid}
 use Rattle.buffers.proofs.Laws.{laid_as, laid_then, laid_over_lem}
 use Rattle.descriptor_heads.specs.Head.{head_table}
 use Rattle.vocabulary.specs.declared.refusal.Refusal.{Refusal}

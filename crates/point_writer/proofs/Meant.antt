@@ -9,14 +9,13 @@ use borrow.Author.Tests.{lt-ltb, le-ltb, ltb-true, ltb-false, eq-eqb, eqb-true}
 use lib.Dec.{eqb, ltb}
 use lib.ListN.{length, drop}
 use Rattle.combinators.specs.Bools.{both_ways, false_unless}
-use Rattle.combinators.specs.Lists.{any, any_true, any_which, gather}
+use Rattle.combinators.specs.Lists.{any, any_true, any_which}
 use Rattle.syntax.specs.Table.{Written, write_table, Fit, none, at_value, at_reserved, at_fixed}
-use Rattle.syntax.specs.Named.{Given, read_by, WrittenBy}
+use Rattle.syntax.specs.Named.{read_by}
 use Rattle.syntax.specs.Filled.{bytes_in}
 use Rattle.syntax.proofs.Laws.{read_fits, written, written_unique}
 use Rattle.syntax.proofs.NamedLaws.{written_by_meant, written_by_only}
 use Rattle.syntax.proofs.Equations.{bounds}
-use Rattle.buffers.specs.Buffers.{over}
 use Rattle.descriptor_heads.specs.Head.{descriptor_head, head_table}
 use Rattle.operation_points.specs.Tables.{profile, head_syntax, point_syntax}
 use Rattle.operation_points.specs.Values.{PointValue, DescriptorValue}
@@ -31,7 +30,7 @@ use Rattle.point_writer.specs.Writing.{in_room, answer, content_after, content}
 use Rattle.point_writer.specs.Meaning.{value_given, value_lists, Gives, ValueFits, SomeReserved, reserved_at, WritesPoints, WritesPayload, head_then, WritesDescriptor, descriptor, Answers, no_value, reserves, too_long_lem, no_room, accepts}
 use Rattle.point_writer.specs.Meaning as Meaning
 use Rattle.point_writer.proofs.PartLaws.{Sounds, parts_written, parts_only}
-use Rattle.point_writer.proofs.Values.{values_bytes, is_reserved_value, RowsKnown, rows_known, values_in, ValuesKnown, values_known}
+use Rattle.point_writer.proofs.Values.{values_bytes, is_reserved_value, rows_known, values_in, values_known}
 use Rattle.point_writer.proofs.Judged.{Sound, sound, counted, descriptor_long}
 
 -- ---- the tables can be written

@@ -12,7 +12,7 @@ use Rattle.syntax.specs.Table.{Table, fits, Fit, Sound}
 use Rattle.syntax.specs.Named.{Given, values_by, write_by}
 use Rattle.syntax.proofs.Laws.{fits_fit, fit_fits, written, written_unique}
 use Rattle.operation_points.specs.Parts.{Part, lines, repeated, when}
-use Rattle.point_fields.specs.WrittenParts.{Lists, part_bytes, parts_bytes, not_zero, part_too_wide, WritesEach, WritesParts, EachFits, FitParts}
+use Rattle.point_fields.specs.WrittenParts.{Lists, parts_bytes, not_zero, part_too_wide, WritesEach, WritesParts, EachFits, FitParts}
 
 -- tables that can be written
 abbrev pub Sounds : List Part → Type 0

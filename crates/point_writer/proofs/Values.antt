@@ -1,33 +1,32 @@
 -- Values and the rows and lists that a caller gives: of a value that can be written the rows are not too wide, and of rows that are not too wide there is a value.
 -- Assumes nothing.
-use Prim.Native.Nat.{ℕ, zero, suc, ◌+◌, ◌*◌, ◌/◌, ◌%◌, ◌^◌, ◌<◌, ◌≤◌}
+use Prim.Native.Nat.{ℕ, zero, suc, ◌+◌, ◌*◌, ◌/◌, ◌%◌, ◌^◌, ◌<◌}
 use mathlib.Core.Path.{◌≡◌, refl, sym, ap, ap₂, ◌∙◌, subst}
 use mathlib.Core.Bool.{Bool, true, false, cond, not, ◌||◌}
 use mathlib.Core.List.{List, [], ◌∷◌, ◌++◌, map}
 use native.Mathlib.Omega.{arith}
 use native.Mathlib.Nat.{mod-lt}
-use borrow.Author.Tests.{ltb-true, ltb-false, eqb-true, eq-eqb, ne_eqb, not-false}
+use borrow.Author.Tests.{ltb-true, ltb-false, eqb-true, not-false}
 use lib.Dec.{eqb, ltb, lit<}
 use lib.ListN.{length, get_or, take, drop, length-append, length-drop, length-map, take-append-drop}
 use lib.Seq.{take_at, drop_at, length-take-le}
 use lib.Text.{eqt}
 use Rattle.combinators.specs.Bools.{apart, neither_left, neither_right}
 use Rattle.combinators.specs.Lists.{any, any_append, gather}
-use Rattle.syntax.specs.Table.{Table, Fit, read_table}
-use Rattle.syntax.specs.Named.{Given, values_by, by_names}
+use Rattle.syntax.specs.Table.{Table, Fit}
+use Rattle.syntax.specs.Named.{Given, values_by}
 use Rattle.syntax.specs.Filled.{bit_of}
 use Rattle.syntax.proofs.Laws.{read_fits}
 use Rattle.syntax.proofs.Equations.{bounds}
 use Rattle.descriptor_heads.proofs.Bits.{bit_there}
 use Rattle.operation_points.specs.declared.Reference.{Reference}
-use Rattle.operation_points.specs.declared.LayerFlags.{LayerFlags}
 use Rattle.operation_points.specs.Tables.{reference, flags, point_syntax}
-use Rattle.operation_points.specs.Values.{FrameRate, no_frame_rate, constant, BitRate, no_bit_rate, rate, PointValue, frame_rate_of, bit_rate_of, reference_in, flags_in, reference_byte, reference_bytes, idc_of, indicator_of, flag_of, number_of, numbers_of}
-use Rattle.point_fields.specs.WrittenParts.{Lists, not_zero, part_too_wide, parts_bytes, EachFits, FitParts}
+use Rattle.operation_points.specs.Values.{FrameRate, no_frame_rate, constant, BitRate, no_bit_rate, rate, PointValue, frame_rate_of, bit_rate_of, reference_in, flags_in, reference_byte, idc_of, indicator_of, flag_of, number_of, numbers_of}
+use Rattle.point_fields.specs.WrittenParts.{Lists, part_too_wide, parts_bytes, EachFits}
 use Rattle.point_fields.specs.Fields.{given_in, item_in, lists_in, point_bytes, row_too_wide, reference_too_wide, references_counted, layers_counted}
-use Rattle.point_fields.proofs.Rows.{field_fits, RowFits, row_fits}
+use Rattle.point_fields.proofs.Rows.{field_fits, row_fits}
 use Rattle.point_weights.specs.Rows.{twelves, total, is_reserved}
-use Rattle.point_weights.proofs.Weights.{reference_wide, reference_fine}
+use Rattle.point_weights.proofs.Weights.{reference_fine}
 use Rattle.point_writer.specs.Layout.{points_bytes}
 use Rattle.point_writer.specs.Meaning.{reference_given, flags_given, value_given, value_lists, Shaped, PointFits, ListsOf, Rows}
 use Rattle.point_writer.specs.Meaning as Meaning

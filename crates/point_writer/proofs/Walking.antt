@@ -1,7 +1,7 @@
 -- The walk that lays points into a buffer: what is known in a turn, and what a turn lays in.
 -- Assumes nothing.
 use Prim.Native.Nat.{ℕ, ◌+◌, ◌-◌, ◌*◌, ◌/◌, ◌≤◌, ◌<◌}
-use mathlib.Core.Path.{◌≡◌, refl, sym, ap, ap₂, ◌∙◌, subst}
+use mathlib.Core.Path.{◌≡◌, sym, ap, ap₂, ◌∙◌}
 use mathlib.Core.Bool.{Bool, false}
 use mathlib.Core.List.{List, [], ◌∷◌, ◌++◌, append_assoc, append-nil}
 use native.Mathlib.Omega.{arith}
@@ -11,7 +11,7 @@ use Rattle.combinators.specs.Bools.{neither_left, neither_right}
 use Rattle.combinators.specs.Lists.{any, any_append}
 use Rattle.buffers.specs.Buffers.{Laid}
 use Rattle.buffers.proofs.Laws.{laid_as, laid_then, laid_nothing, laid_within}
-use Rattle.point_fields.specs.Fields.{row_too_wide, reference_too_wide, references_counted, layers_counted, point_bytes}
+use Rattle.point_fields.specs.Fields.{row_too_wide, references_counted, layers_counted, point_bytes}
 use Rattle.point_weights.specs.Rows.{twelves, rows_in, total}
 use Rattle.point_weights.proofs.Weights.{rows_start, rows_next, rows_none}
 use Rattle.point_writer.specs.Layout.{points_bytes}

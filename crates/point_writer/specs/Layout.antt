@@ -2,7 +2,6 @@
 -- it is read: what stands before the points, and the points, each with as many references and layers as its row counts.
 -- Assumes nothing.
 use Rattle.std.specs.Prelude.{ℕ, ◌+◌, ◌/◌, List, [], ◌∷◌, ◌++◌, map, length, take, drop}
-use Prim.Native.String.{String}
 use Rattle.syntax.specs.Table.{Table, fixed, write_table}
 use Rattle.syntax.specs.Named.{Given, read_by}
 use Rattle.syntax.specs.Filled.{bytes_in}

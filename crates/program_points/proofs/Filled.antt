@@ -7,10 +7,9 @@ use mathlib.Core.List.{List, [], ◌∷◌, ◌++◌, map}
 use mathlib.Core.Path.{◌≡◌, refl, sym, ap, ap₂, ◌∙◌, subst}
 use native.Mathlib.Omega.{arith}
 use borrow.Author.Tests.{ltb-false}
-use lib.Dec.{ltb}
 use lib.ListN.{length, take, drop, replicate, length-append, length-map}
 use lib.Seq.{take_at, drop_at, get_or-drop}
-use Rattle.combinators.specs.Lists.{gather, gather_map}
+use Rattle.combinators.specs.Lists.{gather}
 use Rattle.framing.specs.Pieces.{Item, whole, broken, Cuts, nothing_left, does_not_fit, piece}
 use Rattle.framing.proofs.Pieces.{cut_cuts}
 use Rattle.syntax.specs.Table.{AreBytes}

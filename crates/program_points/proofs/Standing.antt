@@ -2,17 +2,17 @@
 -- Assumes nothing.
 use Prim.Native.Nat.{ℕ, zero, suc, ◌+◌, ◌-◌, ◌*◌, ◌/◌, ◌≤◌, ◌<◌}
 use mathlib.Core.Bool.{Bool, true, false, cond, ◌&&◌}
-use mathlib.Core.List.{List, [], ◌∷◌, ◌++◌, map, map-append, append_assoc, append-nil}
+use mathlib.Core.List.{List, [], ◌∷◌, ◌++◌, map, map-append, append_assoc}
 use mathlib.Core.Path.{◌≡◌, refl, sym, ap, ap₂, ◌∙◌, subst}
 use mathlib.Core.Logic.{◌⊎◌, inl, inr}
 use native.Mathlib.Nat.{add_assoc, not-suc-le-zero, sub-zero}
 use native.Mathlib.Omega.{arith}
 use borrow.Author.Tests.{le-leb, leb-true}
 use lib.Dec.{eqb, leb}
-use lib.ListN.{length, get_or, take, drop, length-append, length-drop, length-map, take-append-drop}
+use lib.ListN.{length, get_or, take, drop, length-append, length-drop, take-append-drop}
 use lib.Seq.{drop-drop, drop_at, length-take-le, get_or-drop}
-use Rattle.combinators.specs.Lists.{gather, gather_append}
-use Rattle.framing.specs.Pieces.{Item, whole, broken, Cuts, nothing_left, does_not_fit, piece}
+use Rattle.combinators.specs.Lists.{gather}
+use Rattle.framing.specs.Pieces.{Item, Cuts, nothing_left, does_not_fit, piece}
 use Rattle.framing.proofs.Pieces.{cut_cuts}
 use Rattle.syntax.specs.Table.{AreBytes}
 use Rattle.syntax.specs.Named.{given_to, by_names, read_by}
@@ -30,12 +30,12 @@ use Rattle.operation_points.specs.declared.FirstPoint.TheVariants.{Read, DoesNot
 use Rattle.operation_points.specs.declared.Filling.{Filling}
 use Rattle.operation_points.specs.declared.Filling.TheVariants.{Exact, Inexact, Reserved}
 use Rattle.operation_points.specs.Points.{head_from, head_of, is_reserved, point_from, first_point, filling_by, points_filling, filling_after, filling_of}
-use Rattle.operation_points.specs.Values.{PointValue, DescriptorValue, point_value, points_by, each_point, points_in, profiles_in, value_after, value_of, counts_of, reference_in, flags_in, frame_rate_of, bit_rate_of}
+use Rattle.operation_points.specs.Values.{PointValue, point_value, points_by, each_point, profiles_in, value_after, value_of, counts_of, reference_in, flags_in, frame_rate_of, bit_rate_of}
 use Rattle.operation_points.proofs.Parsed.{walk_grows, walk_parses, parses_walk}
 use Rattle.operation_points.proofs.Judging.{read_within, head_within, lists_within, profiles_between}
-use Rattle.point_descriptors.specs.Descriptors.{descriptors_of, each, is_points, payload_if, filling_if, filling_in, worse, worst, payload_place, places_by, point_places, point_places_after, point_places_in, point_places_if}
+use Rattle.point_descriptors.specs.Descriptors.{descriptors_of, each, is_points, payload_if, filling_if, filling_in, worst, payload_place, places_by, point_places, point_places_after, point_places_in, point_places_if}
 use Rattle.point_descriptors.proofs.Adding.{has_body}
-use Rattle.program_points.specs.Places.{point_or, head_or, point_at, value_at, head_at, profiles_at, counts_at, IsPoint, IsPayload}
+use Rattle.program_points.specs.Places.{point_or, head_or, value_at, profiles_at, counts_at, IsPoint, IsPayload}
 
 -- ---- more bytes behind
 

@@ -18,21 +18,16 @@ use Rattle.closure.specs.Closures.{is_layer, named}
 use Rattle.stream_lists.specs.declared.StreamList.{StreamList}
 use Rattle.stream_lists.specs.declared.ListBuilt.{ListBuilt}
 use Rattle.stream_lists.specs.Insertion.{placed}
-use Rattle.stream_lists.specs.Lists.{referred, prepends, asked, set_of, referring, no_layer, stream_list, built_from, list_built}
+use Rattle.stream_lists.specs.Lists.{referred, prepends, set_of, referring, no_layer, stream_list, built_from, list_built}
 use Rattle.stream_lists.proofs.Building.{referring_once, referring_small}
 use Rattle.operation_points.specs.declared.Head.{Head}
-use Rattle.operation_points.specs.declared.HeadRead.{HeadRead}
-use Rattle.operation_points.specs.declared.HeadRead.TheVariants.{Before, HeadDoesNotFit}
 use Rattle.operation_points.specs.declared.Point.{Point}
-use Rattle.operation_points.specs.declared.FirstPoint.{FirstPoint}
-use Rattle.operation_points.specs.declared.FirstPoint.TheVariants.{Read}
 use Rattle.operation_points.specs.declared.Reference.{Reference}
-use Rattle.operation_points.specs.Points.{head_of, first_point}
-use Rattle.operation_points.specs.Values.{PointValue, reference_in, reference_byte, references_in, layers_in, flags_in, flags_byte, reference_bytes, layer_bytes, profiles_in}
+use Rattle.operation_points.specs.Values.{PointValue, reference_in, reference_byte, references_in, layers_in, flags_in, flags_byte, reference_bytes, layer_bytes}
 use Rattle.operation_points.proofs.Bytes.{reference_at}
 use Rattle.operation_points.proofs.Judging.{read_within, head_within, lists_within, profiles_between}
 use Rattle.program_points.specs.declared.Tally.{Tally}
-use Rattle.program_points.specs.Places.{point_or, point_at, value_at, head_or, head_at, profiles_at, IsPoint, IsPayload, AllPoints, AllPayloads}
+use Rattle.program_points.specs.Places.{point_or, point_at, value_at, head_or, head_at, profiles_at, IsPoint, IsPayload, AllPayloads}
 use Rattle.program_points.specs.Told.{list_of, is_absent, streams_of, tally_of, tally_with, Grows}
 use Rattle.program_points.specs.Told as told
 

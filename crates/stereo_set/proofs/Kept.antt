@@ -1,12 +1,12 @@
 -- What a walk keeps of the layers says as much of the set as all of them do.
 -- Assumes nothing.
-use mathlib.Core.Path.{◌≡◌, refl, sym, ◌∙◌, ap}
+use mathlib.Core.Path.{◌≡◌, refl, ◌∙◌, ap}
 use mathlib.Core.Bool.{Bool, true, false, cond}
 use mathlib.Core.List.{List, [], ◌∷◌, ◌++◌}
 use Rattle.stereo_set.specs.declared.views.View.{View}
 use Rattle.stereo_set.specs.declared.views.Layers.{Layers}
 use Rattle.stereo_set.specs.Views.{is_layer_view, if_layer, layers_among, no_views, add_layer, layers_after}
-use Rattle.stereo_set.specs.Set.{refused_set, arranged, set_of, set_by}
+use Rattle.stereo_set.specs.Set.{set_of, set_by}
 
 -- one layer after another
 abbrev add_all : Layers → List View → Layers

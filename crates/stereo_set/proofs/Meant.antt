@@ -1,29 +1,25 @@
 -- The laws that join the meaning of reading a stereo set to what is computed, both ways.
 -- Assumes nothing.
-use Prim.Native.Nat.{ℕ, ◌≤◌, ◌<◌}
+use Prim.Native.Nat.{ℕ, ◌<◌}
 use mathlib.Core.Path.{◌≡◌, refl, sym, ◌∙◌, ap, subst}
-use mathlib.Core.Logic.{◌⊎◌, inl, inr, ⊎_elim}
-use mathlib.Core.Bool.{Bool, true, false, cond, ◌&&◌}
+use mathlib.Core.Logic.{◌⊎◌, inl, inr}
+use mathlib.Core.Bool.{Bool, true, false, cond}
 use mathlib.Core.List.{List, [], ◌∷◌, map}
 use native.Mathlib.Omega.{arith}
-use native.Mathlib.Decide.{dec_lt}
-use borrow.Author.Tests.{eqb-true, eq-eqb}
-use lib.Dec.{eqb}
-use lib.ListN.{length, get_or}
-use Rattle.combinators.specs.Bools.{apart, both_ways, both_left, both_right, false_unless}
+use lib.ListN.{length}
+use Rattle.combinators.specs.Bools.{apart, both_ways, false_unless}
 use Rattle.combinators.specs.Lists.{Nth, nth_inside, nth_get_d, nth_one, nth_map, nth_of_map}
-use Rattle.framing.specs.Pieces.{Item, whole, broken, Cuts, cut}
-use Rattle.framing.proofs.Pieces.{cut_cuts, cuts_unique}
+use Rattle.framing.specs.Pieces.{Item, whole, broken, cut}
+use Rattle.framing.proofs.Pieces.{cuts_unique}
 use Rattle.vocabulary.specs.declared.refusal.Refusal.{Refusal}
 use Rattle.vocabulary.specs.declared.refusal.Refusal.TheVariants.{NotStereoSet, WrongMvcExtension, RangesMeet}
 use Rattle.vocabulary.specs.declared.stream_types.Reading.TheVariants.{Edition2015}
-use Rattle.records.specs.Records.{is_layer, index_of, named}
+use Rattle.records.specs.Records.{is_layer}
 use Rattle.judging.specs.Judging.{type_not_allowed, wrong_embedded}
 use Rattle.loop_entries.specs.declared.Entry.{Entry}
 use Rattle.loop_entries.specs.declared.Stream.{Stream}
 use Rattle.es_loop.specs.declared.verdict.Verdict.{Verdict}
 use Rattle.es_loop.specs.declared.verdict.Verdict.TheVariants.{Entries, Refused as Refuses}
-use Rattle.es_loop.specs.declared.reader.Outcome.{Outcome}
 use Rattle.es_loop.specs.declared.reader.Outcome.TheVariants.{Accepted, Refused}
 use Rattle.es_loop.specs.declared.reader.LoopRead.{LoopRead}
 use Rattle.loop_entries.specs.Entries.{es_info_length, no_stream, stream_of, pair_of, marked_stream, marked_streams, streams_of, entry_of}
@@ -33,7 +29,7 @@ use Rattle.es_loop.specs.Meaning as Loop
 use Rattle.es_loop.proofs.Meant.{by_head, answer_meant, answer_only}
 use Rattle.es_loop.proofs.Judged.{sound}
 use Rattle.mvc_extension.specs.declared.MvcExtension.{MvcExtension}
-use Rattle.mvc_extension.specs.Ranges.{wrong_ranges, WrongRanges}
+use Rattle.mvc_extension.specs.Ranges.{wrong_ranges}
 use Rattle.mvc_extension.proofs.RangesMeant.{ranges_meant, ranges_only}
 use Rattle.mvc_descriptors.specs.declared.Found.{Found}
 use Rattle.mvc_descriptors.specs.declared.Found.TheVariants.{Missing, One, Wrong}
@@ -42,9 +38,9 @@ use Rattle.mvc_descriptors.specs.Meaning.{WrongExtension, HasExtension}
 use Rattle.mvc_descriptors.proofs.Meant.{FoundCase, none_found, one_found, wrong_found, found_meant, never_both, has_only}
 use Rattle.stereo_set.specs.declared.views.View.{View}
 use Rattle.stereo_set.specs.declared.set.StereoRead.{StereoRead}
-use Rattle.stereo_set.specs.Views.{index_in, is_base_layer, is_second_layer, is_layer_view, layers_among}
-use Rattle.stereo_set.specs.Set.{refused_set, accepted_set, ranges_judged, found_judged, described_set, arranged, set_of}
-use Rattle.stereo_set.specs.Reading.{info_of, view_of, views_of, stereo_by, stereo_read}
+use Rattle.stereo_set.specs.Views.{layers_among}
+use Rattle.stereo_set.specs.Set.{refused_set, accepted_set, found_judged, described_set, set_of}
+use Rattle.stereo_set.specs.Reading.{view_of, views_of, stereo_by, stereo_read}
 use Rattle.stereo_set.specs.Meaning.{Accepts, answered, InfoAt, StereoLayers, Answers, loop_refused, not_the_two, wrong_extension, wrong_ranges_lem, a_set}
 use Rattle.stereo_set.specs.Two.{LayerAt, LayerOf, TwoLayers}
 use Rattle.stereo_set.proofs.Judged.{Fine, entries_in, judged_by, SetCase, no_set, the_set, set_case}

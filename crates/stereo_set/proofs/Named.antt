@@ -1,21 +1,20 @@
 -- What the two layers name, in a loop that is accepted: refusals 6 and 9 leave a layer of type 0x1B and index 0 no layer to name, and one of type 0x20 and index 1
 -- the layer 0 alone. So the first is a base, and the second rests on it.
 -- Assumes nothing.
-use Prim.Native.Nat.{ℕ, zero, suc, ◌≤◌, ◌<◌}
+use Prim.Native.Nat.{ℕ, ◌<◌}
 use mathlib.Core.Path.{◌≡◌, refl, sym, ◌∙◌, ap}
-use mathlib.Core.Bool.{Bool, true, false, cond, not, ◌||◌}
-use mathlib.Core.List.{List, [], ◌∷◌, map}
+use mathlib.Core.Bool.{Bool, true, false, not, ◌||◌}
+use mathlib.Core.List.{List, [], ◌∷◌}
 use native.Mathlib.Omega.{arith}
-use borrow.Author.Tests.{eqb-true, leb-false, le-leb, not-false}
-use lib.Dec.{eqb, leb}
-use Rattle.combinators.specs.Bools.{apart, both_ways, neither_left, neither_right, either_right}
+use borrow.Author.Tests.{eqb-true, leb-false}
+use lib.Dec.{leb}
+use Rattle.combinators.specs.Bools.{apart, neither_left}
 use Rattle.vocabulary.specs.StreamTypes.{may_stand_on}
 use Rattle.vocabulary.specs.declared.LayerIndex.{LayerIndex}
-use Rattle.hierarchy.specs.declared.HierarchyRecord.{HierarchyRecord}
 use Rattle.records.specs.declared.Record.{Record}
 use Rattle.records.specs.declared.Record.TheVariants.{NoRecord, Hierarchy, Extension, Implied}
 use Rattle.records.specs.Records.{is_layer, is_base, index_of, named, plain}
-use Rattle.judging.specs.Judging.{type_not_allowed, wrong_at, wrong_list, wrong_embedded}
+use Rattle.judging.specs.Judging.{type_not_allowed, wrong_list, wrong_embedded}
 
 -- a list of one index below its layer's own
 one_below : (own index : ℕ) → wrong_list own (index ∷ []) ≡ false → index < own

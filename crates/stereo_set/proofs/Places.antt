@@ -1,7 +1,7 @@
 -- The layers among entries, and where they stand: none, one, two, or more than two.
 -- Assumes nothing.
 use Prim.Native.Nat.{ℕ, zero, suc, ◌<◌}
-use mathlib.Core.Path.{◌≡◌, refl, sym, ◌∙◌, ap}
+use mathlib.Core.Path.{◌≡◌, refl, ap}
 use mathlib.Core.Logic.{◌⊎◌, inl, inr, ⊎_elim}
 use mathlib.Core.Bool.{Bool, true, false, cond}
 use mathlib.Core.List.{List, [], ◌∷◌, ◌++◌}
@@ -10,7 +10,7 @@ use native.Mathlib.Nat.{not-suc-le-zero}
 use Rattle.combinators.specs.Bools.{both_ways}
 use Rattle.combinators.specs.Lists.{Nth, here, there, nth_inside}
 use Rattle.stereo_set.specs.declared.views.View.{View}
-use Rattle.stereo_set.specs.Views.{is_layer_view, if_layer, layers_among}
+use Rattle.stereo_set.specs.Views.{is_layer_view, layers_among}
 
 pub record LayerPlace (vs : List View) (k : ℕ) (v : View) : Type 0 where
   pub stands : Nth vs k v

@@ -10,16 +10,16 @@ use lib.Dec.{ltb}
 use lib.ListN.{length, take, drop, drop_of_length-le}
 use lib.Seq.{drop-drop, take-take, take-add, drop_at, length-take-le}
 use Rattle.combinators.specs.Lists.{part_to_end}
-use Rattle.framing.specs.Pieces.{Item, whole, cut, cut_piece}
+use Rattle.framing.specs.Pieces.{whole, cut, cut_piece}
 use Rattle.vocabulary.specs.declared.stream_types.Reading.TheVariants.{Edition2015}
 use Rattle.es_loop.specs.declared.verdict.Verdict.TheVariants.{Entries}
-use Rattle.loop_entries.specs.Entries.{es_info_length, size_of, stream_of, pair_of, marked_stream, streams_alone, streams_of}
+use Rattle.loop_entries.specs.Entries.{es_info_length, size_of, pair_of, streams_alone, streams_of}
 use Rattle.es_loop.specs.Reading.{verdict_of}
 use Rattle.es_loop.proofs.Judged.{Sound, sound}
 use Rattle.loop_entries.proofs.Front.{left_at, left_long}
 use Rattle.es_loop.proofs.Walk.{Cursor, cursor_start, size_5, size_fits, next_here}
 use Rattle.stereo_set.specs.declared.views.View.{View}
-use Rattle.stereo_set.specs.Reading.{view_of, views_in}
+use Rattle.stereo_set.specs.Reading.{view_of}
 
 module _ (bytes : List ℕ) where
   -- Where the walk stands: before the byte `at`, after some of the entries.

@@ -1,15 +1,12 @@
 -- Every place and every count that these functions tell fits in the 56 bits that an answer has for it: a table has at most 2^48 rows.
 -- Assumes nothing.
 use Prim.Native.Nat.{ℕ, ◌≤◌, ◌<◌, ◌^◌}
-use mathlib.Core.Bool.{Bool, true, false, cond}
 use mathlib.Core.List.{List, [], ◌∷◌}
-use mathlib.Core.Path.{◌≡◌, refl}
 use native.Mathlib.Omega.{arith}
 use lib.Dec.{ltb}
-use Rattle.combinators.specs.Below.{seek, count, count_short}
+use Rattle.combinators.specs.Below.{count_short}
 use Rattle.combinators.proofs.Seeking.{seek_first}
 use Rattle.vocabulary.specs.declared.stream_types.Reading.{Reading}
-use Rattle.vocabulary.specs.declared.refusal.Refusal.{Refusal}
 use Rattle.vocabulary.specs.declared.refusal.Refusal.TheVariants.{Unpaired, UsedTwice, SpanTooWide, NoRoom}
 use Rattle.vocabulary.specs.Refusals.{place_of}
 use Rattle.closure.specs.declared.Layers.{Layers}

@@ -20,7 +20,7 @@ use Rattle.packet_states.specs.Meaning.{Stated}
 use Rattle.packet_states.proofs.Judged.{stated}
 use Rattle.packet_states.proofs.Fed.{ready, state_left, left_state, left_standing}
 use Rattle.c_answers.specs.Answers.{accepted, not_a_call}
-use Rattle.thoquenry_pieces.specs.Calls.{feed_answer, rows_laid, feed_columns, Becomes, FeedCall}
+use Rattle.thoquenry_pieces.specs.Calls.{rows_laid, Becomes, FeedCall}
 
 -- behind a part that goes to the end there is nothing
 nothing_behind : (ys xs : List ℕ) (at : ℕ) → ys ++ drop (length xs - at) (drop at xs) ≡ ys

@@ -1,15 +1,14 @@
 -- The call that begins a state: its lists are those of the layers of the loop, or as they were.
 -- Assumes nothing.
 use Prim.Native.Nat.{ℕ, ◌≤◌}
-use mathlib.Core.Path.{◌≡◌, refl, sym, ap, ap₂, ◌∙◌}
-use mathlib.Core.Bool.{Bool, true, false, cond, ◌&&◌}
+use mathlib.Core.Path.{◌≡◌, sym, ap, ap₂, ◌∙◌}
+use mathlib.Core.Bool.{Bool, cond, ◌&&◌}
 use mathlib.Core.List.{List}
 use native.Mathlib.Omega.{arith}
 use borrow.Author.Tests.{eq-eqb, ne_eqb}
 use lib.Dec.{eqb}
 use lib.ListN.{length, replicate}
 use lib.Seq.{sets}
-use Rattle.buffers.specs.Buffers.{over}
 use Rattle.buffers.proofs.Laws.{sets_over}
 use Rattle.sets.specs.Sets.{size}
 use Rattle.vocabulary.specs.declared.refusal.Refusal.{Refusal}
@@ -17,7 +16,7 @@ use Rattle.es_loop.specs.declared.reader.Outcome.{Outcome}
 use Rattle.es_loop.specs.declared.reader.Outcome.TheVariants.{Accepted, Refused}
 use Rattle.loop_layers.specs.declared.table.LayerTable.{LayerTable}
 use Rattle.loop_layers.specs.declared.table.TableRead.{TableRead}
-use Rattle.pid_layers.specs.PidLayers.{pids, layers_by_pid}
+use Rattle.pid_layers.specs.PidLayers.{pids}
 use Rattle.pid_layers.proofs.Meant.{blank_long, tabled_long}
 use Rattle.recording_imports.specs.Rows.{loop_layers, pid_table_of}
 use Rattle.feeding.specs.declared.Progress.{Progress}

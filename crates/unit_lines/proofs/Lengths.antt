@@ -10,7 +10,7 @@ use lib.ListN.{length, get_or, length-append}
 use Rattle.text.specs.Text.{ascii, decimal}
 use Rattle.text.proofs.Laws.{decimal_length, texts_length}
 use Rattle.listing.specs.Lines.{labelled}
-use Rattle.unit_lines.specs.Lines.{number_text, number_at, numbers_text, lag_text, lag_at, lags_text, unit_line, row_line, refusal_line}
+use Rattle.unit_lines.specs.Lines.{number_text, number_at, numbers_text, lag_text, lag_at, lags_text, unit_line}
 
 label_length : (label : List ℕ) (n : ℕ) → length (labelled label n) ≤ length label + 20
 label_length label n = omega (arith, length-append label (decimal n), decimal_length n)

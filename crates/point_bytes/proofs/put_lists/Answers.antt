@@ -3,7 +3,6 @@
 use Rattle.buffers.proofs.Laws.{laid_as, laid_then}
 use Rattle.point_fields.proofs.Rows.{row_fits}
 use Rattle.point_bytes.proofs.Lists.{lists_in_lem}
-use borrow.Author.Rules.{rules}
 use native.Mathlib.Omega.{arith}
 use Rattle.point_bytes.proofs.put_lists.Goals as goal
 

@@ -2,7 +2,6 @@
 -- Assumes nothing.
 use Rattle.buffers.proofs.Laws.{laid_as, laid_then}
 use Rattle.point_bytes.proofs.Lists.{two_halves}
-use borrow.Author.Rules.{rules}
 use Rattle.point_bytes.proofs.put_point.Goals as goal
 
 pub returns : goal.returns

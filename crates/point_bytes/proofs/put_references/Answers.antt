@@ -1,15 +1,12 @@
 -- `put_references` meets its contract. The invariant: the references passed are laid in, after the empty text at the start.
 -- Assumes nothing.
-use Prim.Native.Nat.{◌-◌, ◌≤◌}
-use mathlib.Core.Path.{sym, ◌∙◌, ap}
-use lib.ListN.{length, take}
+use mathlib.Core.Path.{◌∙◌, ap}
+use lib.ListN.{length}
 use lib.Seq.{take_all}
 use Rattle.combinators.specs.Lists.{any, gather, any_none}
-use Rattle.buffers.specs.Buffers.{Laid}
 use Rattle.buffers.proofs.Laws.{laid_as, laid_length}
 use Rattle.buffers.proofs.Pieces.{pieces_start, pieces_next, pieces_end}
 use Rattle.point_fields.specs.Fields.{reference_bytes, reference_too_wide}
-use borrow.Author.Rules.{rules}
 use native.Mathlib.Omega.{arith}
 use Rattle.point_bytes.proofs.put_references.Goals as goal
 

@@ -1,7 +1,6 @@
 -- `reference_byte` meets its contract.
 -- Assumes nothing.
 use Rattle.point_bytes.proofs.Lists.{reference_written}
-use borrow.Author.Rules.{rules}
 use native.Mathlib.Omega.{arith}
 use Rattle.point_bytes.proofs.reference_byte.Goals as goal
 

@@ -1,8 +1,7 @@
 -- `decide` meets its contract: the tests in their order.
 -- Assumes nothing.
-use mathlib.Core.Path.{◌≡◌, sym}
+use mathlib.Core.Path.{sym}
 use borrow.Author.Tests.{lt-ltb, le-ltb}
-use borrow.Author.Rules.{rules}
 use Rattle.point_weights.proofs.decide.Goals as goal
 
 pub returns-then-weighed-references : goal.returns-then-weighed-references

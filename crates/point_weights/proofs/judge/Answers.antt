@@ -1,11 +1,9 @@
 -- `judge` meets its contract: the counts, the references, and what the rows come to.
 -- Assumes nothing.
-use Prim.Native.Nat.{◌≤◌}
-use mathlib.Core.Path.{◌≡◌, sym, ◌∙◌, ap}
+use mathlib.Core.Path.{sym, ◌∙◌, ap}
 use lib.ListN.{length}
 use Rattle.point_weights.specs.Weighing.{decided}
 use Rattle.point_weights.proofs.Weights.{counts_decide, references_decide, points_decide, whole_rows}
-use borrow.Author.Rules.{rules}
 use native.Mathlib.Omega.{arith}
 use Rattle.point_weights.proofs.judge.Goals as goal
 

@@ -1,15 +1,11 @@
 -- `some_reference_too_wide` meets its contract. The invariant: none of the references passed is too wide.
 -- Assumes nothing.
 use Prim.Native.Nat.{◌-◌, ◌≤◌}
-use mathlib.Core.Bool.{false, ◌||◌}
-use mathlib.Core.Path.{◌≡◌, refl, sym, ◌∙◌, ap, ap₂}
+use mathlib.Core.Bool.{false}
+use mathlib.Core.Path.{◌≡◌}
 use lib.ListN.{length, take}
-use lib.Seq.{take_all}
-use Rattle.combinators.specs.Lists.{any, any_next, any_found}
+use Rattle.combinators.specs.Lists.{any}
 use Rattle.point_fields.specs.Fields.{reference_too_wide}
-use Rattle.point_weights.proofs.Weights.{reference_wide, reference_fine}
-use borrow.Author.Rules.{rules}
-use native.Mathlib.Omega.{arith}
 use Rattle.point_weights.proofs.some_reference_too_wide.Given as goal
 
 abbrev pub invariant-loop-i : goal.invariant-loop-i

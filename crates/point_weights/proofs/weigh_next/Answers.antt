@@ -1,8 +1,7 @@
 -- `weigh_next` meets its contract: a row that is too wide is not counted.
 -- Assumes nothing.
-use mathlib.Core.Path.{◌≡◌, sym, ◌∙◌}
+use mathlib.Core.Path.{sym, ◌∙◌}
 use Rattle.point_fields.proofs.Rows.{row_fits}
-use borrow.Author.Rules.{rules}
 use native.Mathlib.Omega.{arith}
 use Rattle.point_weights.proofs.weigh_next.Goals as goal
 

@@ -1,14 +1,10 @@
 -- `weigh_points` meets its contract. The invariant: what the rows passed come to, continued over those that are left, is the answer.
 -- Assumes nothing.
-use Prim.Native.Nat.{ℕ, ◌+◌, ◌-◌, ◌*◌, ◌/◌, ◌≤◌}
-use mathlib.Core.Path.{◌≡◌, refl, sym, ◌∙◌, ap}
-use mathlib.Core.List.{List}
-use lib.ListN.{length, take, drop, length-take, length-drop}
+use Prim.Native.Nat.{◌-◌, ◌*◌, ◌≤◌}
+use mathlib.Core.Path.{◌≡◌}
+use lib.ListN.{drop}
 use Rattle.point_weights.specs.Rows.{twelves, rows_in}
 use Rattle.point_weights.specs.Weighing.{nothing_weighed, weighed_after}
-use Rattle.point_weights.proofs.Weights.{rows_start, rows_next, rows_none}
-use borrow.Author.Rules.{rules}
-use native.Mathlib.Omega.{arith}
 use Rattle.point_weights.proofs.weigh_points.Given as goal
 
 abbrev pub invariant-loop-i : goal.invariant-loop-i

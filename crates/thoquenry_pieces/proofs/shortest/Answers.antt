@@ -1,0 +1,10 @@
+-- `thoquenry_pieces::shortest` meets its contract. Assumes nothing.
+use Prim.Native.Nat.{min}
+use mathlib.Core.Path.{ap, ◌∙◌}
+use Rattle.thoquenry_pieces.proofs.shortest.Goals as goal
+
+pub returns : goal.returns
+returns c =
+    let a = c.args in
+    c.lesser-4.ensures
+    ∙ ap (min a.indices) (c.lesser-3.ensures ∙ ap (min a.decodings) (c.lesser-2.ensures ∙ ap (min a.matches) c.lesser.ensures))

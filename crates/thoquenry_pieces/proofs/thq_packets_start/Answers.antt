@@ -1,0 +1,15 @@
+-- `thq_packets_start` meets its contract: lists of other lengths are no call, and else the loop decides. Assumes nothing.
+use Rattle.thoquenry_pieces.proofs.Starting.{state_wrong, counts_wrong, loop_begins, loop_refuses}
+use Rattle.thoquenry_pieces.proofs.thq_packets_start.Goals as goal
+
+pub returns-then-state-ne-STATE_BYTES : goal.returns-then-state-ne-STATE_BYTES
+returns-then-state-ne-STATE_BYTES c = state_wrong c.args.bytes.now c.args.state.now c.args.counts.now c.if-state-ne-STATE_BYTES.true c.not_a_call.ensures
+
+pub returns-then-counts-ne-STATE_NUMBERS : goal.returns-then-counts-ne-STATE_NUMBERS
+returns-then-counts-ne-STATE_NUMBERS c = counts_wrong c.args.bytes.now c.args.state.now c.args.counts.now c.if-state-ne-STATE_BYTES.false c.if-counts-ne-STATE_NUMBERS.true c.not_a_call-then-counts-ne-STATE_NUMBERS.ensures
+
+pub returns-in-Accepted : goal.returns-in-Accepted
+returns-in-Accepted c = loop_begins c.args.bytes.now c.args.state.now c.args.counts.now c.if-state-ne-STATE_BYTES.false c.if-counts-ne-STATE_NUMBERS.false c.read_table-read.ensures c.in-Accepted.is c.begin.ensures
+
+pub returns-in-Refused : goal.returns-in-Refused
+returns-in-Refused c = loop_refuses c.args.bytes.now c.args.state.now c.args.counts.now c.if-state-ne-STATE_BYTES.false c.if-counts-ne-STATE_NUMBERS.false c.read_table-read.ensures c.in-Refused.is c.refused.ensures

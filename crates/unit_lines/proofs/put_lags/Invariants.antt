@@ -1,0 +1,13 @@
+-- `unit_lines::put_lags` meets its contract. The invariant: the lags so far are laid in after the empty text at the start. The measure is how many are left.
+-- Assumes nothing.
+use Prim.Native.Nat.{◌-◌, ◌≤◌}
+use lib.ListN.{length}
+use Rattle.unit_lines.specs.Lines.{lag_at}
+use Rattle.text.specs.Text.{Laid, texts}
+use Rattle.unit_lines.proofs.put_lags.Given as goal
+
+abbrev pub invariant-loop-i : goal.invariant-loop-i
+invariant-loop-i l = (l.i ≤ length l.lags) × Laid l.initial.out l.initial.place (texts (lag_at l.lags) l.i) l.place l.out
+
+abbrev pub decreases-loop-i : goal.decreases-loop-i
+decreases-loop-i l = length l.lags - l.i
