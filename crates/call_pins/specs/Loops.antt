@@ -18,7 +18,6 @@ use Rattle.es_loop.specs.Reading.{loop_read}
 use Rattle.closure.specs.declared.Closure.TheVariants.{Complete, Refused as NoClosure}
 use Rattle.loop_layers.specs.Closures.{loop_closure}
 use Rattle.loop_writer.specs.declared.writer.Written.{Written}
-use Rattle.loop_writer.specs.declared.writer.Written.TheVariants as Written
 use Rattle.loop_writer.specs.Writing.{answer, content}
 use Rattle.record_pins.specs.Records.{hierarchy_payload, hierarchy, extension_payload, extension}
 use Rattle.listing.specs.Lines.{members, layer_line, line_at, layers_text, accepted_text, refused_text, loop_text}

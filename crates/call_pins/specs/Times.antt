@@ -7,7 +7,6 @@ use Rattle.stamps.specs.declared.Times.{Times}
 use Rattle.pes_reader.specs.declared.Answer.TheVariants.{Read, Refused}
 use Rattle.pes_reader.specs.Reading.{read_of}
 use Rattle.pes_writer.specs.declared.Written.{Written}
-use Rattle.pes_writer.specs.declared.Written.TheVariants as Written
 use Rattle.pes_writer.specs.Writing.{header_of, write_of, buffer_of}
 
 pub record Case : Type 0 where

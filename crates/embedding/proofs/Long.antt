@@ -1,9 +1,9 @@
 -- A loop that the 2015 reading accepts and that lists more than 8 layers somewhere: the 2015 reading before W-206 refuses it with 10 alone, and the 2009
 -- reading before it accepts it.
 -- Assumes nothing.
-use Prim.Native.Nat.{ℕ, suc, ◌≤◌, ◌<◌}
+use Prim.Native.Nat.{ℕ, ◌≤◌, ◌<◌}
 use mathlib.Core.Bool.{Bool, true, false, true≢false}
-use mathlib.Core.List.{List, [], ◌∷◌, map, nil≢cons, head-eq_of_cons-eq}
+use mathlib.Core.List.{List, ◌∷◌, map, nil≢cons, head-eq_of_cons-eq}
 use mathlib.Core.Logic.{◌⊎◌, inl, inr}
 use mathlib.Core.Path.{◌≡◌, refl, sym, ◌∙◌, ap, subst}
 use native.Mathlib.Omega.{arith}
@@ -37,9 +37,9 @@ use Rattle.es_loop.proofs.Meant.{broken_last, record_there, entry_case, layer_wh
 use Rattle.loop_layers.specs.Closures.{entries_read}
 use Rattle.loop_layers.proofs.Meant.{entries_read_lem}
 use Rattle.agreement.specs.Entries.{accepted_in_2009}
-use Rattle.embedding.specs.Before.{MoreThan8, more_than_8, Told, refused, accepted}
+use Rattle.embedding.specs.Before.{MoreThan8, more_than_8, refused, accepted}
 use Rattle.embedding.specs.ReadingBefore.{Condition, as_now, embedded_many, Answers, refuses, accepts}
-use Rattle.embedding.specs.Changed.{FirstLong, TenAlone, As2009, LongLists}
+use Rattle.embedding.specs.Changed.{TenAlone, As2009, LongLists}
 use Rattle.embedding.proofs.Unique.{one_answer}
 
 -- ---- 10 as a test

@@ -1,19 +1,18 @@
 -- What is said of a row of a closure layer in one table holds of it in the other: the order of its layer (14), claims and heads, its distance from the first (18).
 -- Assumes nothing.
-use Prim.Native.Nat.{ℕ, ◌≤◌, ◌<◌}
+use Prim.Native.Nat.{ℕ, ◌<◌}
 use mathlib.Core.Bool.{Bool, true, false, true≢false}
-use mathlib.Core.Path.{◌≡◌, refl, sym, ◌∙◌, ap, subst, subst₂}
+use mathlib.Core.Path.{◌≡◌, refl, sym, ◌∙◌, subst, subst₂}
 use native.Mathlib.Omega.{arith}
 use lib.IntN.{ℤ}
-use lib.ListN.{length}
 use Rattle.clock.specs.Clock.{ForwardDistance, Lag}
 use Rattle.closure.specs.declared.Layers.{Layers}
 use Rattle.closure.specs.Closures.{rested_on}
-use Rattle.closure.specs.Meaning.{Names, RestsOn, by}
+use Rattle.closure.specs.Meaning.{Names, RestsOn}
 use Rattle.closure.proofs.Reached.{member_rests_on, rests_on_member}
 use Rattle.sets.specs.Sets.{has}
-use Rattle.rows.specs.Table.{Table, rows_in, layer_of, decoding_of, match_of}
-use Rattle.rows.specs.Meaning.{FirstRow, NoRow, WrongShape, unequal_decodings, unequal_matches, too_many_rows, Ahead, FromRowToRow, BreaksOrder, not_below, not_rising, InOrder}
+use Rattle.rows.specs.Table.{Table, rows_in, layer_of}
+use Rattle.rows.specs.Meaning.{FirstRow, NoRow, WrongShape, unequal_decodings, unequal_matches, too_many_rows, Ahead, FromRowToRow, BreaksOrder, not_below, not_rising}
 use Rattle.claims.specs.Meaning.{Claims, Claimed, Head}
 use Rattle.spans.specs.Meaning.{ClosureRow, FirstClosureRow, Distance, SpansTooFar}
 use Rattle.other_layers.specs.Meaning.{SameNumber, SameRow, DifferOutside}

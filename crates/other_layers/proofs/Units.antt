@@ -1,22 +1,21 @@
 -- Assemblies, units, their order and the lists that hold them: what is said of one table holds of the other.
 -- Assumes nothing.
 use Prim.Native.Nat.{ℕ, zero, suc, ◌<◌}
-use mathlib.Core.List.{List, [], ◌∷◌, ◌++◌, map}
+use mathlib.Core.List.{List, [], ◌∷◌, map}
 use mathlib.Core.Path.{◌≡◌, refl, sym, ◌∙◌, ap, subst, subst₂}
 use native.Mathlib.Omega.{arith}
 use lib.IntN.{ℤ}
 use lib.ListN.{length, get_or, length-map}
 use Rattle.clock.specs.Clock.{Lag}
 use Rattle.closure.specs.declared.Layers.{Layers}
-use Rattle.closure.specs.Meaning.{Names, RestsOn, itself, by}
+use Rattle.closure.specs.Meaning.{RestsOn, by}
 use Rattle.combinators.specs.Ascending.{Ascending}
-use Rattle.rows.specs.Table.{Table, rows_in, layer_of, decoding_of, match_of}
+use Rattle.rows.specs.Table.{Table, layer_of}
 use Rattle.rows.specs.Meaning.{FirstRow, NoRow}
 use Rattle.assembling.proofs.Own.{rests_further}
-use Rattle.claims.specs.Meaning.{Head}
 use Rattle.spans.specs.Meaning.{ClosureRow}
-use Rattle.heads.specs.Meaning.{Assembles, AssemblesOwn, NoAssembly, InUnit, InUnitOf, SharesRow, LagsBeside, no_row, beside, UnitOf}
-use Rattle.unit_lists.specs.Meaning.{ComesBefore, lower_distance, lower_layer, lower_row, AllInOrder, HeadsInOrder, UnitsOf, no_unit, next_unit}
+use Rattle.heads.specs.Meaning.{Assembles, AssemblesOwn, NoAssembly, InUnitOf, SharesRow, LagsBeside, no_row, beside, UnitOf}
+use Rattle.unit_lists.specs.Meaning.{ComesBefore, lower_distance, lower_layer, lower_row, HeadsInOrder, UnitsOf, no_unit, next_unit}
 use Rattle.other_layers.proofs.Rows.{Same, flip, inside, distance, head_row, head, first_row_lem}
 use Rattle.other_layers.proofs.Rows as rows
 

@@ -9,7 +9,6 @@ use Rattle.loop_entries.specs.Entries.{entry_of}
 use Rattle.es_loop.specs.Reading.{accepted}
 use Rattle.es_loop.specs.Meaning as Loop
 use Rattle.closure.specs.declared.Layers.{Layers}
-use Rattle.closure.specs.Meaning.{RestsOn}
 use Rattle.loop_layers.specs.Meaning.{LayersOf}
 use Rattle.rows.specs.Table.{Table, rows_in, layer_of, decoding_of, match_of}
 use Rattle.rows.specs.Meaning.{NoRow, RowOutOfRange}

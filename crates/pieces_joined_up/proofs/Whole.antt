@@ -1,15 +1,14 @@
 -- THE THEOREM, by induction on the pieces: a state that was fed stands for what is known after them, and the columns hold their rows.
 -- Assumes nothing.
-use Prim.Native.Nat.{ℕ, zero, suc, ◌+◌, ◌-◌, ◌*◌, ◌/◌, ◌≤◌, ◌<◌, min}
+use Prim.Native.Nat.{ℕ, ◌+◌, ◌-◌, ◌*◌, ◌/◌, ◌≤◌, min}
 use mathlib.Core.Path.{◌≡◌, refl, sym, ap, ap₂, subst, ◌∙◌}
-use mathlib.Core.Bool.{Bool, true, false, cond, not, ◌&&◌, ◌||◌}
+use mathlib.Core.Bool.{Bool, true, false, cond, ◌&&◌, ◌||◌}
 use mathlib.Core.List.{List, [], ◌∷◌, ◌++◌, map, append_assoc, append-nil}
-use native.Mathlib.Nat.{le_trans, zero-add, add-zero}
-use native.Mathlib.Decide.{dec_lt}
+use native.Mathlib.Nat.{le_trans, add-zero}
 use native.Mathlib.Omega.{arith}
 use borrow.Author.Tests.{eq-eqb, le-leb, lt-ltb, le-ltb, ltb-true, ltb-false}
-use lib.Dec.{eqb, ltb, leb}
-use lib.ListN.{length, get_or, take, drop, length-append, length-drop, length-map}
+use lib.Dec.{eqb, ltb}
+use lib.ListN.{length, get_or, drop, length-append, length-drop, length-map}
 use lib.Seq.{sets, length-sets, take_at, take-nil, take_all}
 use Rattle.buffers.specs.Buffers.{over}
 use Rattle.buffers.proofs.Laws.{sets_over}
@@ -19,14 +18,14 @@ use Rattle.scanning.specs.declared.events.Row.{Row}
 use Rattle.scanning.specs.declared.events.Event.TheVariants.{Fault}
 use Rattle.scanning.specs.Events.{packets_in}
 use Rattle.unit_starts.specs.declared.Found.{Found}
-use Rattle.unit_starts.specs.Finding.{packet_in, noted, found_in, rows_in}
+use Rattle.unit_starts.specs.Finding.{packet_in, noted, found_in}
 use Rattle.unit_starts.proofs.Running.{rows_counted_from, rows_counted}
 use Rattle.es_loop.specs.declared.reader.Outcome.{Outcome}
 use Rattle.es_loop.specs.declared.reader.Outcome.TheVariants.{Accepted}
 use Rattle.recording_rows.specs.Columns.{Columns, columns, room_in, over_all, index_in, decoding_in, match_in, tref_in}
 use Rattle.recordings.specs.declared.Recording.{Recording}
 use Rattle.recordings.specs.declared.Recording.TheVariants.{TooManyRows, Faulty, NotRead}
-use Rattle.recordings.specs.Reading.{fault_of, header_refusal, answer_of, recording_of}
+use Rattle.recordings.specs.Reading.{fault_of, header_refusal, answer_of}
 use Rattle.recording_imports.specs.declared.RowsRead.{RowsRead}
 use Rattle.recording_imports.specs.declared.RowsRead.TheVariants.{Rows, Refused, NotRead as HeaderNotRead}
 use Rattle.recording_imports.specs.Rows.{loop_layers, pid_table, rows_of, rows_told, rows_for, rows_under, columns_under}
@@ -37,9 +36,9 @@ use Rattle.feeding.specs.declared.Progress.{Progress}
 use Rattle.piece_feeding.specs.Told.{starts_with, no_ends, found_at_end}
 use Rattle.piece_feeding.proofs.Both.{fitting_then}
 use Rattle.piece_feeding.proofs.Meant.{fed_nothing_yet, fed_last, end_is_whole}
-use Rattle.packet_states.specs.States.{state_bytes, state_numbers, most_packets, is_state, table_in, part_in, kept_in, ends_in, progress_in, no_room_in, counts_of, Standing, standing, standing_fed, may_feed}
+use Rattle.packet_states.specs.States.{state_bytes, state_numbers, most_packets, is_state, part_in, kept_in, progress_in, no_room_in, counts_of, Standing, standing, standing_fed, may_feed}
 use Rattle.packet_states.proofs.Judged.{stated}
-use Rattle.packet_states.proofs.Fed.{ready, progress_of, ends_of}
+use Rattle.packet_states.proofs.Fed.{ready}
 use Rattle.c_answers.specs.Answers.{not_a_call}
 use Rattle.packet_answers.specs.Answers.{rows_answer}
 use Rattle.thoquenry_pieces.specs.Calls.{StateReply, state_reply, begun, begun_by, start_call, rows_laid, Becomes, FeedCall, room_told, told_of, told_by, told_call}

@@ -1,6 +1,6 @@
 -- The room that the text needs: 521,166 bytes are enough for every two loops.
 -- Assumes nothing.
-use Prim.Native.Nat.{ℕ, zero, suc, ◌*◌, ◌≤◌}
+use Prim.Native.Nat.{ℕ, suc, ◌*◌, ◌≤◌}
 use mathlib.Core.Bool.{Bool, true, false, cond}
 use mathlib.Core.List.{List, [], ◌∷◌, ◌++◌}
 use mathlib.Core.Path.{◌≡◌, refl, subst}
@@ -18,7 +18,7 @@ use Rattle.operation_points.specs.Values.{FrameRate, no_frame_rate, constant, Bi
 use Rattle.program_points.specs.Told.{points_in, streams_of, closed_of, points_read}
 use Rattle.program_points.proofs.Filled.{points_room}
 use Rattle.program_points.proofs.Tallying.{count_small, streams_many}
-use Rattle.text.specs.Text.{Laid, ascii, texts}
+use Rattle.text.specs.Text.{Laid, ascii}
 use Rattle.text.proofs.Laws.{decimal_length, texts_length, shown_whole}
 use Rattle.listing.specs.Lines.{labelled, refused_text}
 use Rattle.point_lines.specs.Lines.{front_text, frame_text, rate_text, rates_text, closed_text, member_text, members_text, streams_text, point_line}

@@ -9,8 +9,8 @@ use native.Mathlib.Numerals.{add-one}
 use native.Mathlib.Omega.{arith}
 use borrow.Author.Tests.{le-ltb, lt-ltb}
 use lib.Dec.{eqb, ltb}
-use lib.ListN.{length, get_or, set, take, drop, replicate, length-append, length-set, take-append-drop, length-map}
-use lib.Seq.{sets, length-sets, length-take-le, take_all, take-suc, drop-drop, get_or-drop}
+use lib.ListN.{length, get_or, set, take, drop, replicate, length-append, take-append-drop, length-map}
+use lib.Seq.{sets, length-take-le, take_all, take-suc, drop-drop, get_or-drop}
 use Rattle.combinators.specs.Lists.{gather, gather_append, gather_next}
 use Rattle.syntax.specs.Table.{AreBytes}
 use Rattle.buffers.specs.Buffers.{Laid}
@@ -23,9 +23,9 @@ use Rattle.operation_points.specs.declared.Head.{Head}
 use Rattle.operation_points.specs.declared.Point.{Point}
 use Rattle.operation_points.specs.declared.Reference.{Reference}
 use Rattle.operation_points.specs.declared.LayerFlags.{LayerFlags}
-use Rattle.operation_points.specs.Values.{PointValue, FrameRate, no_frame_rate, constant, BitRate, no_bit_rate, rate, frame_rate_of, bit_rate_of, idc_of, indicator_of, flag_of, number_of, reference_in, reference_byte, references_in, layers_in, flags_in, flags_byte, reference_bytes, layer_bytes, numbers_of, row_of}
+use Rattle.operation_points.specs.Values.{PointValue, no_frame_rate, constant, frame_rate_of, bit_rate_of, idc_of, indicator_of, flag_of, number_of, reference_in, reference_byte, references_in, layers_in, flags_in, flags_byte, reference_bytes, layer_bytes}
 use Rattle.operation_points.proofs.Bytes.{reference_at, flags_at}
-use Rattle.program_points.specs.Places.{point_at, value_at, head_at, profiles_at, counts_at, IsPoint, IsPayload}
+use Rattle.program_points.specs.Places.{point_at, value_at, head_at, profiles_at, IsPoint}
 use Rattle.program_points.specs.Told.{list_of, closed_of, row_in}
 use Rattle.program_points.proofs.Tallying.{references_many, flags_many, built_of}
 

@@ -3,7 +3,7 @@
 use Rattle.std.specs.Prelude.{ℕ, ◌/◌, List, [], ◌∷◌, length}
 use Rattle.combinators.specs.Lists.{gather}
 use Rattle.closure.specs.declared.Layers.{Layers}
-use Rattle.operation_points.specs.Values.{PointValue, counts_of, reference_bytes, layer_bytes}
+use Rattle.operation_points.specs.Values.{counts_of, reference_bytes, layer_bytes}
 use Rattle.program_points.specs.Told.{values_in, points_in, profiles_in, streams_of, row_in}
 
 abbrev pub descriptor_numbers : List ℕ → List ℕ

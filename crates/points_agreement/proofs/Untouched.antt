@@ -38,7 +38,7 @@ use Rattle.point_descriptors.specs.Descriptors.{program_filling, found_in}
 use Rattle.program_points.specs.Told.{points_in, profiles_in, is_absent, tally_of, refused_points, by_filling, by_outcome, points_read}
 use Rattle.combinators.specs.Lists.{any}
 use Rattle.points_meaning.specs.Telling.{ProgramTold, refused, told}
-use Rattle.points_meaning.specs.Meaning.{InOrder, Listed, points_of, AnswersIn, answers_40, answers_41, answers_42, tells, InLayers, Answers, loop_refused, loop_accepted}
+use Rattle.points_meaning.specs.Meaning.{InOrder, Listed, points_of, answers_40, answers_41, answers_42, tells, InLayers, Answers, loop_refused, loop_accepted}
 use Rattle.points_meaning.proofs.Meant.{layers_read}
 use Rattle.points_agreement.specs.Untouched.{Untouched}
 

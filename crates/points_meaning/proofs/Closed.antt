@@ -2,7 +2,7 @@
 -- Assumes nothing.
 use Prim.Native.Nat.{ℕ}
 use mathlib.Core.Bool.{true}
-use mathlib.Core.List.{List, []}
+use mathlib.Core.List.{List}
 use mathlib.Core.Logic.{◌↔◌}
 use mathlib.Core.Path.{◌≡◌, sym, ◌∙◌, subst}
 use Rattle.combinators.specs.Lists.{Nth, here, there}
@@ -13,13 +13,14 @@ use Rattle.stream_lists.specs.Meaning.{ClosuresJoined, Ordered}
 use Rattle.stream_lists.proofs.Union.{closed_union}
 use Rattle.operation_points.specs.Values.{PointValue, reference_bytes}
 use Rattle.points_meaning.specs.Telling.{PointTold, ProgramTold, told}
-use Rattle.points_meaning.specs.Meaning.{InOrder, next, NotInLoop, not_in_loop, Listed, tells, InLayers, Answers, loop_accepted}
+use Rattle.points_meaning.specs.Meaning.{InOrder, nothing, next, NotInLoop, not_in_loop, Listed, tells, InLayers, Answers, loop_accepted}
 use Rattle.points_meaning.specs.Closed.{ClosedGives}
 use Rattle.points_meaning.proofs.Points.{list_ordered}
 use Rattle.points_meaning.proofs.Meant.{layers_read}
 
 -- one of a list, and the one that it goes with
 at_place : {A B : Type 0} {R : A → B → Type 0} {xs : List A} {ys : List B} → InOrder R xs ys → {k : ℕ} {y : B} → Nth ys k y → (x : A) × Nth xs k x × R x y
+at_place nothing n = elim n [ ]
 at_place (next {x = x} r rest) here = (x, here, r)
 at_place (next r rest) (there n) = let w = at_place rest n in (w.0, there w.1, w.2)
 

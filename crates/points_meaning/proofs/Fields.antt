@@ -1,32 +1,28 @@
 -- The values that are computed are what the fields say, and nothing else is: `points_meant` and `points_only`, `payload_meant` and `payload_only`.
 -- Assumes nothing.
-use Prim.Native.Nat.{ℕ, zero, suc, ◌+◌, ◌-◌, ◌*◌, ◌≤◌, ◌<◌}
+use Prim.Native.Nat.{ℕ, zero, suc, ◌+◌, ◌*◌, ◌≤◌, ◌<◌}
 use Prim.Native.String.{String}
 use mathlib.Core.Bool.{Bool, true, false, cond}
 use mathlib.Core.List.{List, [], ◌∷◌, ◌++◌, map, append_assoc}
 use mathlib.Core.Path.{◌≡◌, refl, sym, ap, ap₂, ◌∙◌, subst}
 use native.Mathlib.Nat.{add-zero, not-suc-le-zero}
 use native.Mathlib.Omega.{arith}
-use borrow.Author.Tests.{le-leb, lt-ltb, ltb-true, ltb-false, eq-eqb, eqb-true}
-use lib.Dec.{eqb, leb, ltb}
+use borrow.Author.Tests.{le-leb, ltb-true, ltb-false, eq-eqb, eqb-true}
+use lib.Dec.{eqb, ltb}
 use lib.ListN.{length, get_or, take, drop, length-append, length-drop, length-map, take-append-drop}
 use lib.Seq.{drop_at, take_at, get_or-drop, get_or-take, length-take-le}
-use Rattle.combinators.specs.Bools.{both_ways, false_unless}
+use Rattle.combinators.specs.Bools.{both_ways}
 use Rattle.combinators.specs.Lists.{Nth, here, there, nth_inside, nth_get_d, nth_of_map}
 use Rattle.syntax.specs.Table.{Table, bytes}
 use Rattle.syntax.specs.Named.{Given, given_to, read_by}
-use Rattle.operation_points.specs.declared.Reference.{Reference}
-use Rattle.operation_points.specs.declared.LayerFlags.{LayerFlags}
-use Rattle.operation_points.specs.declared.Head.{Head}
 use Rattle.operation_points.specs.declared.HeadRead.{HeadRead}
 use Rattle.operation_points.specs.declared.HeadRead.TheVariants.{Before, HeadDoesNotFit}
 use Rattle.operation_points.specs.declared.Point.{Point}
 use Rattle.operation_points.specs.declared.FirstPoint.{FirstPoint}
-use Rattle.operation_points.specs.declared.FirstPoint.TheVariants.{Read}
-use Rattle.operation_points.specs.Parts.{Part, Walked, walked, Parses, nothing, lines_then, repeated_then, when_there, when_not}
-use Rattle.operation_points.specs.Tables.{head_syntax, point_syntax, point_head, reference, flags_count, flags, profiles_count, profile}
-use Rattle.operation_points.specs.Points.{head_from, head_in, head_of, point_from, first_point, reference_from, flags_from}
-use Rattle.operation_points.specs.Values.{FrameRate, no_frame_rate, constant, BitRate, PointValue, DescriptorValue, frame_rate_of, bit_rate_of, reference_in, flags_in, point_value, points_by, each_point, points_in, profiles_in, value_after, value_of}
+use Rattle.operation_points.specs.Parts.{Part, Parses, nothing, lines_then, repeated_then, when_there, when_not}
+use Rattle.operation_points.specs.Tables.{head_syntax, point_syntax, point_head, reference, flags_count, flags, profiles_count}
+use Rattle.operation_points.specs.Points.{head_from, head_in, head_of, point_from, reference_from, flags_from}
+use Rattle.operation_points.specs.Values.{FrameRate, no_frame_rate, constant, BitRate, PointValue, DescriptorValue, frame_rate_of, bit_rate_of, reference_in, flags_in, point_value, points_by, each_point, points_in, value_after, value_of}
 use Rattle.operation_points.specs.Meaning.{BeginsWith, reads, Points, none, Descriptor}
 use Rattle.operation_points.proofs.Parsed.{parses_walk}
 use Rattle.operation_points.proofs.Meant.{first_only}

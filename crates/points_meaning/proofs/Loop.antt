@@ -1,6 +1,6 @@
 -- The descriptors of the program's loop: which are operation point descriptors, the verdict on all of them, and the values of those.
 -- Assumes nothing.
-use Prim.Native.Nat.{ℕ, suc, ◌+◌, ◌<◌}
+use Prim.Native.Nat.{ℕ, suc, ◌+◌}
 use mathlib.Core.Bool.{Bool, true, false, cond, ◌&&◌}
 use mathlib.Core.List.{List, [], ◌∷◌, ◌++◌, map}
 use mathlib.Core.Path.{◌≡◌, refl, sym, ap, ap₂, ◌∙◌, subst}
@@ -8,8 +8,8 @@ use native.Mathlib.Nat.{not-suc-le-zero}
 use native.Mathlib.Omega.{arith}
 use borrow.Author.Tests.{eq-eqb, eqb-true, lt-ltb, ltb-true}
 use lib.Dec.{eqb, ltb}
-use lib.ListN.{length, get_or, drop}
-use Rattle.combinators.specs.Bools.{both_left, both_right, both_ways, apart, false_unless}
+use lib.ListN.{length, drop}
+use Rattle.combinators.specs.Bools.{both_left, both_right, both_ways}
 use Rattle.combinators.specs.Lists.{Nth, here, there, nth_inside}
 use Rattle.framing.specs.Pieces.{Item, whole, broken, Cuts, nothing_left, does_not_fit, piece}
 use Rattle.framing.proofs.Pieces.{cut_cuts}
@@ -21,7 +21,7 @@ use Rattle.operation_points.specs.Points.{filling_of}
 use Rattle.operation_points.specs.Values.{DescriptorValue, value_of}
 use Rattle.operation_points.specs.Meaning.{Points, Descriptor, Fills, exact, reserved, inexact}
 use Rattle.operation_points.proofs.Meant.{filling_meant, filling_only}
-use Rattle.point_descriptors.specs.Descriptors.{descriptors_of, each, is_points, payload_if, payloads_in, filling_if, filling_in, worse, worst, too_long, program_filling}
+use Rattle.point_descriptors.specs.Descriptors.{descriptors_of, each, is_points, payload_if, payloads_in, filling_in, worse, worst, too_long, program_filling}
 use Rattle.points_meaning.specs.Fields.{PayloadHas}
 use Rattle.points_meaning.specs.Meaning.{InOrder, nothing, next, HoldsPoints, tag_63_and_5, Payloads, no_more, skips, holds, DoesNotFit, too_long_lem, runs_past, not_filled, ReservedCount, reserved_count}
 use Rattle.points_meaning.proofs.Fields.{payload_meant, payload_only}

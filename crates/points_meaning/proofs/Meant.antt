@@ -22,7 +22,6 @@ use Rattle.es_loop.specs.declared.reader.Outcome.{Outcome}
 use Rattle.es_loop.specs.declared.reader.Outcome.TheVariants.{Accepted}
 use Rattle.es_loop.specs.declared.reader.LoopRead.{LoopRead}
 use Rattle.loop_entries.specs.Entries.{stream_of, marked_streams, entry_of}
-use Rattle.es_loop.specs.Reading.{accepted, loop_read}
 use Rattle.es_loop.specs.Meaning as Loop
 use Rattle.es_loop.proofs.Meant.{answer_meant, answer_only}
 use Rattle.loop_layers.specs.Layers.{layers_of}

@@ -6,7 +6,7 @@ use mathlib.Core.List.{List, [], ◌∷◌, map}
 use mathlib.Core.Path.{◌≡◌, refl, sym, ap, ◌∙◌, subst}
 use native.Mathlib.Omega.{arith}
 use lib.ListN.{length, take, length-map}
-use Rattle.combinators.specs.Lists.{any, gather, gather_map}
+use Rattle.combinators.specs.Lists.{any, gather_map}
 use Rattle.syntax.specs.Table.{AreBytes}
 use Rattle.vocabulary.specs.declared.refusal.Refusal.TheVariants.{UnknownReference}
 use Rattle.vocabulary.specs.declared.stream_types.Reading.TheVariants.{Edition2015}

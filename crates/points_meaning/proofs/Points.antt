@@ -1,30 +1,28 @@
 -- The points of a program in the layers of a loop: 42, their stream lists, and whether these are closed.
 -- Assumes nothing.
 use Prim.Native.Nat.{ℕ, ◌^◌, ◌<◌}
-use mathlib.Core.Bool.{Bool, true, false, ◌||◌}
+use mathlib.Core.Bool.{true, false}
 use mathlib.Core.List.{List, [], ◌∷◌, map}
 use mathlib.Core.Logic.{◌↔◌}
 use mathlib.Core.Path.{◌≡◌, refl, sym, ap, ap₂, ◌∙◌, subst}
 use native.Mathlib.Omega.{arith}
 use lib.ListN.{length, take, replicate}
 use lib.Seq.{take_at}
-use Rattle.combinators.specs.Ascending.{Ascending}
-use Rattle.combinators.specs.Bools.{apart, both_ways, same_test, neither_left, neither_right}
+use Rattle.combinators.specs.Bools.{apart, same_test, neither_left, neither_right}
 use Rattle.combinators.specs.Lists.{Nth, any, any_which, any_true}
-use Rattle.combinators.specs.Members.{member}
 use Rattle.combinators.specs.Padding.{pad_to}
 use Rattle.sets.specs.Sets.{without, joined, members_of}
 use Rattle.sets.proofs.Laws.{joined_within, added_within, without_within}
 use Rattle.sets.proofs.Members.{members_ascending}
 use Rattle.closure.specs.declared.Layers.{Layers}
 use Rattle.stream_lists.specs.declared.ListBuilt.{ListBuilt}
-use Rattle.stream_lists.specs.Lists.{referred, asked, set_of, referring, list_built, is_closed}
+use Rattle.stream_lists.specs.Lists.{referred, asked, set_of, referring, is_closed}
 use Rattle.stream_lists.specs.Meaning.{Lists, NoLayer, Closed, Ordered}
 use Rattle.stream_lists.specs.Meaning as Built
 use Rattle.stream_lists.proofs.Building.{has_set, set_placed, referred_small, asked_within}
 use Rattle.stream_lists.proofs.Meant.{adds_only, list_meant, list_only, closed_meant, closed_only}
 use Rattle.operation_points.specs.Values.{PointValue, reference_bytes}
-use Rattle.program_points.specs.Told.{list_of, is_absent}
+use Rattle.program_points.specs.Told.{is_absent}
 use Rattle.points_meaning.specs.Telling.{PointTold, point_told}
 use Rattle.points_meaning.specs.Meaning.{InOrder, nothing, next, NotInLoop, not_in_loop, Listed}
 

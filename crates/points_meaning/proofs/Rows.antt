@@ -12,7 +12,7 @@ use Rattle.stream_lists.specs.declared.ListBuilt.{ListBuilt}
 use Rattle.stream_lists.specs.Meaning as Built
 use Rattle.stream_lists.proofs.Meant.{list_meant}
 use Rattle.operation_points.specs.Values.{PointValue, row_of, reference_bytes, layer_bytes}
-use Rattle.program_points.specs.Told.{points_in, list_of, streams_of, closed_of, row_in}
+use Rattle.program_points.specs.Told.{points_in, streams_of, closed_of, row_in}
 use Rattle.points_meaning.specs.Telling.{PointTold, point_told, program_told}
 use Rattle.points_meaning.specs.Rows.{point_row, points_list, references_list, layers_list, streams_list}
 

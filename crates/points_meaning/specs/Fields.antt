@@ -6,8 +6,6 @@ use Prim.Native.String.{String}
 use Rattle.combinators.specs.Lists.{Nth}
 use Rattle.syntax.specs.Table.{Table, bytes}
 use Rattle.syntax.specs.Named.{Given, given_to, read_by}
-use Rattle.operation_points.specs.declared.Reference.{Reference}
-use Rattle.operation_points.specs.declared.LayerFlags.{LayerFlags}
 use Rattle.operation_points.specs.Tables.{profiles_count, profile, point_head, reference, flags_count, flags}
 use Rattle.operation_points.specs.Points.{reference_from, flags_from}
 use Rattle.operation_points.specs.Values.{FrameRate, no_frame_rate, constant, BitRate, no_bit_rate, rate, PointValue, DescriptorValue}

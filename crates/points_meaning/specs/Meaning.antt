@@ -20,7 +20,7 @@ use Rattle.operation_points.specs.declared.Filling.TheVariants.{Inexact, Reserve
 use Rattle.operation_points.specs.Values.{PointValue, DescriptorValue, reference_bytes}
 use Rattle.operation_points.specs.Meaning.{Fills}
 use Rattle.points_meaning.specs.Fields.{PayloadHas}
-use Rattle.points_meaning.specs.Telling.{PointTold, ProgramTold, Answer, refused, told}
+use Rattle.points_meaning.specs.Telling.{PointTold, Answer, refused, told}
 
 -- each of a list, in order, with one of another
 pub data InOrder {A B : Type 0} (R : A → B → Type 0) : List A → List B → Type 0 where

@@ -1,10 +1,10 @@
 -- Bytes of the writer's own shape are parsed, and are written of whatever gives their lines and lists what they carry. For every list of parts.
 -- Assumes nothing.
 use Prim.Native.Nat.{ℕ, suc, ◌+◌, ◌*◌}
-use Rattle.std.specs.Prelude.{◌≡◌, refl, Bool, true, false, List, [], ◌∷◌, ◌++◌, length, get_or}
-use Rattle.std.proofs.Common.{sym, ap, ap₂, ◌∙◌, subst, arith, suc-mul, add_comm, length-append}
+use Rattle.std.specs.Prelude.{◌≡◌, true, false, List, [], ◌∷◌, ◌++◌, length}
+use Rattle.std.proofs.Common.{sym, ap₂, ◌∙◌, subst, arith, suc-mul, add_comm, length-append}
 use Rattle.syntax.specs.Table.{Table, AreBytes, bytes, number, read_table, fixed_hold, Written}
-use Rattle.syntax.specs.Named.{Given, given_to, by_names, values_by, read_by}
+use Rattle.syntax.specs.Named.{Given, values_by, read_by}
 use Rattle.operation_points.specs.Parts.{Part, lines, repeated, when, Parses}
 use Rattle.point_fields.specs.WrittenParts.{Lists, WritesEach, WritesParts}
 use Rattle.points_round_trip.specs.OwnShape.{Ones, OwnEach, OwnParts}

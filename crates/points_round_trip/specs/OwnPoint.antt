@@ -1,17 +1,16 @@
 -- A point of the writer's own shape: it is read, its value can be written, and is written as these bytes.
 -- Assumes nothing.
-use Rattle.std.specs.Prelude.{ℕ, suc, ◌+◌, ◌*◌, ◌<◌, ◌≡◌, refl, Bool, true, false, cond, not, ◌&&◌, List, [], ◌∷◌, ◌++◌, map, eqb, leb, ltb, length, get_or, take, drop}
+use Rattle.std.specs.Prelude.{ℕ, ◌+◌, ◌*◌, ◌<◌, ◌≡◌, refl, Bool, true, false, cond, not, ◌&&◌, List, [], ◌∷◌, ◌++◌, map, eqb, leb, ltb, length, get_or, take, drop}
 use Rattle.std.proofs.Common.{sym, ap, ap₂, ◌∙◌, subst, append_assoc, arith, le-leb, lt-ltb, ne_eqb, length-append, take_at, drop_at, drop-drop}
 use Rattle.std.proofs.lemmas.List.{length-map}
 use Rattle.syntax.specs.Table.{Table, AreBytes, bytes, read_table}
 use Rattle.syntax.specs.Named.{Given, given_to, by_names, read_by}
 use Rattle.syntax.proofs.Laws.{read_fits, read_before}
 use Rattle.syntax.proofs.Equations.{bounds}
-use Rattle.operation_points.specs.Parts.{Part, lines, repeated, when, Walked}
+use Rattle.operation_points.specs.Parts.{Part, when, Walked}
 use Rattle.operation_points.specs.Tables.{point_head, reference, flags_count, flags, rates, frame_rate, average_rate, maximum_rate, has_frame_rate, has_average_rate, has_maximum_rate, point_syntax}
 use Rattle.operation_points.specs.Points.{point_from, is_reserved, point_in, first_point}
-use Rattle.operation_points.specs.Values.{PointValue, reference_in, flags_in, numbers_of, point_value}
-use Rattle.operation_points.specs.declared.Point.{Point}
+use Rattle.operation_points.specs.Values.{PointValue, reference_in, point_value}
 use Rattle.operation_points.specs.declared.FirstPoint.TheVariants.{Read, DoesNotFit, ReservedCount}
 use Rattle.operation_points.proofs.Parsed.{parses_walk}
 use Rattle.point_fields.specs.WrittenParts.{Lists, WritesParts}

@@ -1,6 +1,6 @@
 -- THE WRITER'S OWN SHAPE of a payload: its fields fill it exactly, as reading parses it, with every reserved bit 1 and no ES_count reserved.
 -- Assumes nothing.
-use Rattle.std.specs.Prelude.{ℕ, suc, ◌*◌, ◌≡◌, Bool, true, false, List, [], ◌∷◌, ◌++◌, length}
+use Rattle.std.specs.Prelude.{ℕ, suc, ◌≡◌, Bool, true, false, List, [], ◌∷◌, ◌++◌, length}
 use Prim.Native.String.{String}
 use Rattle.syntax.specs.Table.{Table, bytes, number, reserved_ones}
 use Rattle.syntax.specs.Named.{Given, given_to, read_by}

@@ -1,7 +1,7 @@
 -- WHAT WAS WRITTEN BY PARTS IS READ BY THEM: for every list of parts, if the counts are those of the lists, and the conditions say of what was read what they say of what
 -- was given.
 -- Assumes nothing.
-use Rattle.std.specs.Prelude.{ℕ, ◌*◌, ◌≡◌, Bool, true, false, cond, List, [], ◌∷◌, ◌++◌, length}
+use Rattle.std.specs.Prelude.{ℕ, ◌*◌, ◌≡◌, Bool, cond, List, [], ◌∷◌, ◌++◌, length}
 use Rattle.std.proofs.Common.{sym, ap, ◌∙◌, subst, append-nil}
 use Rattle.combinators.specs.Lists.{gather}
 use Rattle.syntax.specs.Table.{Table, bytes, Fit, Sound, read_table, write_table}

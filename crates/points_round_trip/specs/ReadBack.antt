@@ -1,16 +1,16 @@
 -- READING WHAT WAS WRITTEN gives back the value that was given: of a payload, whose fields fill it exactly, and of a program's loop that is this descriptor alone.
 -- Assumes nothing.
 use Prim.Native.Nat.{ℕ, ◌+◌, ◌*◌, ◌/◌, ◌%◌, ◌≤◌, ◌<◌}
-use Rattle.std.specs.Prelude.{◌≡◌, Bool, true, false, ◌&&◌, eqb, leb, ltb, length, take, drop}
+use Rattle.std.specs.Prelude.{◌≡◌, Bool, true, false, ◌&&◌, ltb, length, take, drop}
 use Rattle.std.proofs.Math.Path.{refl, ap}
-use Rattle.std.proofs.Common.{sym, ap₂, ◌∙◌, subst, arith, le-leb, le-ltb, lt-ltb, length-drop, take_at, drop_at}
+use Rattle.std.proofs.Common.{sym, ap₂, ◌∙◌, subst, arith, le-leb, le-ltb, lt-ltb, take_at, drop_at}
 use Rattle.std.proofs.Math.Bool.{cond}
 use mathlib.Core.List.{List, [], ◌∷◌, ◌++◌, map, append_assoc, append-nil}
 use Rattle.std.proofs.Math.ListN.{length-append}
 use Rattle.std.proofs.lemmas.List.{length-map}
-use Rattle.combinators.specs.Lists.{Nth, here, there, gather}
+use Rattle.combinators.specs.Lists.{here, there, gather}
 use Rattle.combinators.specs.Bools.{both_ways}
-use Rattle.framing.specs.Pieces.{Item, whole, Cuts, nothing_left, piece, cut}
+use Rattle.framing.specs.Pieces.{Item, whole, Cuts, nothing_left, piece}
 use Rattle.framing.proofs.Pieces.{cuts_unique}
 use Rattle.syntax.specs.Table.{AreBytes, Fit}
 use Rattle.syntax.specs.Named.{given_to, by_names, read_by, write_by}
@@ -19,15 +19,13 @@ use Rattle.syntax.proofs.Equations.{bounds}
 use Rattle.vocabulary.specs.declared.refusal.Refusal.TheVariants.{NoRoom}
 use Rattle.descriptor_heads.specs.Head.{descriptor_head, descriptor_tag, descriptor_length}
 use Rattle.descriptor_heads.proofs.Heads.{by_tag}
-use Rattle.operation_points.specs.Tables.{profiles_count, profile, points_count, head_syntax}
-use Rattle.operation_points.specs.Points.{head_from, head_in, head_of, first_point, filling_by, points_filling, filling_after, filling_of}
-use Rattle.operation_points.specs.Values.{PointValue, DescriptorValue, point_value, points_by, each_point, points_in, value_after, value_of}
+use Rattle.operation_points.specs.Tables.{profile, points_count, head_syntax}
+use Rattle.operation_points.specs.Points.{head_in, head_of, filling_by, points_filling, filling_after, filling_of}
+use Rattle.operation_points.specs.Values.{PointValue, DescriptorValue, point_value, points_by, points_in, value_after, value_of}
 use Rattle.operation_points.specs.declared.Head.{Head}
 use Rattle.operation_points.specs.declared.HeadRead.{HeadRead}
 use Rattle.operation_points.specs.declared.HeadRead.TheVariants.{Before, HeadDoesNotFit}
-use Rattle.operation_points.specs.declared.Point.{Point}
 use Rattle.operation_points.specs.declared.FirstPoint.{FirstPoint}
-use Rattle.operation_points.specs.declared.Filling.{Filling}
 use Rattle.operation_points.specs.declared.Filling.TheVariants.{Exact, Inexact}
 use Rattle.operation_points.proofs.Parsed.{parses_walk}
 use Rattle.point_descriptors.specs.Descriptors.{descriptors_of, each, is_points, payload_if, payloads_in, filling_in, worst, program_filling}
@@ -39,13 +37,12 @@ use Rattle.point_writer.specs.Layout.{head_given, head_lists, descriptor_bytes}
 use Rattle.point_writer.specs.Writing.{in_room, answer, content_after, content}
 use Rattle.point_writer.specs.Meaning.{EachFits, ValueFits, Gives, SomeReserved, reserved_at, WritesPayload, head_then, WritesDescriptor, descriptor}
 use Rattle.point_writer.proofs.Heads.{profiles_again}
-use Rattle.point_writer.proofs.Lengths.{length_items}
 use Rattle.point_writer.proofs.PartLaws.{parts_only}
 use Rattle.point_writer.proofs.Values.{values_bytes}
 use Rattle.point_writer.proofs.Judged.{accepted, counted, descriptor_long}
 use Rattle.point_writer.proofs.Meant.{head_sounds, points_only, some_reserved, known, descriptor_written}
-use Rattle.points_round_trip.specs.Parsed.{shown, written_parses}
-use Rattle.points_round_trip.specs.ReadPoint.{bytes_of, point_read, read_first, value_read}
+use Rattle.points_round_trip.specs.Parsed.{written_parses}
+use Rattle.points_round_trip.specs.ReadPoint.{bytes_of, read_first, value_read}
 
 -- ---- READING WHAT WAS WRITTEN
 

@@ -1,16 +1,14 @@
 -- READING A POINT THAT WAS WRITTEN gives back its value, whatever stands behind it.
 -- Assumes nothing.
-use Rattle.std.specs.Prelude.{ℕ, ◌+◌, ◌*◌, ◌<◌, ◌≡◌, Bool, true, false, ◌&&◌, eqb, leb, ltb, take, drop}
-use Prim.Native.String.{String}
+use Rattle.std.specs.Prelude.{ℕ, ◌+◌, ◌*◌, ◌≡◌, Bool, true, false, ◌&&◌, eqb, leb, ltb, take, drop}
 use Rattle.std.proofs.Math.Path.{refl, ap, ap₂}
-use Rattle.std.proofs.Common.{sym, ◌∙◌, subst, arith, le-leb, lt-ltb, ne_eqb, take_at, drop_at, drop-drop}
+use Rattle.std.proofs.Common.{sym, ◌∙◌, arith, le-leb, lt-ltb, ne_eqb, take_at, drop_at, drop-drop}
 use Rattle.std.proofs.Math.Bool.{cond}
-use mathlib.Core.List.{List, [], ◌∷◌, ◌++◌, map, append_assoc, append-nil}
+use mathlib.Core.List.{List, [], ◌∷◌, ◌++◌, map, append_assoc}
 use Rattle.std.proofs.Math.ListN.{length, length-append}
 use Rattle.std.proofs.lemmas.List.{length-map}
-use Rattle.combinators.specs.Bools.{apart}
 use Rattle.combinators.specs.Lists.{gather}
-use Rattle.syntax.specs.Table.{Table, bytes, Fit, Sound, read_table, write_table}
+use Rattle.syntax.specs.Table.{Fit}
 use Rattle.syntax.specs.Named.{Given, given_to, by_names, values_by, read_by, write_by}
 use Rattle.syntax.proofs.Laws.{read_write}
 use Rattle.descriptor_heads.proofs.Bits.{bit_back}
@@ -21,7 +19,6 @@ use Rattle.operation_points.specs.Values.{FrameRate, no_frame_rate, constant, Bi
 use Rattle.operation_points.specs.declared.Point.{Point}
 use Rattle.operation_points.specs.declared.Reference.{Reference}
 use Rattle.operation_points.specs.declared.LayerFlags.{LayerFlags}
-use Rattle.operation_points.specs.declared.FirstPoint.{FirstPoint}
 use Rattle.operation_points.specs.declared.FirstPoint.TheVariants.{Read, DoesNotFit, ReservedCount}
 use Rattle.operation_points.proofs.Parsed.{parses_walk}
 use Rattle.point_fields.specs.WrittenParts.{parts_bytes, EachFits, FitParts}

@@ -1,11 +1,11 @@
 -- WRITING WHAT WAS READ gives the same bytes: of a payload in the writer's own shape the value can be written, is written as this payload, and its own lists are
 -- taken by the call.
 -- Assumes nothing.
-use Rattle.std.specs.Prelude.{ℕ, zero, suc, ◌+◌, ◌*◌, ◌/◌, ◌%◌, ◌^◌, ◌≤◌, ◌<◌, ◌≡◌, refl, Bool, true, false, cond, List, [], ◌∷◌, ◌++◌, map, eqb, leb, length, take, drop}
+use Rattle.std.specs.Prelude.{ℕ, suc, ◌+◌, ◌*◌, ◌/◌, ◌%◌, ◌^◌, ◌≤◌, ◌<◌, ◌≡◌, refl, Bool, true, false, cond, List, [], ◌∷◌, ◌++◌, map, eqb, length, take, drop}
 use Rattle.std.proofs.Common.{sym, ap, ap₂, ◌∙◌, subst, append_assoc, arith, not-suc-le-zero, le-leb, length-append, take_at, drop_at}
-use Rattle.combinators.specs.Lists.{Nth, here, there, nth_inside, gather}
-use Rattle.syntax.specs.Table.{AreBytes, write_table, Fit, none, at_value, at_reserved}
-use Rattle.syntax.specs.Named.{Given, given_to, read_by, values_by}
+use Rattle.combinators.specs.Lists.{here, there, nth_inside, gather}
+use Rattle.syntax.specs.Table.{AreBytes, write_table, none, at_value, at_reserved}
+use Rattle.syntax.specs.Named.{Given, read_by}
 use Rattle.syntax.specs.Filled.{bytes_in}
 use Rattle.syntax.proofs.Laws.{read_fits}
 use Rattle.syntax.proofs.NamedLaws.{written_by_meant}
@@ -33,7 +33,7 @@ use Rattle.point_writer.proofs.PartLaws.{fit_items}
 use Rattle.point_writer.proofs.Meant.{tag_written, Only, answer_only}
 use Rattle.points_round_trip.specs.OwnShape.{OwnEach, OwnParts, OwnPoints, OwnPayload}
 use Rattle.points_round_trip.specs.OwnParsed.{each_long, own_parses, items_of, Plain, bytes_left, bytes_right, own_writes}
-use Rattle.points_round_trip.specs.OwnPoint.{Again, again}
+use Rattle.points_round_trip.specs.OwnPoint.{again}
 
 -- ---- the points
 

@@ -10,7 +10,6 @@ use Rattle.vocabulary.specs.declared.stream_types.Reading.{Reading}
 use Rattle.closure.specs.declared.Layers.{Layers}
 use Rattle.heads.specs.Orderly.{Closed}
 use Rattle.join_answers.specs.declared.answer.Joined.{Joined}
-use Rattle.join_answers.specs.declared.answer.Joined.TheVariants as Joined
 use Rattle.rows.specs.Table.{Table, table, most_rows}
 use Rattle.unit_lists.specs.Sequence.{Lists, lists}
 use Rattle.join_answers.specs.Joining.{frame_of, room_of, table_joined, joined_of, lists_after, most_long}

@@ -5,7 +5,6 @@ use Rattle.std.proofs.Math.Option.{Option, none, some}
 use Rattle.vocabulary.specs.declared.stream_types.Reading.{Reading}
 use Rattle.vocabulary.specs.Refusals.{number_of}
 use Rattle.es_loop.specs.declared.reader.Outcome.{Outcome}
-use Rattle.es_loop.specs.declared.reader.Outcome.TheVariants as Outcome
 use Rattle.es_loop.specs.declared.reader.LoopRead.{LoopRead}
 use Rattle.es_loop.specs.Reading.{loop_read}
 use Rattle.es_loop.proofs.read_loop.Kinds as read-loop-kinds
@@ -16,7 +15,6 @@ use Rattle.es_loop.specs.Meaning as Loop
 use Rattle.es_loop.proofs.Meant as loop
 use Rattle.closure.specs.declared.Layers.{Layers}
 use Rattle.closure.specs.declared.Closure.{Closure}
-use Rattle.closure.specs.declared.Closure.TheVariants as Closure
 use Rattle.closure.specs.Closures.{closure_of}
 use Rattle.closure.proofs.closure_of.Kinds as closure-of-kinds
 use Rattle.closure.proofs.closure_of.Reads as closure-of
@@ -28,7 +26,6 @@ use Rattle.loop_layers.proofs.closure_of_loop.Reads as closure-of-loop
 use Rattle.loop_layers.specs.Meaning as LoopTarget
 use Rattle.loop_layers.proofs.Meant as loop-target
 use Rattle.pes_reader.specs.declared.Answer.{Answer}
-use Rattle.pes_reader.specs.declared.Answer.TheVariants as Answer
 use Rattle.pes_reader.specs.Reading.{read_of}
 use Rattle.pes_reader.proofs.read.Kinds as read-times-kinds
 use Rattle.pes_reader.proofs.read.Reads as read-times

@@ -6,7 +6,6 @@ use Rattle.std.proofs.Common.{◌∙◌, ap}
 use Rattle.vocabulary.specs.Refusals.{number_of}
 use Rattle.loop_entries.specs.declared.Entry.{Entry}
 use Rattle.loop_writer.specs.declared.writer.Written.{Written}
-use Rattle.loop_writer.specs.declared.writer.Written.TheVariants as Written
 use Rattle.loop_writer.specs.Layout.{loop_bytes}
 use Rattle.loop_writer.specs.Writing.{answer, content_after, content}
 use Rattle.loop_writer.proofs.write_loop.Kinds as write-loop-kinds
@@ -16,7 +15,6 @@ use Rattle.loop_writer.specs.Meaning as Loop
 use Rattle.loop_writer.proofs.Meant as loop
 use Rattle.stamps.specs.declared.Times.{Times as HeaderTimes}
 use Rattle.pes_writer.specs.declared.Written.{Written as TimesWritten}
-use Rattle.pes_writer.specs.declared.Written.TheVariants as TimesWritten
 use Rattle.pes_writer.specs.Writing.{header_of, write_of, buffer_of}
 use Rattle.pes_writer.proofs.write.Kinds as write-times-kinds
 use Rattle.pes_writer.proofs.write.Reads as write-times

@@ -22,13 +22,12 @@ use Rattle.unit_starts.specs.Finding.{found_in, rows_in}
 use Rattle.recording_rows.specs.Columns.{Columns, over_all}
 use Rattle.scanning.specs.declared.events.Row.{Row}
 use Rattle.recordings.specs.declared.Recording.{Recording}
-use Rattle.recordings.specs.declared.Recording.TheVariants as Recording
 use Rattle.recordings.specs.Reading.{answer_of}
 use Rattle.recordings.specs.Meaning as Recordings
 use Rattle.recordings.proofs.AnswerMeant as recordings
 use Rattle.recording_layers.proofs.Meant.{layer_pids}
 use Rattle.recording_imports.specs.declared.RowsRead.{RowsRead}
-use Rattle.recording_imports.specs.declared.RowsRead.TheVariants.{Rows, NotRead}
+use Rattle.recording_imports.specs.declared.RowsRead.TheVariants.{Rows}
 use Rattle.recording_imports.specs.Rows.{loop_layers, pid_table, rows_of, rows_told, rows_for, columns_with}
 use Rattle.recording_imports.specs.Imports.{layers_of_loop, outcome_of, outcome_for, recording_with, import_columns}
 use Rattle.recording_meaning.specs.Meaning.{Asked}

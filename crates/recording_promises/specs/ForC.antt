@@ -13,9 +13,7 @@ use Rattle.unit_lists.specs.Sequence.{Lists}
 use Rattle.join_answers.specs.Joining.{room_of}
 use Rattle.recording_rows.specs.Columns.{Columns, room_in}
 use Rattle.recording_imports.specs.declared.RowsRead.{RowsRead}
-use Rattle.recording_imports.specs.declared.RowsRead.TheVariants as RowsRead
 use Rattle.recording_imports.specs.declared.Imported.{Imported}
-use Rattle.recording_imports.specs.declared.Imported.TheVariants as Imported
 use Rattle.recording_imports.specs.Rows.{rows_of, rows_under, columns_under}
 use Rattle.recording_imports.specs.Imports.{layers_of_loop, table_of, import_of, import_lists}
 use Rattle.packet_answers.specs.Answers.{rows_answer}

@@ -14,7 +14,6 @@ use Rattle.join_answers.specs.Steps.{spaces}
 use Rattle.join_answers.specs.Meaning as Joining
 use Rattle.recording_rows.specs.Columns.{Columns, columns}
 use Rattle.recording_imports.specs.declared.Imported.{Imported}
-use Rattle.recording_imports.specs.declared.Imported.TheVariants as Imported
 use Rattle.recording_imports.specs.Imports.{imported_of, places_for, import_of, import_lists}
 use Rattle.recording_meaning.specs.Meaning.{Answers, loop_refused, no_closure, faulty, not_read, too_many, joined}
 use Rattle.recording_meaning.specs.Rows.{Leaves}

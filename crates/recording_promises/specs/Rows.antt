@@ -6,7 +6,6 @@ use Rattle.std.proofs.Common.{◌∙◌, ap}
 use Rattle.vocabulary.specs.Refusals.{number_of}
 use Rattle.recording_rows.specs.Columns.{Columns, columns, room_in}
 use Rattle.recording_imports.specs.declared.RowsRead.{RowsRead}
-use Rattle.recording_imports.specs.declared.RowsRead.TheVariants as RowsRead
 use Rattle.recording_imports.specs.Rows.{rows_under, columns_under}
 use Rattle.recording_imports.proofs.read_rows.Kinds as read-rows-kinds
 use Rattle.recording_imports.proofs.read_rows.Reads as read-rows

@@ -1,6 +1,6 @@
 -- 'A set accepted here is accepted by both readings, with closure 0, 1.'
 -- Assumes nothing.
-use Rattle.std.specs.Prelude.{ℕ, ◌≡◌, refl, ◌⊎◌, List, [], map}
+use Rattle.std.specs.Prelude.{ℕ, ◌≡◌, ◌⊎◌, List, [], map}
 use Rattle.std.proofs.Common.{sym, ◌∙◌, ap, subst, inl, inr, arith}
 use Rattle.combinators.specs.Lists.{Nth, nth_one}
 use Rattle.framing.specs.Pieces.{Item}
@@ -14,12 +14,10 @@ use Rattle.loop_entries.specs.Entries.{stream_of, marked_streams}
 use Rattle.es_loop.specs.Reading.{accepted, loop_read}
 use Rattle.es_loop.specs.Meaning as Loop
 use Rattle.es_loop.proofs.Meant.{answer_only}
-use Rattle.closure.specs.declared.Closure.{Closure}
 use Rattle.closure.specs.declared.Closure.TheVariants.{Complete}
 use Rattle.closure.specs.Closures.{closure_of}
 use Rattle.loop_layers.specs.Layers.{layers_of}
 use Rattle.loop_layers.specs.Closures.{entries_read, closure_for, loop_closure}
-use Rattle.loop_layers.specs.Meaning.{LayerAt}
 use Rattle.loop_layers.proofs.Meant.{entries_read_lem}
 use Rattle.rows.specs.Table.{table}
 use Rattle.unit_lists.specs.Sequence.{lists}

@@ -1,21 +1,19 @@
 -- The closures in a loop that has the two layers and no other.
 -- Assumes nothing.
-use Rattle.std.specs.Prelude.{ℕ, zero, suc, ◌<◌, ◌≡◌, refl, ◌⊎◌, ◌↔◌, Bool, true, false, ◌&&◌, List, [], ◌∷◌, get_or}
+use Rattle.std.specs.Prelude.{ℕ, zero, suc, ◌<◌, ◌≡◌, refl, ◌⊎◌, true, List}
 use Rattle.std.proofs.Common.{sym, ◌∙◌, ap, subst, inl, inr, ⊎_elim, arith}
-use Rattle.combinators.specs.Bools.{apart, both_right}
 use Rattle.combinators.specs.Lists.{Nth, nth_one}
 use Rattle.combinators.specs.Members.{member}
 use Rattle.sets.specs.Sets.{has}
 use Rattle.sets.proofs.Laws.{has_within}
-use Rattle.records.specs.Records.{named}
 use Rattle.loop_entries.specs.declared.Entry.{Entry}
 use Rattle.closure.specs.declared.Layers.{Layers}
 use Rattle.closure.specs.declared.Closure.TheVariants.{Complete}
 use Rattle.closure.specs.Closures.{is_layer, closure_of}
-use Rattle.closure.specs.Meaning.{Names, RestsOn, itself, by, WholeClosure, complete}
+use Rattle.closure.specs.Meaning.{Names, RestsOn, itself, by, complete}
 use Rattle.closure.proofs.Meant.{closure_only}
 use Rattle.loop_layers.specs.Layers.{layers_of}
-use Rattle.loop_layers.specs.Meaning.{LayerAt, LayerOf, HasLayer, Embeds}
+use Rattle.loop_layers.specs.Meaning.{LayerAt, LayerOf}
 use Rattle.loop_layers.proofs.Meant.{layers_meant}
 use Rattle.stereo_set.specs.Two.{TwoLayers}
 

@@ -3,36 +3,34 @@
 use Prim.Native.Nat.{ℕ, ◌+◌}
 use mathlib.Core.Path.{◌≡◌, refl, sym, ◌∙◌, ap, ap₂, subst}
 use mathlib.Core.Logic.{◌⊎◌, inl, inr}
-use mathlib.Core.Bool.{Bool, true, false, cond, not, ◌&&◌, ◌||◌}
+use mathlib.Core.Bool.{Bool, true, false, cond, not}
 use mathlib.Core.List.{List, [], ◌∷◌, ◌++◌, append-nil}
 use lib.Dec.{eqb}
 use lib.ListN.{length}
-use lib.Seq.{take_at, drop_at}
+use lib.Seq.{drop_at}
 use native.Mathlib.Omega.{arith}
 use borrow.Author.Tests.{eq-eqb, lt-ltb}
-use Rattle.combinators.specs.Bools.{apart, both_ways, neither_left, neither_right, false_unless, either_left, either_right}
+use Rattle.combinators.specs.Bools.{both_ways, neither_left, neither_right, false_unless, either_left}
 use Rattle.combinators.specs.Lists.{Nth, here, there, any, gather}
-use Rattle.syntax.specs.Table.{Sound as TableSound, Fit, fits}
+use Rattle.syntax.specs.Table.{Fit, fits}
 use Rattle.syntax.specs.Filled.{Filled, filled, values_in, bytes_in, too_wide_in, Writes}
 use Rattle.syntax.proofs.Laws.{fits_fit}
 use Rattle.syntax.proofs.NamedLaws.{written_by_meant, written_by_only}
 use Rattle.syntax.proofs.FilledLaws.{AllProper, none, one_then, NoneTooWide, none as all_fit, one_then as fit_then, writes_meant, writes_only}
-use Rattle.descriptor_heads.specs.Head.{head_table}
 use Rattle.records.specs.Records.{is_layer, index_of}
 use Rattle.records.proofs.Sizes.{info_short}
 use Rattle.loop_entries.specs.declared.Entry.{Entry}
 use Rattle.loop_entries.specs.Entries.{entry_head}
-use Rattle.loop_writer.specs.Layout.{entry_head_table, info_bytes, entry_bytes, loop_bytes, too_wide}
+use Rattle.loop_writer.specs.Layout.{entry_head_table, info_bytes, entry_bytes, too_wide}
 use Rattle.loop_writer.specs.Meaning as Loop
-use Rattle.loop_writer.proofs.Entries.{head_fit, record_fit, pid_small}
+use Rattle.loop_writer.proofs.Entries.{head_fit, record_fit}
 use Rattle.loop_writer.proofs.Writes.{bytes_meant, bytes_only}
 use Rattle.syntax.proofs.Equations.{bounds}
 use Rattle.mvc_extension.specs.declared.MvcExtension.{MvcExtension}
-use Rattle.mvc_extension.specs.MvcExtension.{mvc_extension_descriptor, mvc_extension_given, mvc_extension_fields}
+use Rattle.mvc_extension.specs.MvcExtension.{mvc_extension_descriptor, mvc_extension_fields}
 use Rattle.mvc_descriptors.specs.Tables.{mvc_extension_tables}
-use Rattle.stereo_set.specs.Views.{is_base_layer, is_second_layer}
-use Rattle.stereo_set.specs.Two.{LayerAt, LayerOf, TwoLayers}
-use Rattle.stereo_writer.specs.Layout.{extension_for, is_part, extra_tables, stereo_info, stereo_entry, stereo_bytes}
+use Rattle.stereo_set.specs.Two.{LayerOf, TwoLayers}
+use Rattle.stereo_writer.specs.Layout.{extension_for, is_part, extra_tables, stereo_entry, stereo_bytes}
 use Rattle.stereo_writer.specs.Meaning.{WritesWith, with_more, WritesEntry, the_base, the_second, no_layer_lem, WritesSet, nothing, entry_then}
 
 -- ---- one entry as the loop writer writes it

@@ -5,12 +5,12 @@ use mathlib.Core.Path.{◌≡◌, refl, sym, ◌∙◌, ap, ap₂, subst}
 use mathlib.Core.Bool.{Bool, true, false, cond, ◌||◌}
 use mathlib.Core.List.{List, [], ◌∷◌, map}
 use native.Mathlib.Omega.{arith}
-use borrow.Author.Tests.{le-ltb, lt-ltb, ltb-true, ltb-false, not-false}
+use borrow.Author.Tests.{le-ltb, not-false}
 use lib.Dec.{ltb}
 use lib.ListN.{length, take}
 use lib.Seq.{take_all}
 use Rattle.combinators.specs.Bools.{both_ways, false_unless}
-use Rattle.combinators.specs.Lists.{Nth, nth_one, nth_map, nth_of_map, any, any_false}
+use Rattle.combinators.specs.Lists.{Nth, nth_map, nth_of_map, any, any_false}
 use Rattle.combinators.specs.Lowest.{lowest_number, earliest_place}
 use Rattle.syntax.specs.Table.{fits}
 use Rattle.syntax.specs.Filled.{values_in, too_wide_in}
@@ -29,7 +29,7 @@ use Rattle.es_loop.specs.declared.reader.Outcome.TheVariants.{Accepted, Refused}
 use Rattle.loop_faults.specs.Conditions.{refusal_of}
 use Rattle.loop_writer.specs.declared.writer.Written.{Written}
 use Rattle.loop_writer.specs.declared.writer.Written.TheVariants.{Bytes, Refused as NotWritten}
-use Rattle.loop_writer.specs.Layout.{entry_tables, loop_bytes, too_wide}
+use Rattle.loop_writer.specs.Layout.{loop_bytes, too_wide}
 use Rattle.loop_writer.specs.Verdict.{applies_to}
 use Rattle.loop_writer.specs.Writing.{in_room, judged_in, answer}
 use Rattle.loop_writer.specs.Meaning as Loop

@@ -12,7 +12,7 @@ use Rattle.combinators.specs.Bools.{either_right, false_unless}
 use Rattle.combinators.specs.Lists.{any}
 use Rattle.syntax.specs.Table.{fits}
 use Rattle.vocabulary.specs.declared.refusal.Refusal.{Refusal}
-use Rattle.vocabulary.specs.declared.refusal.Refusal.TheVariants.{LoopTooLong, NotStereoSet, RangesMeet, NoRoom}
+use Rattle.vocabulary.specs.declared.refusal.Refusal.TheVariants.{NotStereoSet, RangesMeet, NoRoom}
 use Rattle.loop_entries.specs.declared.Entry.{Entry}
 use Rattle.es_loop.specs.declared.reader.Outcome.{Outcome}
 use Rattle.es_loop.specs.declared.reader.Outcome.TheVariants.{Accepted, Refused as SetRefused}

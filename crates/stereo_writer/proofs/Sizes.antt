@@ -1,7 +1,7 @@
 -- How many bytes a set takes: those of the loop, and 20 more.
 -- Assumes nothing.
-use Prim.Native.Nat.{ℕ, ◌+◌, ◌≤◌, ◌<◌}
-use mathlib.Core.Path.{◌≡◌, refl, sym, ◌∙◌, ap, ap₂, subst}
+use Prim.Native.Nat.{ℕ, ◌+◌}
+use mathlib.Core.Path.{◌≡◌, refl, ◌∙◌, ap}
 use mathlib.Core.Bool.{Bool, true, false, cond, ◌&&◌, ◌||◌}
 use mathlib.Core.List.{List, [], ◌∷◌, ◌++◌, map}
 use native.Mathlib.Nat.{zero-add}
@@ -14,14 +14,13 @@ use Rattle.syntax.specs.Filled.{bytes_in}
 use Rattle.vocabulary.specs.declared.refusal.Refusal.{Refusal}
 use Rattle.records.specs.Records.{is_layer, record_tables}
 use Rattle.loop_entries.specs.declared.Entry.{Entry}
-use Rattle.es_loop.specs.declared.reader.Outcome.{Outcome}
 use Rattle.es_loop.specs.declared.reader.Outcome.TheVariants.{Accepted, Refused}
 use Rattle.loop_writer.specs.Layout.{entry_bytes, loop_bytes}
 use Rattle.mvc_extension.specs.declared.MvcExtension.{MvcExtension}
 use Rattle.mvc_extension.specs.MvcExtension.{mvc_extension_descriptor, mvc_extension_fields}
 use Rattle.mvc_descriptors.specs.Tables.{mvc_extension_tables}
 use Rattle.stereo_set.specs.declared.views.View.{View}
-use Rattle.stereo_set.specs.Views.{is_base_layer, is_second_layer, is_layer_view, if_layer, layers_among}
+use Rattle.stereo_set.specs.Views.{is_base_layer, is_second_layer, if_layer, layers_among}
 use Rattle.stereo_set.specs.Set.{arranged, set_of}
 use Rattle.stereo_writer.specs.Layout.{extension_for, view_for, is_part, extra_size, extra_tables, stereo_info, stereo_entry, stereo_bytes}
 use Rattle.stereo_writer.specs.Writing.{set_for}

@@ -1,7 +1,7 @@
 -- HOW A STEREO SET IS WRITTEN: each entry as the loop writer writes it, and behind the hierarchy descriptor of the two layers, if any, the MVC extension descriptor that
 -- each is given, the first of the two descriptors to the base and the second to the other. ES_info_length counts both.
 -- Assumes nothing.
-use Rattle.std.specs.Prelude.{ℕ, Bool, cond, ◌&&◌, ◌||◌, List, [], ◌∷◌, ◌++◌, length}
+use Rattle.std.specs.Prelude.{ℕ, Bool, cond, ◌&&◌, ◌||◌, List, [], ◌++◌, length}
 use Rattle.combinators.specs.Lists.{gather}
 use Rattle.syntax.specs.Filled.{Filled, bytes_in}
 use Rattle.records.specs.Records.{is_layer, is_second_view, record_tables}

@@ -1,21 +1,19 @@
 -- From what a function's code found to its whole reply.
 -- Assumes nothing.
 use Prim.Native.Nat.{ℕ, ◌≤◌, ◌<◌}
-use mathlib.Core.Bool.{Bool, true, false, cond, ◌&&◌, ◌||◌}
-use mathlib.Core.List.{List, [], ◌∷◌}
+use mathlib.Core.Bool.{Bool, true, false, cond, ◌&&◌}
+use mathlib.Core.List.{List}
 use mathlib.Core.Path.{◌≡◌, refl, sym, ap, ap₂, ◌∙◌}
 use native.Mathlib.Omega.{arith}
 use borrow.Author.Tests.{eqb-true, eq-eqb, ne_eqb, lt-ltb, le-ltb}
 use lib.Dec.{eqb, ltb}
-use lib.ListN.{length, take}
+use lib.ListN.{length}
 use lib.Seq.{take_all}
 use Rattle.combinators.specs.Below.{some}
 use Rattle.combinators.specs.Bools.{both_left, both_right, both_ways}
 use Rattle.sets.specs.Sets.{size}
-use Rattle.vocabulary.specs.declared.refusal.Refusal.{Refusal}
 use Rattle.vocabulary.specs.declared.refusal.Refusal.TheVariants.{NoRoom, TooWide}
 use Rattle.loop_entries.specs.declared.Entry.{Entry}
-use Rattle.es_loop.specs.declared.reader.Outcome.{Outcome}
 use Rattle.closure.specs.declared.Closure.{Closure}
 use Rattle.entry_rows.specs.Rows.{row_count, row_at, row_too_wide, some_too_wide, entry_in}
 use Rattle.layer_set.specs.declared.«set».LayerSet.{LayerSet}
@@ -24,7 +22,7 @@ use Rattle.layer_set.specs.Sets.{stored_in, added_to, removed_from, closure_in}
 use Rattle.layer_set_rows.specs.Buffers.{set_in, rows_right, rows_hold, stored_holds, holds_set}
 use Rattle.c_answers.specs.declared.Asked.{Asked}
 use Rattle.c_answers.specs.Answers.{refused, not_a_call, asked_for, Reply, reply, unchanged}
-use Rattle.thoquenry_sets.specs.Calls.{SetReply, set_reply, changed_laid, after_change, read_into, read_set, add_set, remove_set, closure_laid, closure_set}
+use Rattle.thoquenry_sets.specs.Calls.{set_reply, after_change, read_into, read_set, add_set, remove_set, closure_laid, closure_set}
 
 -- ---- rows that hold
 

@@ -1,9 +1,8 @@
 -- THE FUNCTIONS FOR C ON LAYER SETS: thq_set_read, thq_set_add, thq_set_remove and thq_set_closure, each one definition of its answer and of what its buffers then hold.
 -- Assumes nothing.
-use Rattle.std.specs.Prelude.{ℕ, Bool, cond, ◌&&◌, List, [], ◌∷◌, eqb, ltb, length}
+use Rattle.std.specs.Prelude.{ℕ, cond, List, [], ◌∷◌, eqb, ltb, length}
 use Rattle.buffers.specs.Buffers.{over}
 use Rattle.sets.specs.Sets.{size}
-use Rattle.vocabulary.specs.declared.refusal.Refusal.{Refusal}
 use Rattle.vocabulary.specs.declared.refusal.Refusal.TheVariants.{NoRoom, TooWide}
 use Rattle.es_loop.specs.declared.reader.Outcome.{Outcome}
 use Rattle.es_loop.specs.declared.reader.Outcome.TheVariants.{Accepted, Refused}

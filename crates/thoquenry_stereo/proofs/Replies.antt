@@ -1,8 +1,8 @@
 -- From what the tests on the way say to the reply of thq_write_stereo.
 -- Assumes nothing.
 use Prim.Native.Nat.{ℕ}
-use mathlib.Core.Path.{◌≡◌, sym, ◌∙◌, ap}
-use mathlib.Core.Bool.{Bool, true, false, not, or-true}
+use mathlib.Core.Path.{◌≡◌, sym, ap}
+use mathlib.Core.Bool.{true, false}
 use mathlib.Core.List.{List}
 use borrow.Author.Tests.{not-false}
 use lib.ListN.{length}
@@ -13,7 +13,6 @@ use Rattle.entry_rows.specs.Rows.{some_too_wide}
 use Rattle.mvc_extension.specs.MvcExtension.{mvc_extension_descriptor}
 use Rattle.mvc_rows.specs.Rows.{fields_at}
 use Rattle.c_answers.specs.Answers.{Reply, reply, unchanged}
-use Rattle.loop_writer.specs.declared.writer.Written.{Written}
 use Rattle.stereo_writer.specs.Writing.{stereo_answer, stereo_content}
 use Rattle.thoquenry_stereo.specs.Writing.{entries_given, base_given, second_given, row_too_wide, given_too_wide, set_written, write_stereo}
 

@@ -249,9 +249,7 @@ pub fn write_answer(
         tell(
             rt,
             told,
-            write_rows(
-                rt, rows, indices, decodings, matches, trefs, packets, text,
-            ),
+            write_rows(rt, rows, indices, decodings, matches, trefs, packets, text),
             b"rows\n",
         );
         return;

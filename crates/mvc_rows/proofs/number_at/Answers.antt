@@ -1,0 +1,8 @@
+-- `number_at` meets its contract: past the end of a list stands 0.
+-- Assumes nothing.
+use mathlib.Core.Path.{sym}
+use lib.ListN.{get_or-eq_default}
+use Rattle.mvc_rows.proofs.number_at.Goals as goal
+
+pub returns : goal.returns
+returns c = sym (get_or-eq_default c.args.numbers.now 0 c.if-i-numbers.false)
