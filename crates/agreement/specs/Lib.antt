@@ -6,5 +6,3 @@ pub mod Layers
 pub mod Closures
 pub mod Joined
 pub mod Computed
-pub mod Agreement
-pub mod Examples

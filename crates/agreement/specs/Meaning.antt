@@ -2,7 +2,7 @@
 -- target rests on, itself included, has a 2009 stream type, the 2009 reading gives the identical answer. Otherwise, or if the 2015 reading
 -- finds no complete set of layers, the 2009 reading refuses with "no such layer" or "embedded layer absent", for every content of the row
 -- table and every output room.' Here is what these words mean, over the meaning of reading a loop, of its layers, of a target's closure and of
--- the whole import; Agreement has the statement that it is so, with its proof.
+-- the whole import; proofs/Agreement.antt has the statement that it is so, with its proof.
 -- Assumes nothing.
 use Rattle.std.specs.Prelude.{ℕ, List, map, ◌↔◌, ◌≡◌}
 use Rattle.vocabulary.specs.declared.LayerIndex.{LayerIndex}
@@ -74,7 +74,7 @@ pub data NoSet : Refusal → Type 0 where
   embedded_layer_absent : (index : LayerIndex) → NoSet (EmbeddedLayerAbsent index)
 
 -- 'the 2009 reading refuses with "no such layer" or "embedded layer absent", for every content of the row table and every output room': with one
--- and the same refusal for all of them, and the lists hold what they held before. (A reading gives one answer: `one_answer` of Agreement.)
+-- and the same refusal for all of them, and the lists hold what they held before. (A reading gives one answer: `one_answer` of proofs/Agreement.antt.)
 pub record Refuses2009 (bytes : List ℕ) (target : ℕ) : Type 0 where
   pub refusal : Refusal
   pub is_11_or_12 : NoSet refusal

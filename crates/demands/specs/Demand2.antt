@@ -26,9 +26,9 @@ use Rattle.loop_writer.specs.declared.writer.Written.TheVariants as Loop
 use Rattle.loop_writer.specs.Layout.{loop_bytes}
 use Rattle.loop_writer.specs.Writing.{answer, content_after}
 use Rattle.loop_round_trip.specs.ReadBack.{normal, Typed}
-use Rattle.loop_round_trip.specs.RoundTrip as loops
+use Rattle.loop_round_trip.proofs.RoundTrip as loops
 use Rattle.loop_round_trip.specs.OwnShape.{OwnShape}
-use Rattle.loop_round_trip.specs.Rewriting as loops-again
+use Rattle.loop_round_trip.proofs.Rewriting as loops-again
 use Rattle.stamps.specs.declared.Times.{Times}
 use Rattle.pes_reader.specs.declared.Answer.TheVariants as Answer
 use Rattle.pes_reader.specs.declared.Header.{Header as HeaderRead}

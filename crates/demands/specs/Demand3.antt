@@ -13,7 +13,7 @@ use Rattle.closure.specs.declared.Layers.{Layers}
 use Rattle.loop_layers.specs.Layers.{layers_of}
 use Rattle.agreement.specs.Records.{entry_in2009}
 use Rattle.agreement.specs.Meaning.{Accepts, Every2009, Otherwise, Agrees}
-use Rattle.agreement.specs.Agreement.{accepted_too, agreement, one_or_other}
+use Rattle.agreement.proofs.Agreement.{accepted_too, agreement, one_or_other}
 
 -- Of every loop that the 2015 reading accepts, with its entries and their layers:
 pub record Demand3 : Type 0 where

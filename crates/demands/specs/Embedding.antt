@@ -34,7 +34,8 @@ use Rattle.loop_layers.specs.declared.table.LayerTable.{LayerTable}
 use Rattle.loop_layers.specs.declared.table.TableRead.{TableRead}
 use Rattle.loop_layers.specs.Closures.{entries_read, loop_table}
 use Rattle.loop_writer.specs.declared.writer.Written.TheVariants as Written
-use Rattle.loop_round_trip.specs.ReadBack.{layers_kept, normal, Typed, typed_at}
+use Rattle.loop_round_trip.specs.ReadBack.{layers_kept, normal, Typed}
+use Rattle.loop_round_trip.proofs.ReadBack.{typed_at}
 use Rattle.listing.specs.Lines.{accepted_text, refused_text, read_text, loop_text}
 use Rattle.embedding.specs.Changed.{AnswersKept, LongLists}
 use Rattle.embedding.proofs.Kept.{answers_kept}

@@ -12,9 +12,11 @@ use Rattle.point_writer.specs.Writing.{answer, content}
 use Rattle.point_writer.specs.Meaning.{Gives, ValueFits}
 use Rattle.point_writer.specs.Meaning as Writing
 use Rattle.point_writer.proofs.Meant.{answer_meant, answer_only}
-use Rattle.points_round_trip.specs.ReadBack.{ReadBack, written_read}
+use Rattle.points_round_trip.specs.ReadBack.{ReadBack}
+use Rattle.points_round_trip.proofs.ReadBack.{written_read}
 use Rattle.points_round_trip.specs.OwnShape.{OwnPayload}
-use Rattle.points_round_trip.specs.Rewriting.{rows_of, own_lists, rewritten}
+use Rattle.points_round_trip.specs.Rewriting.{rows_of}
+use Rattle.points_round_trip.proofs.Rewriting.{own_lists, rewritten}
 
 pub record PointRoundTrips : Type 0 where
   -- what was written is read back: a program's loop that is the descriptor alone has one payload, is not refused, and the payload's value is the one that was given

@@ -36,7 +36,7 @@ use Rattle.es_loop.specs.Meaning as Loop
 use Rattle.es_loop.proofs.Meant.{broken_last, record_there, entry_case, layer_where, answer_meant, answer_only}
 use Rattle.loop_layers.specs.Closures.{entries_read}
 use Rattle.loop_layers.proofs.Meant.{entries_read_lem}
-use Rattle.agreement.specs.Entries.{accepted_in_2009}
+use Rattle.agreement.proofs.Entries.{accepted_in_2009}
 use Rattle.embedding.specs.Before.{MoreThan8, more_than_8, refused, accepted}
 use Rattle.embedding.specs.ReadingBefore.{Condition, as_now, embedded_many, Answers, refuses, accepts}
 use Rattle.embedding.specs.Changed.{TenAlone, As2009, LongLists}

@@ -5,18 +5,17 @@ use mathlib.Core.Bool.{Bool, true, false, not, cond, ◌&&◌, ◌||◌}
 use mathlib.Core.List.{List, [], ◌∷◌, ◌++◌, append-nil}
 use mathlib.Core.Path.{◌≡◌, refl, sym, ap, ap₂, ◌∙◌, subst}
 use native.Mathlib.Decide.{dec_lt}
-use native.Mathlib.Numerals.{add-one}
 use native.Mathlib.Omega.{arith}
 use borrow.Author.Tests.{eqb-true, eqb-false, eq-eqb, ne_eqb, not-true, not-false}
 use lib.Dec.{eqb}
-use lib.ListN.{length, get_or, take, drop, length-take, length-drop, get_or-append}
+use lib.ListN.{length, get_or, take, drop, length-take, length-drop}
 use lib.Seq.{ext_get_or, take_all, take_at, take-add, drop-append-add, get_or-take, get_or-drop}
-use Rattle.combinators.specs.Below.{some, every, every_at, at_every, some_at, none_at, at_none}
+use Rattle.combinators.specs.Below.{some, every_at, at_every, none_at, at_none}
 use Rattle.combinators.specs.Bools.{both_left, both_right, both_ways, neither_left, neither_right, false_unless}
-use Rattle.combinators.specs.Lists.{Nth, nth_get_d, get_d_nth, nth_inside, gather, gather_append}
+use Rattle.combinators.specs.Lists.{Nth, nth_get_d, get_d_nth, nth_inside, gather_append}
 use Rattle.sets.specs.Sets.{has}
 use Rattle.records.specs.declared.Record.{Record}
-use Rattle.records.specs.declared.Record.TheVariants.{NoRecord, Hierarchy, Extension, Implied}
+use Rattle.records.specs.declared.Record.TheVariants.{NoRecord}
 use Rattle.records.specs.Records.{is_layer, index_of}
 use Rattle.implied.specs.Rule.{is_view, given}
 use Rattle.judging.specs.Judging.{type_not_allowed, wrong_flags, wrong_embedded}
@@ -30,8 +29,8 @@ use Rattle.entry_rows.proofs.Judged.{length_entries, kind_fine}
 use Rattle.combinators.specs.Each.{each_only, each_at, length_each}
 use Rattle.loop_layers.specs.Meaning.{LayerAt, LayerOf}
 use Rattle.layer_set.specs.declared.«set».LayerSet.{LayerSet}
-use Rattle.layer_set.specs.Sets.{stored_in, no_entry, entry_at, set_of, placed_of}
-use Rattle.layer_set.specs.Meaning.{Stands, At, a_layer, nothing, IsSet, Layer}
+use Rattle.layer_set.specs.Sets.{stored_in, no_entry, entry_at, set_of}
+use Rattle.layer_set.specs.Meaning.{Stands, At, a_layer, nothing, IsSet}
 use Rattle.layer_set.proofs.Meant.{in_set, same_set}
 use Rattle.layer_set.proofs.Read.{Apart, listed_set, listed_layers}
 use Rattle.layer_set_rows.specs.Buffers.{number_of, stored_numbers, placed_in, set_in, wrong_at, right_at, same_numbers, row_right, layer_with, pid_again, row_fine, rows_right, rows_hold, stored_holds, holds_set}

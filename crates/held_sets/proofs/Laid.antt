@@ -1,6 +1,6 @@
 -- ENTRIES THAT THEIR ROWS TELL WHOLE: those of an accepted loop, and that of a row in which no value is too wide.
 -- Assumes nothing.
-use Prim.Native.Nat.{ℕ, zero, suc, ◌+◌, ◌-◌, ◌*◌, ◌≤◌, ◌<◌, min}
+use Prim.Native.Nat.{ℕ, zero, suc, ◌+◌, ◌-◌, ◌≤◌, ◌<◌, min}
 use mathlib.Core.Bool.{Bool, true, false, not, cond, ◌&&◌, ◌||◌}
 use mathlib.Core.List.{List, [], ◌∷◌, ◌++◌, map}
 use mathlib.Core.Path.{◌≡◌, refl, sym, ap, ap₂, ◌∙◌, subst}
@@ -9,8 +9,8 @@ use borrow.Author.Tests.{lt-ltb, eqb-true, not-false}
 use lib.Dec.{eqb, ltb}
 use lib.ListN.{length, get_or, take, drop, replicate, length-map, length-take, length-drop}
 use lib.Seq.{take_at}
-use Rattle.combinators.specs.Bools.{both_ways, either_way}
-use Rattle.combinators.specs.Lists.{any, gather, Nth, nth_inside, nth_get_d, nth_of_map}
+use Rattle.combinators.specs.Bools.{either_way}
+use Rattle.combinators.specs.Lists.{any, gather}
 use Rattle.combinators.specs.Padding.{pad_to}
 use Rattle.framing.specs.Pieces.{Item, whole, broken, cut}
 use Rattle.syntax.specs.Table.{fits}
@@ -26,13 +26,11 @@ use Rattle.extension.specs.Extension.{extension_head, extension_of, extension_fi
 use Rattle.descriptor_heads.specs.Head.{descriptor_tag, descriptor_length}
 use Rattle.records.specs.declared.Record.{Record}
 use Rattle.records.specs.declared.Record.TheVariants.{NoRecord, Hierarchy, Extension, Implied}
-use Rattle.descriptors.specs.declared.looking.Seen.{Seen}
 use Rattle.descriptors.specs.Looking.{Kind, does_not_fit, skipped, wrong_length, hierarchy, extension, tag4_kind, tag63_kind, kind_of, Held, held_in, first_record, first_layers, seen_of, nothing_seen}
 use Rattle.implied.specs.Rule.{given}
 use Rattle.implied.specs.Marking.{with_mark}
 use Rattle.loop_entries.specs.declared.Entry.{Entry}
-use Rattle.loop_entries.specs.declared.Stream.{Stream}
-use Rattle.loop_entries.specs.Entries.{stream_type, elementary_pid, es_info_length, blank_entry, stream_of, marked_stream, entry_of}
+use Rattle.loop_entries.specs.Entries.{stream_type, blank_entry, stream_of, marked_stream, entry_of}
 use Rattle.loop_entries.proofs.Front.{pid_below}
 use Rattle.entry_rows.specs.Rows.{layer_number, layer_of, head_of, tail_of, row_of, fields_in, count_in, list_in, layer_too_wide, row_too_wide, entry_in}
 use Rattle.entry_rows.proofs.Judged.{hierarchy_decides, extension_decides, fieldless_fine, kind_fine, type_bound, pid_bound, hierarchy_fine, extension_fine, list_fine}

@@ -1,9 +1,9 @@
 -- WHAT THE FUNCTIONS FOR C LEAVE BEHIND HOLDS A SET, or is what was there.
 -- Assumes nothing.
-use Prim.Native.Nat.{ℕ, ◌<◌, ◌≤◌}
-use mathlib.Core.Bool.{Bool, true, false, not, cond, ◌&&◌}
-use mathlib.Core.List.{List, map}
-use mathlib.Core.Path.{◌≡◌, refl, sym, ap, ap₂, ◌∙◌, subst}
+use Prim.Native.Nat.{ℕ, ◌<◌}
+use mathlib.Core.Bool.{Bool, true, false, not, cond}
+use mathlib.Core.List.{List}
+use mathlib.Core.Path.{◌≡◌, refl, sym, ap, ◌∙◌, subst}
 use native.Mathlib.Decide.{ℕ_discrete}
 use native.Mathlib.Omega.{arith}
 use borrow.Author.Tests.{eqb-true}
@@ -12,7 +12,6 @@ use lib.ListN.{length, set}
 use Rattle.combinators.specs.Bools.{both_ways}
 use Rattle.combinators.specs.Lists.{Nth, nth_inside, nth_get_d, nth_of_map}
 use Rattle.framing.specs.Pieces.{Item, whole, broken, cut}
-use Rattle.sets.specs.Sets.{has}
 use Rattle.vocabulary.specs.declared.stream_types.Reading.{Reading}
 use Rattle.vocabulary.specs.declared.refusal.Refusal.TheVariants.{TooWide}
 use Rattle.loop_entries.specs.declared.Entry.{Entry}
@@ -23,8 +22,7 @@ use Rattle.loop_entries.specs.Entries.{blank_entry, es_info_length, no_stream, s
 use Rattle.loop_faults.specs.Conditions.{stream_at}
 use Rattle.es_loop.specs.Reading.{loop_read}
 use Rattle.es_loop.proofs.Judged.{Taken, taken}
-use Rattle.entry_rows.specs.Rows.{rows_of, row_too_wide, some_too_wide, entry_in}
-use Rattle.loop_writer.specs.Layout.{too_wide}
+use Rattle.entry_rows.specs.Rows.{rows_of, some_too_wide, entry_in}
 use Rattle.loop_layers.specs.Layers.{place_of}
 use Rattle.loop_layers.specs.Closures.{entries_read}
 use Rattle.loop_layers.proofs.Meant.{entries_read_lem}
@@ -39,7 +37,7 @@ use Rattle.layer_set_rows.specs.Buffers.{stored_numbers, set_in, holds_set}
 use Rattle.c_answers.specs.declared.Asked.{Asked}
 use Rattle.c_answers.specs.declared.Asked.TheVariants.{Known, Neither}
 use Rattle.c_answers.specs.Answers.{not_a_call, asked_for, refused}
-use Rattle.thoquenry_sets.specs.Calls.{SetReply, set_reply, set_laid, changed_laid, after_change, read_into, read_set, add_set, remove_set}
+use Rattle.thoquenry_sets.specs.Calls.{set_reply, set_laid, changed_laid, after_change, read_into, read_set, add_set, remove_set}
 use Rattle.thoquenry_sets.proofs.Replies.{one_row}
 use Rattle.held_sets.specs.Meaning.{Laid, LaidOut, Holds, Leaves, untouched, a_set}
 use Rattle.held_sets.proofs.Held.{held_meant}

@@ -9,9 +9,9 @@ use Rattle.vocabulary.specs.declared.refusal.Refusal.{Refusal}
 use Rattle.loop_entries.specs.declared.Entry.{Entry}
 use Rattle.loop_entries.specs.declared.Stream.{Stream}
 use Rattle.es_loop.specs.declared.reader.Outcome.{Outcome}
-use Rattle.es_loop.specs.declared.reader.Outcome.TheVariants.{Accepted, Refused}
+use Rattle.es_loop.specs.declared.reader.Outcome.TheVariants.{Accepted}
 use Rattle.es_loop.specs.declared.reader.LoopRead.{LoopRead}
-use Rattle.loop_entries.specs.Entries.{stream_of, marked_streams, entry_of}
+use Rattle.loop_entries.specs.Entries.{stream_of, marked_streams}
 use Rattle.es_loop.specs.Reading.{refused_with, accepted, loop_read}
 use Rattle.es_loop.specs.Meaning.{too_long_lem, refuses, accepts}
 use Rattle.es_loop.specs.Meaning as Loop
@@ -20,9 +20,8 @@ use Rattle.loop_layers.specs.Closures.{entries_read}
 use Rattle.loop_layers.specs.Meaning.{LayerOf}
 use Rattle.loop_layers.proofs.Meant.{entries_read_lem}
 use Rattle.layer_set.specs.declared.«set».LayerSet.{LayerSet}
-use Rattle.layer_set.specs.declared.reading.SetRead.{SetRead}
-use Rattle.layer_set.specs.Sets.{set_of, set_read, loop_set}
-use Rattle.layer_set.specs.Meaning.{IsSet, Layer}
+use Rattle.layer_set.specs.Sets.{set_read, loop_set}
+use Rattle.layer_set.specs.Meaning.{Layer}
 use Rattle.layer_set.proofs.Read.{read_is_set, read_layers, as_read}
 use Rattle.held_sets.specs.Meaning.{ReadsSet, loop_refused, loop_accepted}
 

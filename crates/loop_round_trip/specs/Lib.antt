@@ -1,5 +1,2 @@
 pub mod ReadBack
-pub mod Verdicts
-pub mod RoundTrip
 pub mod OwnShape
-pub mod Rewriting

@@ -31,7 +31,7 @@ use Rattle.join_answers.specs.declared.answer.Joined.{Joined}
 use Rattle.join_answers.specs.Meaning as Joining
 use Rattle.importing.specs.Meaning as Import
 use Rattle.agreement.specs.Meaning.{Accepts, Agrees}
-use Rattle.agreement.specs.Agreement.{agreement}
+use Rattle.agreement.proofs.Agreement.{agreement}
 use Rattle.operation_points.specs.declared.Filling.{Filling}
 use Rattle.operation_points.specs.declared.Filling.TheVariants.{Exact, Inexact, Reserved}
 use Rattle.point_descriptors.specs.Descriptors.{program_filling, found_in}

@@ -3,5 +3,4 @@ pub mod ReadPoint
 pub mod ReadBack
 pub mod OwnShape
 pub mod OwnParsed
-pub mod OwnPoint
 pub mod Rewriting

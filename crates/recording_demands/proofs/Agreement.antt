@@ -31,9 +31,11 @@ use Rattle.join_answers.specs.declared.answer.Joined.TheVariants.{Units, Refused
 use Rattle.join_answers.specs.Joining.{Room, room_of, joined_in, joined_of, lists_after}
 use Rattle.join_answers.proofs.Meant as joining
 use Rattle.importing.specs.Meaning as Import
-use Rattle.agreement.specs.Entries.{IsAccepted, entries_in, accepted_in_2009}
-use Rattle.agreement.specs.Computed.{layers_in, same_joined, same_lists, no_closure}
-use Rattle.agreement.specs.Agreement.{accepts, outcome_is, same_entries, same_layers}
+use Rattle.agreement.specs.Entries.{IsAccepted, entries_in}
+use Rattle.agreement.proofs.Entries.{accepted_in_2009}
+use Rattle.agreement.specs.Computed.{layers_in}
+use Rattle.agreement.proofs.Computed.{same_joined, same_lists, no_closure}
+use Rattle.agreement.proofs.Agreement.{accepts, outcome_is, same_entries, same_layers}
 use Rattle.recordings.specs.declared.Recording.{Recording}
 use Rattle.recordings.specs.declared.Recording.TheVariants.{Rows}
 use Rattle.recordings.proofs.AnswerMeant as recordings

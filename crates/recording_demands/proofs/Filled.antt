@@ -1,7 +1,7 @@
 -- The rows of a recording are in range, and fill the table in their order: `rows_fill`.
 -- Assumes nothing.
 use Prim.Native.Nat.{ℕ, zero, suc, ◌<◌}
-use mathlib.Core.List.{List, ◌∷◌, ◌++◌, map}
+use mathlib.Core.List.{List, [], ◌∷◌, ◌++◌, map}
 use mathlib.Core.Path.{◌≡◌, refl, sym, ◌∙◌, subst}
 use mathlib.Core.Bool.{Bool, true, false, cond, true≢false}
 use native.Mathlib.Omega.{arith}
@@ -130,6 +130,7 @@ module _ (table : List ℕ) where
       on false e = tt
 
   each_fits : (k : ℕ) (items : List Item) (lasts : List (List ℕ)) (i : ℕ) (row : Row) → Nth (rows_from table k items lasts) i row → RowFits row
+  each_fits k [] lasts i row n = elim n [ ]
   each_fits k (item ∷ items) lasts i row n =
       go (event_of table k item lasts) (event_fits k item lasts) (λ j m. each_fits (suc k) items (lasts_after table item lasts) j row m) i n
     where
@@ -161,6 +162,7 @@ module _ (rows : List Row) (fits : (k : ℕ) (row : Row) → Nth rows k row → 
   nth_row k h = go rows k h
     where
       go : (l : List Row) (k : ℕ) → k < length l → (row : Row) × Nth l k row
+      go [] _ h = elim h [ ]
       go (x ∷ xs) zero h = (x, here)
       go (x ∷ xs) (suc k) h = let w = go xs k (omega arith) in (w.0, there w.1)
 

@@ -37,7 +37,7 @@ use Rattle.join_answers.specs.declared.answer.Joined.{Joined}
 use Rattle.join_answers.specs.Joining.{room_of, joined_of, lists_after}
 use Rattle.join_answers.specs.Meaning as Joining
 use Rattle.join_answers.proofs.Meant as joining
-use Rattle.agreement.specs.Agreement.{accepts}
+use Rattle.agreement.proofs.Agreement.{accepts}
 use Rattle.agreement.specs.Entries.{IsAccepted}
 use Rattle.unit_starts.specs.declared.Found.{Found}
 use Rattle.unit_starts.specs.Finding.{found_in}

@@ -27,7 +27,7 @@ use Rattle.loop_layers.specs.Layers.{layers_of}
 use Rattle.loop_layers.specs.Closures.{entries_read}
 use Rattle.loop_layers.specs.Meaning.{LayersOf}
 use Rattle.loop_layers.proofs.Meant.{layers_only, entries_read_lem}
-use Rattle.agreement.specs.Agreement.{accepts}
+use Rattle.agreement.proofs.Agreement.{accepts}
 use Rattle.agreement.specs.Entries.{IsAccepted}
 use Rattle.scanning.specs.declared.events.Row.{Row}
 use Rattle.recordings.specs.declared.Recording.{Recording}

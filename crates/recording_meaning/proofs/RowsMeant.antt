@@ -16,7 +16,7 @@ use Rattle.closure.specs.declared.Layers.{Layers}
 use Rattle.closure.specs.declared.Closure.{Closure}
 use Rattle.closure.specs.declared.Closure.TheVariants.{Complete, Refused as NoClosure}
 use Rattle.closure.specs.Closures.{closure_of}
-use Rattle.agreement.specs.Agreement.{accepts}
+use Rattle.agreement.proofs.Agreement.{accepts}
 use Rattle.agreement.specs.Entries.{IsAccepted}
 use Rattle.unit_starts.specs.Finding.{found_in, rows_in}
 use Rattle.recording_rows.specs.Columns.{Columns, over_all}

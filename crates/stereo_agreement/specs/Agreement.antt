@@ -22,8 +22,9 @@ use Rattle.loop_layers.proofs.Meant.{entries_read_lem}
 use Rattle.rows.specs.Table.{table}
 use Rattle.unit_lists.specs.Sequence.{lists}
 use Rattle.agreement.specs.Meaning.{StreamType2009, avc, mvc, Every2009, Answer}
-use Rattle.agreement.specs.Entries.{IsAccepted, accepted_in_2009}
-use Rattle.agreement.specs.Computed.{identical_answer}
+use Rattle.agreement.specs.Entries.{IsAccepted}
+use Rattle.agreement.proofs.Entries.{accepted_in_2009}
+use Rattle.agreement.proofs.Computed.{identical_answer}
 use Rattle.stereo_set.specs.declared.set.StereoRead.{StereoRead}
 use Rattle.stereo_set.specs.Reading.{stereo_read}
 use Rattle.stereo_set.specs.Two.{TwoLayers}

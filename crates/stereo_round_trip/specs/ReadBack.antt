@@ -35,7 +35,7 @@ use Rattle.loop_writer.specs.Writing.{in_room, judged_in, answer}
 use Rattle.loop_writer.specs.Meaning as Loop
 use Rattle.loop_writer.proofs.Writes.{bytes_only}
 use Rattle.loop_round_trip.specs.ReadBack.{layers_kept, normal, Typed}
-use Rattle.loop_round_trip.specs.RoundTrip.{read_back}
+use Rattle.loop_round_trip.proofs.RoundTrip.{read_back}
 use Rattle.mvc_extension.specs.declared.MvcExtension.{MvcExtension}
 use Rattle.mvc_extension.specs.MvcExtension.{mvc_extension_descriptor, mvc_extension_fields}
 use Rattle.mvc_extension.specs.Ranges.{WrongRanges}

@@ -29,8 +29,8 @@ use Rattle.loop_writer.specs.Meaning as Loop
 use Rattle.loop_writer.proofs.Writes.{bytes_meant}
 use Rattle.loop_writer.proofs.Meant as LoopWriter
 use Rattle.loop_round_trip.specs.OwnShape.{Ones, OwnDescriptor, OwnEntry, OwnShape}
-use Rattle.loop_round_trip.specs.RoundTrip.{writes}
-use Rattle.loop_round_trip.specs.Rewriting.{rewrite}
+use Rattle.loop_round_trip.proofs.RoundTrip.{writes}
+use Rattle.loop_round_trip.proofs.Rewriting.{rewrite}
 use Rattle.mvc_extension.specs.declared.MvcExtension.{MvcExtension}
 use Rattle.mvc_extension.specs.MvcExtension.{mvc_extension_descriptor, mvc_extension_of, mvc_extension_fields}
 use Rattle.mvc_extension.specs.Ranges.{WrongRanges, wrong_ranges}

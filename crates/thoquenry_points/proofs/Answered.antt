@@ -1,8 +1,8 @@
 -- What was read, as it is laid into the lists: how long each has to be, that there is room, and what they hold afterwards.
 -- Assumes nothing.
-use Prim.Native.Nat.{ℕ, zero, suc, ◌+◌, ◌*◌, ◌/◌, ◌≤◌, ◌<◌}
+use Prim.Native.Nat.{ℕ, suc, ◌+◌, ◌*◌, ◌/◌, ◌≤◌, ◌<◌}
 use mathlib.Core.Bool.{Bool, true, false, cond, ◌&&◌}
-use mathlib.Core.List.{List, [], ◌∷◌, ◌++◌}
+use mathlib.Core.List.{List, [], ◌∷◌}
 use mathlib.Core.Path.{◌≡◌, refl, sym, ap, ap₂, ◌∙◌, subst}
 use native.Mathlib.Omega.{arith}
 use borrow.Author.Tests.{leb-true}
@@ -15,16 +15,15 @@ use Rattle.buffers.specs.Buffers.{over, Laid}
 use Rattle.buffers.proofs.Laws.{laid_over_lem}
 use Rattle.vocabulary.specs.declared.refusal.Refusal.{Refusal}
 use Rattle.vocabulary.specs.declared.refusal.Refusal.TheVariants.{NoRoom}
-use Rattle.closure.specs.declared.Layers.{Layers}
 use Rattle.es_loop.specs.declared.reader.Outcome.{Outcome}
 use Rattle.es_loop.specs.declared.reader.Outcome.TheVariants.{Accepted, Refused}
 use Rattle.operation_points.specs.Values.{PointValue, counts_of, reference_bytes, layer_bytes}
 use Rattle.program_points.specs.declared.PointsRead.{PointsRead}
 use Rattle.program_points.specs.declared.Tally.{Tally}
-use Rattle.program_points.specs.Places.{value_at, profiles_at, counts_at, point_at, head_at}
-use Rattle.program_points.specs.Told.{values_in, points_in, profiles_in, streams_of, row_in, tally_of, points_read}
+use Rattle.program_points.specs.Places.{value_at, profiles_at, counts_at}
+use Rattle.program_points.specs.Told.{values_in, points_in, profiles_in, streams_of, row_in, points_read}
 use Rattle.program_points.proofs.Tallying.{parts_of, references_many, flags_many, streams_many, count_small, head_parts, profiles_many}
-use Rattle.program_points.proofs.Filled.{points_room, payloads_room, all_points, all_payloads, values_taken, profiles_taken, counts_taken, counted, points_counted, not_long, points_short, payloads_short, Read, accepted_read}
+use Rattle.program_points.proofs.Filled.{points_room, payloads_room, all_points, all_payloads, values_taken, profiles_taken, counts_taken, counted, points_counted, not_long, points_short, payloads_short, accepted_read}
 use Rattle.point_rows.specs.Rows.{descriptor_numbers, point_numbers, reference_list, layer_list, stream_list, summary_of}
 use Rattle.c_answers.specs.Answers.{accepted, refused}
 use Rattle.thoquenry_points.specs.Reading.{Lists, lists, PointsReply, points_reply, room_for, laid_over, told_points, reply_by, reply_to, read_points, Ready}

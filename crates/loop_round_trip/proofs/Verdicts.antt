@@ -32,7 +32,8 @@ use Rattle.loop_writer.specs.Layout.{too_wide}
 use Rattle.loop_writer.proofs.Entries.{record_fit}
 use Rattle.extension.proofs.Widths.{count_small}
 use Rattle.loop_writer.specs.Verdict.{stream_for, applies_to, pair_for, given_to}
-use Rattle.loop_round_trip.specs.ReadBack.{on_unknown_type, wrong_mark, writers_own_six, layers_kept, with_record, normal, without_mark, without_record, remarked, read_as, read_again, unknown_view, pair_again, Typed, typed_at}
+use Rattle.loop_round_trip.specs.ReadBack.{on_unknown_type, wrong_mark, writers_own_six, layers_kept, with_record, normal, without_mark, without_record, remarked, read_as, read_again, Typed}
+use Rattle.loop_round_trip.proofs.ReadBack.{unknown_view, pair_again, typed_at}
 
 -- ONE ENTRY, by whether its type is known
 module _ (pair : Bool) (e : Entry) where

@@ -9,8 +9,6 @@ use Rattle.std.proofs.Math.ListN.{get_or-eq_default}
 use Rattle.descriptor_heads.proofs.Bits.{bit_there}
 use Rattle.combinators.specs.Bools.{both_left, neither_left, neither_right}
 use Rattle.combinators.specs.Lists.{Nth, here, there, nth_inside, nth_map, get_d_nth, get_d_map, any, gather}
-use Rattle.combinators.specs.Lowest.{lowest_number, earliest_place}
-use Rattle.combinators.proofs.Lowest.{lowest_is}
 use Rattle.combinators.specs.Padding.{pad_to, length_pad_to}
 use Rattle.framing.specs.Pieces.{Item, whole, broken, cut, Cuts, nothing_left, does_not_fit, piece}
 use Rattle.framing.proofs.Pieces.{cut_cuts}
@@ -33,28 +31,28 @@ use Rattle.implied.specs.Marking.{with_mark}
 use Rattle.judging.specs.Meaning.{has_descriptor}
 use Rattle.descriptors.specs.declared.looking.Seen.{Seen}
 use Rattle.vocabulary.specs.declared.refusal.Refusal.{Refusal}
-use Rattle.vocabulary.specs.declared.refusal.Refusal.TheVariants.{LoopTooLong}
 use Rattle.vocabulary.specs.Refusals.{place_of}
 use Rattle.loop_entries.specs.declared.Entry.{Entry}
 use Rattle.loop_entries.specs.declared.Stream.{Stream}
 use Rattle.es_loop.specs.declared.reader.Outcome.TheVariants.{Accepted}
 use Rattle.es_loop.specs.declared.reader.LoopRead.{LoopRead}
-use Rattle.loop_faults.specs.Conditions.{stream_at, applies, refusal_of}
-use Rattle.es_loop.specs.Reading.{refused_with, accepted, loop_read}
+use Rattle.loop_faults.specs.Conditions.{stream_at, refusal_of}
+use Rattle.es_loop.specs.Reading.{refused_with, loop_read}
 use Rattle.es_loop.proofs.Judged.{Taken, taken}
 use Rattle.descriptor_heads.proofs.Heads.{by_tag}
 use Rattle.loop_entries.specs.Entries.{entry_head, stream_type, elementary_pid, es_info_length, seen_in, stream_of, shown_of, pair_of, marked_stream, streams_alone, streams_of, no_stream, entry_of, blank_entry}
 use Rattle.es_loop.proofs.Pairs.{pair_marked, marked_length}
 use Rattle.es_loop.proofs.Meant.{by_head}
 use Rattle.syntax.specs.Named.{by_names}
-use Rattle.syntax.specs.Filled.{Filled, filled, bytes_in, too_wide_in, bit_of}
+use Rattle.syntax.specs.Filled.{Filled, bytes_in, too_wide_in}
 use Rattle.loop_writer.specs.Layout.{entry_head_table, info_bytes, entry_bytes, loop_bytes, too_wide}
 use Rattle.loop_writer.specs.Verdict.{stream_for, pair_for}
 use Rattle.loop_writer.specs.declared.writer.Written.{Written}
 use Rattle.loop_writer.specs.declared.writer.Written.TheVariants.{Bytes, Refused}
 use Rattle.loop_writer.specs.Writing.{answer}
-use Rattle.loop_round_trip.specs.ReadBack.{Typed, none, one_more as one-Typed, on_unknown_type, wrong_mark, writers_own_six, without_mark, entry_sound, descriptor_sound, hierarchy_sound, extension_sound, layer_sound}
-use Rattle.loop_round_trip.specs.RoundTrip.{Refuses, wide, too_long_lem, judged_by, no_room, writes, refuses, numbered, none_below, same_refusal}
+use Rattle.loop_round_trip.specs.ReadBack.{Typed, none, one_more as one-Typed, on_unknown_type, wrong_mark, writers_own_six, without_mark}
+use Rattle.loop_round_trip.proofs.ReadBack.{entry_sound, descriptor_sound, hierarchy_sound, extension_sound, layer_sound}
+use Rattle.loop_round_trip.proofs.RoundTrip.{Refuses, wide, too_long_lem, judged_by, no_room, writes, refuses, numbered, none_below, same_refusal}
 use Rattle.loop_round_trip.specs.OwnShape.{Ones, ListOnes, no_more, one_more, OwnDescriptor, hierarchy_own, extension_own, OwnEntry, known_own, bare_own, OwnShape}
 
 -- ---- parts of a list of bytes

@@ -28,8 +28,10 @@ use Rattle.importing.specs.Importing.{imported_lists}
 use Rattle.importing.proofs.Meant.{import_meant, import_only}
 use Rattle.agreement.specs.Meaning.{Accepts, Every2009, Otherwise, Answer, Gives, NoSet, no_such_layer, embedded_layer_absent, Refuses2009, Agrees}
 use Rattle.agreement.specs.Records.{entry_in2009}
-use Rattle.agreement.specs.Entries.{IsAccepted, entries_in, accepted_in_2009, entries_in_2009}
-use Rattle.agreement.specs.Computed.{layers_in, answer_in, same_answer, identical_answer, AlwaysRefused, always_refused, either_way}
+use Rattle.agreement.specs.Entries.{IsAccepted, entries_in}
+use Rattle.agreement.proofs.Entries.{accepted_in_2009, entries_in_2009}
+use Rattle.agreement.specs.Computed.{layers_in, answer_in, AlwaysRefused}
+use Rattle.agreement.proofs.Computed.{same_answer, identical_answer, always_refused, either_way}
 
 -- 11 and 12
 pub numbers_11_and_12 : {refusal : Refusal} → NoSet refusal → (number_of refusal ≡ 11) ⊎ (number_of refusal ≡ 12)

@@ -15,9 +15,10 @@ use Rattle.closure.specs.Meaning.{itself}
 use Rattle.loop_layers.specs.Closures.{loop_closure}
 use Rattle.agreement.specs.Meaning.{Accepts, StreamType2009, Every2009, Otherwise, another_type, Refuses2009}
 use Rattle.agreement.specs.Entries.{entries_in}
-use Rattle.agreement.specs.Layers.{types_2009}
-use Rattle.agreement.specs.Computed.{layers_in, every_2009}
-use Rattle.agreement.specs.Agreement.{accepts, agreement}
+use Rattle.agreement.proofs.Layers.{types_2009}
+use Rattle.agreement.specs.Computed.{layers_in}
+use Rattle.agreement.proofs.Computed.{every_2009}
+use Rattle.agreement.proofs.Agreement.{accepts, agreement}
 
 -- loop A as the 2015 reading accepts it
 abbrev entries : List Entry

@@ -20,7 +20,8 @@ use Rattle.point_writer.specs.Meaning.{value_given, value_lists, PointFits}
 use Rattle.point_writer.proofs.Values.{value_in, layers_items, references_given, numbers_back, point_fits}
 use Rattle.points_round_trip.specs.ReadPoint.{seven}
 use Rattle.points_round_trip.specs.OwnShape.{OwnEach, OwnParts}
-use Rattle.points_round_trip.specs.OwnParsed.{each_long, own_parses, items_of, Carried, Plain, own_writes}
+use Rattle.points_round_trip.specs.OwnParsed.{items_of, Carried, Plain}
+use Rattle.points_round_trip.proofs.OwnParsed.{each_long, own_parses, own_writes}
 
 -- ---- the rates that may be there
 

@@ -32,8 +32,9 @@ use Rattle.loop_writer.specs.Verdict.{stream_for, applies_to, pair_for}
 use Rattle.loop_writer.specs.declared.writer.Written.{Written}
 use Rattle.loop_writer.specs.declared.writer.Written.TheVariants.{Bytes, Refused}
 use Rattle.loop_writer.specs.Writing.{answer, content_after, content}
-use Rattle.loop_round_trip.specs.ReadBack.{writers_own_six, normal, read_as, read_again, Typed, read_written}
-use Rattle.loop_round_trip.specs.Verdicts.{NotBySix, read_normal, same_lowest, none_unknown}
+use Rattle.loop_round_trip.specs.ReadBack.{writers_own_six, normal, read_as, read_again, Typed}
+use Rattle.loop_round_trip.proofs.ReadBack.{read_written}
+use Rattle.loop_round_trip.proofs.Verdicts.{NotBySix, read_normal, same_lowest, none_unknown}
 
 -- THE ANSWER, CASE BY CASE: what is known where it is so many bytes, and where it is a refusal.
 pub record Writes (room count : ℕ) (array : List Entry) (n : ℕ) : Type 0 where

@@ -1,0 +1,4 @@
+pub mod ReadBack
+pub mod Verdicts
+pub mod RoundTrip
+pub mod Rewriting

@@ -1,0 +1,5 @@
+pub mod OwnParsed
+pub mod ReadPoint
+pub mod ReadBack
+pub mod Rewriting
+pub mod OwnPoint
