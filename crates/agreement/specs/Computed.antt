@@ -6,6 +6,7 @@ use Rattle.vocabulary.specs.declared.stream_types.Reading.{Reading}
 use Rattle.vocabulary.specs.declared.stream_types.Reading.TheVariants.{Edition2009}
 use Rattle.vocabulary.specs.declared.refusal.Refusal.{Refusal}
 use Rattle.closure.specs.declared.Layers.{Layers}
+use Rattle.closure.specs.declared.Closure.TheVariants.{Refused as NoClosure}
 use Rattle.loop_layers.specs.Closures.{loop_closure}
 use Rattle.loop_layers.specs.Layers.{layers_of}
 use Rattle.join_answers.specs.declared.answer.Joined.{Joined}
