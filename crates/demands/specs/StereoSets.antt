@@ -28,11 +28,13 @@ use Rattle.stereo_set.specs.Two.{TwoLayers}
 use Rattle.stereo_set.specs.Meaning as Set
 use Rattle.stereo_set.proofs.Meant.{stereo_meant, stereo_only}
 use Rattle.stereo_writer.specs.Meaning as SetWriting
-use Rattle.stereo_agreement.specs.Skipped.{Alike, same_reading}
-use Rattle.stereo_agreement.specs.Agreement.{BothReadings, set_in_both}
+use Rattle.stereo_agreement.specs.Skipped.{Alike}
+use Rattle.stereo_agreement.proofs.Skipped.{same_reading}
+use Rattle.stereo_agreement.specs.Agreement.{BothReadings}
+use Rattle.stereo_agreement.proofs.Agreement.{set_in_both}
 use Rattle.stereo_round_trip.specs.OwnShape.{OwnSet}
-use Rattle.stereo_round_trip.specs.ReadBack.{read_back_set}
-use Rattle.stereo_round_trip.specs.Rewriting.{rewrite_set}
+use Rattle.stereo_round_trip.proofs.ReadBack.{read_back_set}
+use Rattle.stereo_round_trip.proofs.Rewriting.{rewrite_set}
 
 -- a loop that was written with a set in it, read again
 pub record GivenBack (x y : MvcExtension) (entries : List Entry) (written : List ℕ) : Type 0 where

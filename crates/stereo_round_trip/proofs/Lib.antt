@@ -1,0 +1,4 @@
+pub mod SetBack
+pub mod ReadBack
+pub mod Rewriting
+pub mod Bare
