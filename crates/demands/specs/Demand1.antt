@@ -7,9 +7,12 @@
 -- the promise wherever it is handed these.
 -- Assumes nothing.
 use Rattle.promised.specs.Calls.{Promised}
-use Rattle.promised.specs.Readers.{read_loop, loop_read_lem, closure_of_target, closure_found, closure_of_loop, loop_closure_found, read_times, times_read}
-use Rattle.promised.specs.Writers.{write_loop, loop_written, write_times, times_written}
-use Rattle.promised.specs.Joiners.{join_table, table_joined_lem, join_rows, rows_joined, join_long, long_joined, import_loop, loop_imported}
+use Rattle.promised.specs.Readers.{read_loop, closure_of_target, closure_of_loop, read_times}
+use Rattle.promised.proofs.Readers.{loop_read_lem, closure_found, loop_closure_found, times_read}
+use Rattle.promised.specs.Writers.{write_loop, write_times}
+use Rattle.promised.proofs.Writers.{loop_written, times_written}
+use Rattle.promised.specs.Joiners.{join_table, join_rows, join_long, import_loop}
+use Rattle.promised.proofs.Joiners.{table_joined_lem, rows_joined, long_joined, loop_imported}
 use Rattle.recording_promises.specs.Rows.{read_rows, rows_are_read}
 use Rattle.recording_promises.specs.Imports.{import_packets, packets_imported, import_long, long_imported}
 use Rattle.demands.specs.Told.{for_c}

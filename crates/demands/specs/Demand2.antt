@@ -54,9 +54,12 @@ use Rattle.join_answers.specs.Meaning as Joining
 use Rattle.join_answers.proofs.Meant as joining
 use Rattle.importing.specs.Meaning as Import
 use Rattle.promised.specs.Calls.{Promised}
-use Rattle.promised.specs.Readers.{LoopGiven, read_loop, loop_read_computed, loop_read_lem, read_times, times_read}
-use Rattle.promised.specs.Writers.{EntriesGiven, write_loop, loop_written_computed, loop_written, write_times, times_written}
-use Rattle.promised.specs.Joiners.{RowsGiven, join_rows, rows_joined, join_long, long_joined, ImportGiven, import_loop, loop_imported}
+use Rattle.promised.specs.Readers.{LoopGiven, read_loop, loop_read_computed, read_times}
+use Rattle.promised.proofs.Readers.{loop_read_lem, times_read}
+use Rattle.promised.specs.Writers.{EntriesGiven, write_loop, loop_written_computed, write_times}
+use Rattle.promised.proofs.Writers.{loop_written, times_written}
+use Rattle.promised.specs.Joiners.{RowsGiven, join_rows, join_long, ImportGiven, import_loop}
+use Rattle.promised.proofs.Joiners.{rows_joined, long_joined, loop_imported}
 
 -- the entries that a writer is given, and what reading them answers: each as it was given, but for what its record does not have (`normal`)
 abbrev pub entries_of : EntriesGiven → List Entry

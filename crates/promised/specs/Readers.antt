@@ -31,8 +31,8 @@ use Rattle.pes_reader.proofs.read.Kinds as read-times-kinds
 use Rattle.pes_reader.proofs.read.Reads as read-times
 use Rattle.pes_reader.specs.Meaning as Times
 use Rattle.pes_reader.proofs.MeaningLaws as times
-use Rattle.promised.specs.Calls.{Run, Call, is_listed, Promised}
-use Rattle.promised.specs.Shown.{Computed, promised, listed_first}
+use Rattle.promised.specs.Calls.{Run, Call, is_listed}
+use Rattle.promised.specs.Shown.{Computed, listed_first}
 
 -- ---- `es_loop::read_loop`: loop reading uses 1 to 9
 
@@ -91,9 +91,6 @@ loop_read_computed =
       untouched = λ given number e. refl;
     }
 
-pub loop_read_lem : Promised read_loop
-loop_read_lem = promised loop_read_computed
-
 -- ---- `closure::closure_of`: 'the target 11 and 12'
 
 pub record TargetGiven : Type 0 where
@@ -139,9 +136,6 @@ closure_computed =
       untouched = λ given number e. refl;
     }
 
-pub closure_found : Promised closure_of_target
-closure_found = promised closure_computed
-
 -- ---- `loop_layers::closure_of_loop`: 1 to 9, 11, 12
 
 pub record LoopTargetGiven : Type 0 where
@@ -186,9 +180,6 @@ loop_closure_computed =
       untouched = λ given number e. refl;
     }
 
-pub loop_closure_found : Promised closure_of_loop
-loop_closure_found = promised loop_closure_computed
-
 -- ---- `pes::read`: 'The PES reader uses 20 to 24'
 
 abbrev pub times_number : Answer → Option ℕ
@@ -231,6 +222,3 @@ times_read_computed =
       listed = λ bytes. times_listed (times.answers_is bytes);
       untouched = λ bytes number e. refl;
     }
-
-pub times_read : Promised read_times
-times_read = promised times_read_computed

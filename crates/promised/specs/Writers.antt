@@ -20,8 +20,8 @@ use Rattle.pes_writer.proofs.write.Kinds as write-times-kinds
 use Rattle.pes_writer.proofs.write.Reads as write-times
 use Rattle.pes_writer.specs.OwnShape as Times
 use Rattle.pes_writer.proofs.OwnShapeLaws as times
-use Rattle.promised.specs.Calls.{Run, Call, is_listed, Promised}
-use Rattle.promised.specs.Shown.{Computed, promised, not_refused}
+use Rattle.promised.specs.Calls.{Run, Call, is_listed}
+use Rattle.promised.specs.Shown.{Computed, not_refused}
 
 -- ---- `loop_writer::write_loop`: the loop writer uses 1, 3, 6 to 9, 17, 25
 
@@ -88,9 +88,6 @@ loop_written_computed =
           (loop_bytes (take given.count given.array)) given.out number e;
     }
 
-pub loop_written : Promised write_loop
-loop_written = promised loop_written_computed
-
 -- ---- `pes::write`: 'its writer 24, 25, 17'
 
 pub record TimesGiven : Type 0 where
@@ -154,6 +151,3 @@ times_written_computed =
     only given means =
         let both = times.writes_only given.times given.with_tref given.out means in
         (both.0, both.1 ∙ ap (times_buffer given) both.0)
-
-pub times_written : Promised write_times
-times_written = promised times_written_computed

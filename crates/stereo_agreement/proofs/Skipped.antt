@@ -15,6 +15,7 @@ use Rattle.descriptors.specs.declared.looking.Seen.{Seen}
 use Rattle.extension.specs.Extension.{no_layer}
 use Rattle.descriptors.specs.Looking.{Kind, skipped, payload_kind, kind_of, Held, held_in, is_unfit, is_wrong_length, first_record, first_layers, seen_of_kinds, seen_of}
 use Rattle.loop_entries.specs.declared.Stream.{Stream}
+use Rattle.es_loop.specs.declared.verdict.Verdict.TheVariants.{Refused as Refuses}
 use Rattle.es_loop.specs.declared.reader.LoopRead.{LoopRead}
 use Rattle.loop_entries.specs.Entries.{stream_type, elementary_pid, es_info_length, seen_in, stream_of, marked_streams}
 use Rattle.es_loop.specs.Reading.{judged, answer_by, loop_read}

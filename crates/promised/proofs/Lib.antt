@@ -1,0 +1,3 @@
+pub mod Readers
+pub mod Writers
+pub mod Joiners
