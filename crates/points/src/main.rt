@@ -8,10 +8,8 @@
 ghost use Rattle.console.specs.Inputs.{Counted};
 
 use std::env::{Env, FillError};
-use std::fs;
-use std::io;
 use std::io::Write;
-use std::str;
+use std::{fs, io, str};
 
 // A recording handed over where a loop was expected is refused as a loop, for some number that says little.
 fn hint(rt: &HostRuntime, program: &[u8], bytes: &[u8]) {

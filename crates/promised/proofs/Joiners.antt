@@ -9,7 +9,7 @@ use Rattle.vocabulary.specs.declared.stream_types.Reading.{Reading}
 use Rattle.closure.specs.declared.Layers.{Layers}
 use Rattle.join_answers.specs.declared.answer.Joined.{Joined}
 use Rattle.rows.specs.Table.{Table}
-use Rattle.unit_lists.specs.Sequence.{Lists, lists}
+use Rattle.unit_lists.specs.Sequence.{Lists}
 use Rattle.join_answers.specs.Joining.{frame_of, room_of, table_joined, joined_of, lists_after}
 use Rattle.join_answers.specs.Steps.{framed_lists}
 use Rattle.join_answers.specs.Meaning as Joining

@@ -1,6 +1,5 @@
 -- The promises of the calls that read, each of its function. The calls stand in specs/Readers.antt.
 -- Assumes nothing.
-use Rattle.closure.specs.Closures.{closure_of}
 use Rattle.promised.specs.Calls.{Promised}
 use Rattle.promised.specs.Shown.{promised}
 use Rattle.promised.specs.Readers.{closure_computed, closure_of_loop, closure_of_target, loop_closure_computed, loop_read_computed, read_loop, read_times, times_read_computed}

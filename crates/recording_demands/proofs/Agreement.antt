@@ -40,7 +40,6 @@ use Rattle.recordings.specs.declared.Recording.{Recording}
 use Rattle.recordings.specs.declared.Recording.TheVariants.{Rows}
 use Rattle.recordings.proofs.AnswerMeant as recordings
 use Rattle.recording_imports.specs.declared.Imported.{Imported}
-use Rattle.recording_imports.specs.declared.Imported.TheVariants as Imported
 use Rattle.recording_imports.specs.declared.RowsRead.{RowsRead}
 use Rattle.recording_imports.specs.Rows.{pid_table, rows_told, rows_for}
 use Rattle.recording_imports.specs.Imports.{layers_of_loop, outcome_of, imported_of, imported_by, recording_with, import_of}

@@ -32,7 +32,6 @@ use Rattle.packets.specs.Judging.{lost_sync}
 use Rattle.packets.specs.Reading.{packet_of}
 use Rattle.scanning.specs.declared.events.Row.{Row}
 use Rattle.scanning.specs.declared.events.Event.{Event}
-use Rattle.scanning.specs.declared.events.Event.TheVariants as Event
 use Rattle.scanning.specs.Events.{layers, layer_of, on_layer, packets_in, none_yet, header_event, step_event, step_in, event_of, lasts_after}
 use Rattle.unit_starts.specs.Finding.{row_in, rows_from, rows_in}
 use Rattle.recording_rows.specs.Columns.{index_in, decoding_in, match_in}

@@ -42,7 +42,6 @@ use Rattle.agreement.specs.Entries.{IsAccepted}
 use Rattle.unit_starts.specs.declared.Found.{Found}
 use Rattle.unit_starts.specs.Finding.{found_in}
 use Rattle.recordings.specs.declared.Recording.{Recording}
-use Rattle.recordings.specs.declared.Recording.TheVariants as Recording
 use Rattle.recordings.specs.Reading.{fault_of, header_refusal, answer_of}
 use Rattle.recordings.specs.Meaning as Recordings
 use Rattle.recordings.proofs.AnswerMeant as recordings
