@@ -13,8 +13,10 @@ use Rattle.promised.specs.Writers.{write_loop, write_times}
 use Rattle.promised.proofs.Writers.{loop_written, times_written}
 use Rattle.promised.specs.Joiners.{join_table, join_rows, join_long, import_loop}
 use Rattle.promised.proofs.Joiners.{table_joined_lem, rows_joined, long_joined, loop_imported}
-use Rattle.recording_promises.specs.Rows.{read_rows, rows_are_read}
-use Rattle.recording_promises.specs.Imports.{import_packets, packets_imported, import_long, long_imported}
+use Rattle.recording_promises.specs.Rows.{read_rows}
+use Rattle.recording_promises.proofs.Rows.{rows_are_read}
+use Rattle.recording_promises.specs.Imports.{import_packets, import_long}
+use Rattle.recording_promises.proofs.Imports.{packets_imported, long_imported}
 use Rattle.demands.specs.Told.{for_c}
 use Rattle.demands.specs.Others.{RefuseNothing, refuse_nothing}
 use Rattle.demands.specs.ForC.{thq_read_loop, thq_write_loop, thq_closure, thq_read_times, thq_write_times}

@@ -32,7 +32,8 @@ use Rattle.recording_demands.proofs.Filled.{rows_fill}
 use Rattle.recording_demands.proofs.Agreement.{of_512_rows, recording_agreement}
 use Rattle.recording_demands.proofs.Reaching.{reached}
 use Rattle.promised.specs.Joiners.{RowsGiven}
-use Rattle.recording_promises.specs.Imports.{ImportGiven, RightImport, import_packets, packets_imported, import_long, long_imported, ColumnsLeft, columns_left}
+use Rattle.recording_promises.specs.Imports.{ImportGiven, RightImport, import_packets, import_long, ColumnsLeft, columns_left}
+use Rattle.recording_promises.proofs.Imports.{packets_imported, long_imported}
 use Rattle.demands.specs.Demand2.{OneUnitEach, FirstUnpaired, FirstSharing, Says, says}
 
 -- the rows that the packets give, in the layers of the loop
