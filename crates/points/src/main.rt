@@ -5,6 +5,7 @@
 // opens, as descriptor 3, what is not on standard input.
 #![tactic(auto)]
 
+ghost use Rattle.std.specs.Prelude.{◌<◌, length};
 ghost use Rattle.console.specs.Inputs.{Counted};
 
 use std::env::{Env, FillError};
@@ -19,11 +20,11 @@ fn hint(rt: &HostRuntime, program: &[u8], bytes: &[u8]) {
     }
 }
 
-// Writes the text for two loops of these bytes.
-fn answer(rt: &HostRuntime, program: &[u8], bytes: &[u8]) {
-    // No two loops' text is longer than 521,166 bytes (`text_length` of the crate `point_listing`), so the buffer holds all of it (`whole_text`).
-    let mut text = [0u8; 521166];
-    let end = point_listing::put_points(&mut text, 0, program, bytes);
+// Writes the text for two loops of these bytes, by way of this buffer.
+fn write_text(rt: &HostRuntime, text: &mut [u8], program: &[u8], bytes: &[u8])
+    requires { 0 < length text.old }
+{
+    let end = point_listing::put_points(text, 0, program, bytes);
     let written = io::writer(rt).write_all(&text[..end]);
     if let Err(error) = written {
         let _ = eprintln!(rt; "points: standard output was not written whole: {error}");
@@ -31,6 +32,18 @@ fn answer(rt: &HostRuntime, program: &[u8], bytes: &[u8]) {
     // 'refused', and not 'accepted'
     if text[0] == b'r' {
         hint(rt, program, bytes);
+    }
+}
+
+// Writes the text for two loops of these bytes.
+fn answer(rt: &HostRuntime, program: &[u8], bytes: &[u8]) {
+    // No two loops' text is longer than 521,166 bytes (`text_length` of the crate `point_listing`), so the buffer holds all of it (`whole_text`).
+    let room = vec![in rt.alloc(); 0u8; 521166];
+    match room {
+        Ok(mut text) => write_text(rt, &mut text, program, bytes),
+        Err(error) => {
+            let _ = eprintln!(rt; "points: there is no room for the text: {error}");
+        }
     }
 }
 
