@@ -145,9 +145,7 @@ module _ (num count : ℕ) (first structures second points : List ℕ) (few : nu
   structures_carried = pieces each ∙ ap (λ (n : ℕ). map (read_by profile) (twelves n structures)) (sym many)
 
 pub own_payload : {payload : List ℕ} → OwnPayload payload → AreBytes payload → PayloadAgain payload
-
 unfolding head_of
-
 own_payload (OwnPayload.head_then _ points
     (OwnParts.lines_then first _ long-first ones-first (OwnParts.repeated_then structures _ each (OwnParts.lines_then second _ long-second ones-second OwnParts.nothing))) rest) b =
     let p : OwnParts head_syntax [] (first ++ (structures ++ (second ++ []))) _ =

@@ -46,12 +46,12 @@ loop-row-preserved c =
     let f = frame a.closure a.claimed.now [] a.edges.now in
     let loop = c.loop-row in
     elim c.if-member-claimed.branch [
-      then-member-claimed+else-not-complete w ↦
-        below_more _ _ loop.invariant
-        (is_unpaired t f loop.row (head_tested t f loop.row _ true c.member.ensures w.if-member-claimed.true) true
-        (sym w.assemble-complete.ensures.complete ∙ w.if-not-complete.false))
+      | then-member-claimed+else-not-complete w ↦
+          below_more _ _ loop.invariant
+          (is_unpaired t f loop.row (head_tested t f loop.row _ true c.member.ensures w.if-member-claimed.true) true
+          (sym w.assemble-complete.ensures.complete ∙ w.if-not-complete.false))
       | else-member-claimed w ↦
-        below_more _ _ loop.invariant (no_head t f loop.row (head_tested t f loop.row _ false c.member.ensures w.if-member-claimed.false))
+          below_more _ _ loop.invariant (no_head t f loop.row (head_tested t f loop.row _ false c.member.ensures w.if-member-claimed.false))
     ]
 
 pub returns : goal.returns

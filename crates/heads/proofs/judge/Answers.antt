@@ -164,32 +164,32 @@ loop-row-preserved c =
     let t = table a.indices.now a.decodings.now a.matches.now in
     let f = frame a.closure a.claimed.now a.own.now a.edges.now in
     elim c.if-member-claimed.branch [
-      then-member-claimed+else-not-complete+else-any_used w ↦
-        (let is_head = head_tested t f loop.row _ true c.member.ensures w.if-member-claimed.true in
-        let whole = sym w.assemble-complete.ensures.complete ∙ w.if-not-complete.false in
-        let content = w.assemble-complete.ensures.content in
-        let is_marked = w.keep.ensures.marks ∙ ap (λ (rows : List ℕ). marked (unit_from (members_of (own_of t f loop.row)) rows) loop.used) content in
-        let is-kept = w.keep.ensures.content ∙ ap (λ (rows : List ℕ). sets loop.kept loop.place (unit_from (members_of (own_of t f loop.row)) rows)) content in
-        rw (w.used-is, w.kept-is, w.places-is, w.rows-is, w.units-is, w.place-is) (
-          walked_head _ _ _ _ _ _ _ _ loop.invariant.0 inside is_head c.requires.1 whole
-              (sym w.if-any_used.false ∙ w.any_used.ensures
-              ∙ ap (λ (rows : List ℕ). any (λ row. get_or loop.used row false) (unit_from (members_of (own_of t f loop.row)) rows)) content)
-              _ _ _ is_marked is-kept (w.size-place.ensures ∙ sym (unit_size t f loop.row)),
-          ap length is_marked ∙ length_marked (unit_of t f loop.row) loop.used ∙ loop.invariant.1,
-          ap length is-kept ∙ length-sets loop.kept loop.place (unit_of t f loop.row) ∙ loop.invariant.2,
-          length-set loop.places loop.row loop.place ∙ loop.invariant.3,
-          w.keep.ensures.blank
-              ∙ ap (cleared (length a.indices.now) (members_of (own_of t f loop.row))) content
-              ∙ cleared_again t f c.requires.1 loop.row inside is_head whole (head_layer t f loop.row c.ranges.closure.fits is_head),
-        ))
+      | then-member-claimed+else-not-complete+else-any_used w ↦
+          (let is_head = head_tested t f loop.row _ true c.member.ensures w.if-member-claimed.true in
+          let whole = sym w.assemble-complete.ensures.complete ∙ w.if-not-complete.false in
+          let content = w.assemble-complete.ensures.content in
+          let is_marked = w.keep.ensures.marks ∙ ap (λ (rows : List ℕ). marked (unit_from (members_of (own_of t f loop.row)) rows) loop.used) content in
+          let is-kept = w.keep.ensures.content ∙ ap (λ (rows : List ℕ). sets loop.kept loop.place (unit_from (members_of (own_of t f loop.row)) rows)) content in
+          rw (w.used-is, w.kept-is, w.places-is, w.rows-is, w.units-is, w.place-is) (
+            walked_head _ _ _ _ _ _ _ _ loop.invariant.0 inside is_head c.requires.1 whole
+                (sym w.if-any_used.false ∙ w.any_used.ensures
+                ∙ ap (λ (rows : List ℕ). any (λ row. get_or loop.used row false) (unit_from (members_of (own_of t f loop.row)) rows)) content)
+                _ _ _ is_marked is-kept (w.size-place.ensures ∙ sym (unit_size t f loop.row)),
+            ap length is_marked ∙ length_marked (unit_of t f loop.row) loop.used ∙ loop.invariant.1,
+            ap length is-kept ∙ length-sets loop.kept loop.place (unit_of t f loop.row) ∙ loop.invariant.2,
+            length-set loop.places loop.row loop.place ∙ loop.invariant.3,
+            w.keep.ensures.blank
+                ∙ ap (cleared (length a.indices.now) (members_of (own_of t f loop.row))) content
+                ∙ cleared_again t f c.requires.1 loop.row inside is_head whole (head_layer t f loop.row c.ranges.closure.fits is_head),
+          ))
       | else-member-claimed w ↦
-        rw (w.used-is, w.kept-is, w.places-is, w.rows-is, w.units-is, w.place-is) (
-          walked_other _ _ _ _ _ _ _ _ loop.invariant.0 inside (head_tested t f loop.row _ false c.member.ensures w.if-member-claimed.false),
-          loop.invariant.1,
-          loop.invariant.2,
-          loop.invariant.3,
-          loop.invariant.4,
-        )
+          rw (w.used-is, w.kept-is, w.places-is, w.rows-is, w.units-is, w.place-is) (
+            walked_other _ _ _ _ _ _ _ _ loop.invariant.0 inside (head_tested t f loop.row _ false c.member.ensures w.if-member-claimed.false),
+            loop.invariant.1,
+            loop.invariant.2,
+            loop.invariant.3,
+            loop.invariant.4,
+          )
     ]
 
 pub shape_of-used : goal.shape_of-used

@@ -72,11 +72,11 @@ loop-row-preserved c =
     let more = c.loop-row-test.true in
     let small = c.ranges.closure.fits in
     elim c.if-member.branch [
-      then-member+else-far-least+else-far-ge-HALF w ↦
-        rw (w.firsts-is, w.least-is) (ordered_more _ _ at.row _ _ at.invariant more (sym c.member.ensures ∙ w.if-member.true) _ _
-        w.first_time-first.ensures w.distance-far.ensures small w.if-far-least.false w.if-far-ge-HALF.false)
+      | then-member+else-far-least+else-far-ge-HALF w ↦
+          rw (w.firsts-is, w.least-is) (ordered_more _ _ at.row _ _ at.invariant more (sym c.member.ensures ∙ w.if-member.true) _ _
+          w.first_time-first.ensures w.distance-far.ensures small w.if-far-least.false w.if-far-ge-HALF.false)
       | else-member w ↦
-        rw (w.firsts-is, w.least-is) (ordered_other _ _ at.row _ _ at.invariant more (sym c.member.ensures ∙ w.if-member.false))
+          rw (w.firsts-is, w.least-is) (ordered_other _ _ at.row _ _ at.invariant more (sym c.member.ensures ∙ w.if-member.false))
     ]
 
 pub returns : goal.returns

@@ -56,12 +56,12 @@ loop-edge-preserved c =
     let more = c.loop-edge-test.true in
     gathered_next a.layers a.closure at.edge _ _ _ _
     (elim c.if-is_edge.branch [
-      then-is_edge w ↦
-        rw (w.list-is, w.count-is) (gathered_more (is_edge a.layers a.closure) 4096 2016 _ _ _ at.invariant more (few_edges a.layers a.closure)
-        (sym (tested (goal.at.loop-edge-preserved c).After-is_edge) ∙ w.if-is_edge.true))
+      | then-is_edge w ↦
+          rw (w.list-is, w.count-is) (gathered_more (is_edge a.layers a.closure) 4096 2016 _ _ _ at.invariant more (few_edges a.layers a.closure)
+          (sym (tested (goal.at.loop-edge-preserved c).After-is_edge) ∙ w.if-is_edge.true))
       | else-is_edge w ↦
-        rw (w.list-is, w.count-is) (gathered_same _ 4096 2016 _ _ _ at.invariant more
-        (sym (tested (goal.at.loop-edge-preserved c).After-is_edge) ∙ w.if-is_edge.false))
+          rw (w.list-is, w.count-is) (gathered_same _ 4096 2016 _ _ _ at.invariant more
+          (sym (tested (goal.at.loop-edge-preserved c).After-is_edge) ∙ w.if-is_edge.false))
     ])
     c.upper_of-upper.ensures c.next_edge-edge.ensures
 
