@@ -1,8 +1,6 @@
 -- `unit_writing::write_units` is safe and ends: each place stays within what it is a place of, and what is left falls.
 -- Assumes nothing.
-use Prim.Native.Nat.{◌-◌, ◌≤◌}
-use mathlib.Core.Path.{◌≡◌}
-use lib.ListN.{length}
+use Rattle.std.proofs.Common.{◌≡◌, ◌-◌, ◌≤◌, length}
 use Rattle.unit_writing.proofs.write_units.Given as goal
 
 abbrev pub invariant-loop-unit : goal.invariant-loop-unit

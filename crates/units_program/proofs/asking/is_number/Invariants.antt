@@ -1,7 +1,6 @@
--- `units_program::is_number` is safe and ends: each place stays within what it is a place of, and what is left falls.
+-- `units_program::asking::is_number` is safe and ends: the place stays within the word, and what is left falls.
 -- Assumes nothing.
-use Prim.Native.Nat.{◌-◌, ◌≤◌}
-use lib.ListN.{length}
+use Rattle.std.proofs.Common.{◌-◌, ◌≤◌, length}
 use Rattle.units_program.proofs.asking.is_number.Given as goal
 
 abbrev pub invariant-loop-i : goal.invariant-loop-i

@@ -1,7 +1,6 @@
--- `units_program::number_of` is safe and ends: each place stays within what it is a place of, and what is left falls.
+-- `units_program::asking::number_of` is safe and ends: the number stays below what a digit more could wrap, the place within the word, and what is left falls.
 -- Assumes nothing.
-use Prim.Native.Nat.{◌-◌, ◌≤◌}
-use lib.ListN.{length}
+use Rattle.std.proofs.Common.{◌-◌, ◌≤◌, length}
 use Rattle.units_program.proofs.asking.number_of.Given as goal
 
 abbrev pub invariant-loop-i : goal.invariant-loop-i
