@@ -95,6 +95,8 @@ bytes_of i = head_of i ++ body_of i
 -- an item that is cut from bytes: its own are bytes, and its head counts its body
 item_facts : {l : List ℕ} {items : List Item} → AreBytes l → Cuts 5 es_info_length l items → (k : ℕ) (head info : List ℕ) → Nth items k (whole head info)
     → AreBytes head × AreBytes info × (length head ≡ 5) × (length info ≡ es_info_length head)
+item_facts b nothing_left k h i x7 = elim x7 [ ]
+item_facts b (does_not_fit {l = l} f g) zero h i x9 = elim x9 [ ]
 item_facts b (piece {head} {body} {rest} p q c) zero h i here = (bytes_left head (body ++ rest) b, bytes_left body rest (bytes_right head (body ++ rest) b), p, q)
 item_facts b (piece {head} {body} {rest} p q c) (suc k) h i (there n) = item_facts (bytes_right body rest (bytes_right head (body ++ rest) b)) c k h i n
 item_facts b (does_not_fit f g) (suc k) h i (there n) = absurd (native.Mathlib.Nat.not-suc-le-zero (Rattle.combinators.specs.Lists.nth_inside n))
