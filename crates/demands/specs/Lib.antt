@@ -1,17 +1,10 @@
 pub mod Told
-pub mod ToldShown
 pub mod ForC
-pub mod ForCShown
 pub mod JoinsForC
-pub mod JoinsForCShown
 pub mod Stereo
-pub mod StereoShown
 pub mod PointsRead
-pub mod PointsReadShown
 pub mod PointsWritten
-pub mod PointsWrittenShown
 pub mod Sets
-pub mod SetsShown
 pub mod Points
 pub mod Others
 pub mod Demand1

@@ -38,11 +38,11 @@ use Rattle.promised.specs.Calls.{is_listed, Promised}
 use Rattle.promised.specs.Shown.{Computed, promised, listed_first, not_refused}
 use Rattle.promised.specs.Readers.{outcome_number, read_loop, read_listed}
 use Rattle.demands.specs.Told.{Told, counts, refuses, not_a_call, Says, for_c}
-use Rattle.demands.specs.ToldShown.{code, leaves, number_told, Fits, told_promised, told_by_year, each_year, by_year, asked}
+use Rattle.demands.proofs.ToldShown.{code, leaves, number_told, Fits, told_promised, told_by_year, each_year, by_year, asked}
 use Rattle.demands.specs.ForC.{closure_told}
 use Rattle.demands.specs.Sets.{SetLoopGiven, SetAnswered, read_layer_set, AddGiven, add_layer, RemoveGiven, remove_layer, SetBuffers, buffers_of, set_told, HoldsIn, SetReadGiven, SetReadTells, thq_set_read, SetAddGiven, SetAddTells, thq_set_add, SetRemoveGiven, SetRemoveTells, thq_set_remove, SetClosureGiven, SetClosureTells, thq_set_closure}
 use Rattle.demands.specs.Sets as Sets
-use Rattle.demands.specs.ForCShown.{closure_fits}
+use Rattle.demands.proofs.ForCShown.{closure_fits}
 
 -- ---- reading a set
 

@@ -18,7 +18,7 @@ use Rattle.point_writer.proofs.Meant as writing
 use Rattle.thoquenry_points_written.specs.Writing.{points_written, write_points}
 use Rattle.promised.specs.Calls.{is_listed, Promised}
 use Rattle.demands.specs.Told.{Told, counts, refuses, Says, for_c}
-use Rattle.demands.specs.ToldShown.{code, leaves, number_told, Fits, told_promised}
+use Rattle.demands.proofs.ToldShown.{code, leaves, number_told, Fits, told_promised}
 use Rattle.demands.specs.PointsWritten.{WritePointsGiven, descriptor_told, TellsDescriptor, thq_write_points}
 
 module _ (given : WritePointsGiven) where

@@ -25,7 +25,7 @@ use Rattle.promised.specs.Shown.{listed_first}
 use Rattle.promised.specs.Joiners.{joined_number, join_rows, join_long, ImportGiven as BaseImportGiven, import_loop}
 use Rattle.promised.proofs.Joiners.{rows_joined_computed, long_joined_computed, import_computed}
 use Rattle.demands.specs.Told.{Told, counts, refuses, not_a_call, Says, Retells, for_c}
-use Rattle.demands.specs.ToldShown.{code, leaves, number_told, Fits, told_promised, retold, told_by_year, each_year, by_year, asked}
+use Rattle.demands.proofs.ToldShown.{code, leaves, number_told, Fits, told_promised, retold, told_by_year, each_year, by_year, asked}
 use Rattle.demands.specs.JoinsForC.{Filled, filled, joined_told, JoinGiven, rows_given, thq_join, thq_join_long, ImportGiven, thq_import}
 
 -- the reply that the function's contract names tells this

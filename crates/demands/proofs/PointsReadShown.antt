@@ -48,7 +48,7 @@ use Rattle.promised.specs.Calls.{is_listed, Promised}
 use Rattle.promised.specs.Shown.{listed_first}
 use Rattle.promised.specs.Readers.{read_loop, read_listed}
 use Rattle.demands.specs.Told.{Told, counts, refuses, Says, for_c}
-use Rattle.demands.specs.ToldShown.{code, leaves, number_told, Fits, told_promised}
+use Rattle.demands.proofs.ToldShown.{code, leaves, number_told, Fits, told_promised}
 use Rattle.demands.specs.PointsRead.{ReadPointsGiven, row_told, lists_told, enough, over_all, points_told, TellsPoints, thq_read_points}
 
 -- ---- the lists that the contract names are those of what is told

@@ -35,7 +35,7 @@ use Rattle.thoquenry.specs.Bounds.{SmallTimes, small_read, SmallHeader, small_he
 use Rattle.promised.specs.Calls.{is_listed, Promised}
 use Rattle.promised.specs.Shown.{listed_first, listed_second}
 use Rattle.demands.specs.Told.{Told, counts, refuses, for_c}
-use Rattle.demands.specs.ToldShown.{code, leaves, number_told, Fits, told_promised, if_told, retold, told_by_year, each_year, by_year, asked}
+use Rattle.demands.proofs.ToldShown.{code, leaves, number_told, Fits, told_promised, if_told, retold, told_by_year, each_year, by_year, asked}
 use Rattle.promised.specs.Readers.{outcome_number, read_loop, loop_read_computed, LoopTargetGiven, closure_number, closure_of_loop, loop_closure_computed, times_number, read_times, times_read_computed}
 use Rattle.promised.specs.Writers.{EntriesGiven, TimesGiven, written_number, write_loop, loop_written_computed, times_written_number, write_times, times_written_computed}
 use Rattle.demands.specs.ForC.{ReadLoopGiven, loop_told, loop_read_told, thq_read_loop, WriteLoopGiven, written_told, thq_write_loop, ClosureGiven, closure_told, thq_closure, ReadTimesGiven, times_told, thq_read_times, WriteTimesGiven, times_given, times_written_told, thq_write_times}

@@ -47,10 +47,10 @@ use Rattle.promised.specs.Shown.{listed_first}
 use Rattle.promised.specs.Readers.{outcome_number, read_loop, read_listed}
 use Rattle.promised.specs.Writers.{written_number, write_loop, loop_written_computed}
 use Rattle.demands.specs.Told.{Told, counts, refuses, Says, If, for_c}
-use Rattle.demands.specs.ToldShown.{code, leaves, number_told, Fits, told_promised}
+use Rattle.demands.proofs.ToldShown.{code, leaves, number_told, Fits, told_promised}
 use Rattle.demands.specs.ForC.{written_told}
 use Rattle.demands.specs.Stereo.{BothLists, ReadStereoGiven, stereo_told, TellsSet, thq_read_stereo, WriteStereoGiven, TellsWriting, thq_write_stereo}
-use Rattle.demands.specs.ForCShown.{written_fits}
+use Rattle.demands.proofs.ForCShown.{written_fits}
 
 -- ---- thq_read_stereo
 

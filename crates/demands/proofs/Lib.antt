@@ -1,0 +1,11 @@
+pub mod ToldShown
+pub mod ForCShown
+pub mod JoinsForCShown
+pub mod StereoShown
+pub mod PointsReadShown
+pub mod PointsWrittenShown
+pub mod SetsShown
+pub mod Demand1
+pub mod Demand2
+pub mod Embedding
+pub mod Recordings
