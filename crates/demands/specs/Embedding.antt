@@ -2,7 +2,7 @@
 -- than 8 will be refused with 10 by 2015 readers that haven't been updated, and by no other number of the loop reading, where all else is sound. Show
 -- that in the new build refusal 10 never occurs.'
 --
--- Four statements: `ten_never`, `kept`, `refused_before`, `lists_of_63`. What the reading and the writing before were is said by
+-- Four statements: `TenNever`, `kept`, `refused_before`, `RoundTrips63`; the first and the last hold by `ten_never` and `lists_of_63` of proofs/Embedding.antt. What the reading and the writing before were is said by
 -- `embedding/specs/ReadingBefore.antt` and `WritingBefore.antt`, the words of the request by `embedding/specs/Changed.antt`.
 -- Assumes nothing.
 use Rattle.std.specs.Prelude.{ℕ, List, ◌++◌, ◌≡◌, take}
