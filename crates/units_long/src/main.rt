@@ -1,69 +1,31 @@
-// As `units`, for 524,288 rows, more than an hour of two layers at 50 pictures a second each: it takes 49 MB of stack, for which the command `units` asks before it runs it.
+// As `units`, for 524,288 rows, more than an hour of two layers at 50 pictures a second each: their lists take 49 MB of memory, which the program asks for where there is something to do.
 #![tactic(auto)]
 
-ghost use Rattle.std.specs.Prelude.{◌≡◌, length};
-
+use std::alloc::AllocError;
 use units_program::Question;
 
 const ROWS: usize = 524288;
 
-// Lists of so many places. Each promises its length alone, so that nothing of them is computed place by place where they are lent.
-fn blank_bytes() -> [u8; ROWS]
-    ensures { 524288 ≡ length result }
-{
-    [0; ROWS]
-}
-
-fn blank_numbers() -> [u64; ROWS]
-    ensures { 524288 ≡ length result }
-{
-    [0; ROWS]
-}
-
-fn blank_places() -> [usize; ROWS]
-    ensures { 524288 ≡ length result }
-{
-    [0; ROWS]
-}
-
-fn blank_marks() -> [bool; ROWS]
-    ensures { 524288 ≡ length result }
-{
-    [false; ROWS]
-}
-
-fn blank_lags() -> [i64; ROWS]
-    ensures { 524288 ≡ length result }
-{
-    [0; ROWS]
-}
-
-fn lend(rt: &HostRuntime, target: u64, rows: bool) {
-    let question = Question {
-        known: true,
-        target,
-        rows,
-        more: false,
-    };
-    let mut buffer = io::large_buffer();
+fn lend(rt: &HostRuntime, question: Question) -> Result<(), AllocError> {
+    let mut buffer = [0u8; 65536];
     let mut state = [0u8; 20412];
     let mut counts = [0u64; 72];
-    let mut indices = blank_bytes();
-    let mut decodings = blank_numbers();
-    let mut matches = blank_numbers();
-    let mut trefs = blank_bytes();
-    let mut packets = blank_numbers();
-    let mut order = blank_places();
-    let mut keys = blank_numbers();
-    let mut kept = blank_places();
-    let mut places = blank_places();
-    let mut heads = blank_places();
-    let mut claimed = blank_marks();
-    let mut used = blank_marks();
-    let mut numbers = blank_numbers();
-    let mut lags = blank_lags();
-    let mut sizes = blank_numbers();
-    let mut text = io::large_buffer();
+    let mut indices = vec![in rt.alloc(); 0u8; ROWS]?;
+    let mut decodings = vec![in rt.alloc(); 0u64; ROWS]?;
+    let mut matches = vec![in rt.alloc(); 0u64; ROWS]?;
+    let mut trefs = vec![in rt.alloc(); 0u8; ROWS]?;
+    let mut packets = vec![in rt.alloc(); 0u64; ROWS]?;
+    let mut order = vec![in rt.alloc(); 0usize; ROWS]?;
+    let mut keys = vec![in rt.alloc(); 0u64; ROWS]?;
+    let mut kept = vec![in rt.alloc(); 0usize; ROWS]?;
+    let mut places = vec![in rt.alloc(); 0usize; ROWS]?;
+    let mut heads = vec![in rt.alloc(); 0usize; ROWS]?;
+    let mut claimed = vec![in rt.alloc(); false; ROWS]?;
+    let mut used = vec![in rt.alloc(); false; ROWS]?;
+    let mut numbers = vec![in rt.alloc(); 0u64; ROWS]?;
+    let mut lags = vec![in rt.alloc(); 0i64; ROWS]?;
+    let mut sizes = vec![in rt.alloc(); 0u64; ROWS]?;
+    let mut text = [0u8; 65536];
     units_program::run(
         rt,
         question,
@@ -87,17 +49,25 @@ fn lend(rt: &HostRuntime, target: u64, rows: bool) {
         &mut sizes,
         &mut text,
     );
+    Ok(())
 }
 
-// Two calls, so that the compiler lays the lists into a frame of their own: in that of this function they would take the stack also where nothing is asked.
+// The larger program leaves no recording to another.
+fn question_of(asked: Question) -> Question {
+    Question {
+        known: asked.known,
+        target: asked.target,
+        rows: asked.rows,
+        more: false,
+    }
+}
+
 fn main(rt: HostRuntime) {
     let question = units_program::asked(&rt);
-    if !question.known {
-        return;
-    }
-    if question.rows {
-        lend(&rt, question.target, true);
-    } else {
-        lend(&rt, question.target, false);
+    if question.known {
+        let lent = lend(&rt, question_of(question));
+        if let Err(error) = lent {
+            let _ = eprintln!(rt; "units: there is no room for so many rows: {error}");
+        }
     }
 }
