@@ -1,6 +1,6 @@
 -- THE THEOREM: what was told and laid of the pieces is what is read of the whole, and so are the units.
 -- Assumes nothing.
-use Prim.Native.Nat.{ℕ, ◌-◌, ◌≤◌, ◌<◌, min}
+use Prim.Native.Nat.{ℕ, ◌≤◌, ◌<◌, min}
 use mathlib.Core.Path.{◌≡◌, refl, sym, ap, ap₂, subst, ◌∙◌}
 use mathlib.Core.Bool.{Bool, true, false, cond}
 use mathlib.Core.List.{List, map}
@@ -18,7 +18,7 @@ use Rattle.es_loop.specs.declared.reader.Outcome.TheVariants.{Accepted, Refused 
 use Rattle.scanning.specs.declared.events.Row.{Row}
 use Rattle.unit_starts.specs.declared.Found.{Found}
 use Rattle.unit_starts.specs.Finding.{found_in}
-use Rattle.recording_rows.specs.Columns.{Columns, room_in, over_all, index_in, decoding_in, match_in}
+use Rattle.recording_rows.specs.Columns.{Columns, room_in, index_in, decoding_in, match_in}
 use Rattle.recordings.specs.declared.Recording.{Recording}
 use Rattle.recordings.specs.declared.Recording.TheVariants.{Rows as RowsThere, Faulty, NotRead as HeaderRefused, TooManyRows}
 use Rattle.recordings.specs.Reading.{fault_of, header_refusal, answer_of}
@@ -32,7 +32,7 @@ use Rattle.recording_imports.specs.declared.Imported.{Imported}
 use Rattle.recording_imports.specs.Rows.{pid_table, rows_of, rows_told, rows_for}
 use Rattle.recording_imports.specs.Imports.{layers_of_loop, outcome_asked, imported_by, imported_of, table_of, import_rows, import_of, places_for, columns_hold, held_rows, count_of, first_rows, rows_to_join, import_told}
 use Rattle.long_imports.proofs.Whole.{most_alike, Sound, rows_sound}
-use Rattle.import_summaries.specs.Summaries.{with_summary, ImportReply, import_reply}
+use Rattle.import_summaries.specs.Summaries.{with_summary, import_reply}
 use Rattle.c_answers.specs.Answers.{not_a_call}
 use Rattle.fed_packets.specs.Feeding.{joined_up}
 use Rattle.packet_states.specs.States.{most_packets}
