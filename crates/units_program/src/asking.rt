@@ -6,7 +6,9 @@ use std::env::Env;
 
 // Of the arguments that are paths.
 pub const LOOP: usize = 2;
+
 pub const RECORDING: usize = 3;
+
 pub const TOLD: usize = 4;
 
 #[derive(Clone, Copy)]

@@ -2,10 +2,8 @@
 ghost use Rattle.console.specs.Inputs.{Counted};
 
 use crate::asking;
-use std::fs;
-use std::io;
 use std::io::Read;
-use std::str;
+use std::{fs, io, str};
 
 // A number that falls with every read, so that reading ends: no recording takes 2^60 of them.
 const MOST_READS: u64 = 1152921504606846976;
