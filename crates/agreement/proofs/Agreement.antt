@@ -2,7 +2,7 @@
 -- 2009 reading accepts every such loop, `accepted_too`; every loop and target is of one of the two kinds that the demand tells apart,
 -- `one_or_other`; and a reading gives one answer, `answer_given` and `one_answer`.
 -- Assumes nothing.
-use Rattle.std.specs.Prelude.{ℕ, ◌≡◌, refl, List, map, ◌⊎◌}
+use Rattle.std.specs.Prelude.{ℕ, ◌≡◌, refl, List, map, ◌⊎◌, Ok}
 use Rattle.std.proofs.Common.{sym, ◌∙◌, ap, subst, inl, inr, arith}
 use Rattle.vocabulary.specs.declared.stream_types.Reading.{Reading}
 use Rattle.vocabulary.specs.declared.stream_types.Reading.TheVariants.{Edition2009, Edition2015}
@@ -10,7 +10,6 @@ use Rattle.vocabulary.specs.declared.refusal.Refusal.{Refusal}
 use Rattle.vocabulary.specs.Refusals.{number_of}
 use Rattle.loop_entries.specs.declared.Entry.{Entry}
 use Rattle.loop_entries.specs.declared.Stream.{Stream}
-use Rattle.es_loop.specs.declared.reader.Outcome.TheVariants.{Accepted}
 use Rattle.es_loop.specs.declared.reader.LoopRead.{LoopRead}
 use Rattle.loop_entries.specs.Entries.{stream_of, marked_streams}
 use Rattle.es_loop.specs.Reading.{accepted, loop_read}
@@ -18,7 +17,7 @@ use Rattle.es_loop.specs.Meaning.{too_long_lem, refuses}
 use Rattle.es_loop.specs.Meaning as Loop
 use Rattle.es_loop.proofs.Meant.{answer_meant, answer_only}
 use Rattle.closure.specs.declared.Layers.{Layers}
-use Rattle.join_answers.specs.declared.answer.Joined.{Joined}
+use Rattle.join_answers.specs.Answer.{Joined}
 use Rattle.rows.specs.Table.{Table}
 use Rattle.loop_layers.specs.Closures.{entries_read}
 use Rattle.loop_layers.specs.Layers.{layers_of}
@@ -62,7 +61,7 @@ module _ (reading : Reading) (bytes : List ℕ) (target : ℕ) (t : Table) (befo
 pub accepts : (reading : Reading) (bytes : List ℕ) → IsAccepted reading bytes → Accepts reading bytes (entries_in reading bytes) (layers_in reading bytes)
 accepts reading bytes = go (answer_meant reading bytes) refl
   where
-    go : {read : LoopRead} → Loop.Answers reading bytes read → read ≡ loop_read reading bytes → read.outcome ≡ Accepted
+    go : {read : LoopRead} → Loop.Answers reading bytes read → read ≡ loop_read reading bytes → read.outcome ≡ Ok tt
         → Accepts reading bytes (entries_in reading bytes) (layers_in reading bytes)
     go (too_long_lem h) p e = let z : ◌≡◌ {A = ℕ} 0 1 = cc in absurd (omega arith)
     go (refuses short c at-k lower earlier) p e = let z : ◌≡◌ {A = ℕ} 0 1 = cc in absurd (omega arith)

@@ -1,22 +1,21 @@
 -- DEMAND 3 OF WHAT IS COMPUTED, as the call `import` promises it: where every stream that the target rests on has a 2009 stream type the
 -- two readings' answers are equal, `identical_answer`; otherwise the 2009 reading's is a refusal with 11 or 12, `always_refused`.
 -- Assumes nothing.
-use Rattle.std.specs.Prelude.{ℕ, ◌≡◌, true, List, ◌⊎◌, get_or}
+use Rattle.std.specs.Prelude.{ℕ, ◌≡◌, true, List, ◌⊎◌, get_or, Err, Ok}
 use Rattle.std.proofs.Common.{sym, ◌∙◌, ap, ap₂, subst, inl, inr, arith}
 use Rattle.sets.specs.Sets.{has}
 use Rattle.vocabulary.specs.declared.stream_types.Reading.{Reading}
 use Rattle.vocabulary.specs.declared.stream_types.Reading.TheVariants.{Edition2009, Edition2015}
 use Rattle.vocabulary.specs.declared.refusal.Refusal.{Refusal}
-use Rattle.es_loop.specs.declared.reader.Outcome.{Outcome}
+use Rattle.es_loop.specs.Answer.{Outcome}
 use Rattle.closure.specs.declared.Layers.{Layers}
-use Rattle.closure.specs.declared.Closure.{Closure}
-use Rattle.closure.specs.declared.Closure.TheVariants.{Complete, Refused as NoClosure}
+use Rattle.closure.specs.Answer.{Closure}
 use Rattle.closure.specs.Closures.{is_layer, rested_on, closure_of}
 use Rattle.closure.specs.Meaning.{RestsOn}
 use Rattle.closure.specs.Meaning as Target
 use Rattle.closure.proofs.Meant.{closure_meant, closure_only, given_complete}
 use Rattle.loop_layers.specs.Closures.{closure_for}
-use Rattle.join_answers.specs.declared.answer.Joined.{Joined}
+use Rattle.join_answers.specs.Answer.{Joined}
 use Rattle.rows.specs.Table.{Table, most_rows}
 use Rattle.unit_lists.specs.Sequence.{Lists}
 use Rattle.join_answers.specs.Joining.{Room, room_of, joined_in, joined_of, lists_after}
@@ -76,16 +75,16 @@ module _ (bytes : List ℕ) (is_accepted : IsAccepted Edition2015 bytes) (target
     closures : closure_of few target ≡ closure_of all target
     closures = same_closure few all part target (kept every)
 
-    same : (closure : ℕ) → closure_of all target ≡ Complete closure → (i : ℕ) → has closure i ≡ true → get_or few.embedded i 0 ≡ get_or all.embedded i 0
+    same : (closure : ℕ) → closure_of all target ≡ Ok closure → (i : ℕ) → has closure i ≡ true → get_or few.embedded i 0 ≡ get_or all.embedded i 0
     same closure e i h =
         let w = ((given_complete all target closure).0 e).1 in
         let r = (w.members i).0 h in
         same_embedded bytes is_accepted i (kept every i r (w.in_loop i r))
 
-    same_own : {a b : ℕ} → Complete a ≡ Complete b → a ≡ b
+    same_own : {a b : ℕ} → ◌≡◌ {A = Closure} (Ok a) (Ok b) → a ≡ b
     same_own e = cc
 
-    own : (closure : ℕ) → closure_of all target ≡ Complete closure → (i : ℕ) → has closure i ≡ true → rested_on few i ≡ rested_on all i
+    own : (closure : ℕ) → closure_of all target ≡ Ok closure → (i : ℕ) → has closure i ≡ true → rested_on few i ≡ rested_on all i
     own closure e i h =
         let r = (((given_complete all target closure).0 e).1.members i).0 h in
         let same_set = same_closure few all part i (λ j s. kept every j (rests_further all target i j r s)) in
@@ -103,7 +102,7 @@ module _ (bytes : List ℕ) (is_accepted : IsAccepted Edition2015 bytes) (target
     alike t before = same_answer closures (same_joined most_rows t (room_of before)) (same_lists most_rows t before)
 
   -- where the 2009 reading finds no closure, it refuses, whatever the row table and the lists hold
-  refused : (refusal : Refusal) → NoSet refusal → closure_of few target ≡ NoClosure refusal → AlwaysRefused bytes target
+  refused : (refusal : Refusal) → NoSet refusal → closure_of few target ≡ Err refusal → AlwaysRefused bytes target
   refused refusal is e =
       record {
         refusal = refusal;
@@ -117,15 +116,15 @@ module _ (bytes : List ℕ) (is_accepted : IsAccepted Edition2015 bytes) (target
       }
 
   -- where it finds one, every stream that the target rests on has a 2009 stream type, and the 2015 reading finds the same
-  pub every_2009 : (set : ℕ) → closure_of few target ≡ Complete set → Every2009 (entries_in Edition2015 bytes) all target
+  pub every_2009 : (set : ℕ) → closure_of few target ≡ Ok set → Every2009 (entries_in Edition2015 bytes) all target
   every_2009 set e =
       record { has_type = λ k j x r l. one_type bytes is_accepted ((layers_in_2009 bytes is_accepted j).0 (every_kept few all part target set e j r)) l }
 
-  complete_too : (set : ℕ) → closure_of few target ≡ Complete set → Target.Answers all target (Complete set)
+  complete_too : (set : ℕ) → closure_of few target ≡ Ok set → Target.Answers all target (Ok set)
   complete_too set e =
       subst (Target.Answers all target) (sym (same_closure few all part target (kept (every_2009 set e))) ∙ e) (closure_meant all target)
 
-  not_otherwise : (set : ℕ) → closure_of few target ≡ Complete set → Otherwise (entries_in Edition2015 bytes) all target → ⊥
+  not_otherwise : (set : ℕ) → closure_of few target ≡ Ok set → Otherwise (entries_in Edition2015 bytes) all target → ⊥
   not_otherwise set e (another_type other) = other (every_2009 set e)
   not_otherwise set e (no_complete_set none) = none set (complete_too set e)
 
@@ -138,10 +137,10 @@ module _ (bytes : List ℕ) (is_accepted : IsAccepted Edition2015 bytes) (target
       ∙ sym (in_layers_lem Edition2015 bytes is_accepted target t before)
 
   -- or 11 or 12, since the 2009 reading finds no closure.
-  pub no_closure : Otherwise (entries_in Edition2015 bytes) all target → (refusal : Refusal) × NoSet refusal × (closure_of few target ≡ NoClosure refusal)
+  pub no_closure : Otherwise (entries_in Edition2015 bytes) all target → (refusal : Refusal) × NoSet refusal × (closure_of few target ≡ Err refusal)
   no_closure = go (find few target)
     where
-      go : Found few target → Otherwise (entries_in Edition2015 bytes) all target → (refusal : Refusal) × NoSet refusal × (closure_of few target ≡ NoClosure refusal)
+      go : Found few target → Otherwise (entries_in Edition2015 bytes) all target → (refusal : Refusal) × NoSet refusal × (closure_of few target ≡ Err refusal)
       go (found set e) other = absurd (not_otherwise set e other)
       go (not_found refusal is e) other = (refusal, is, e)
 
@@ -152,7 +151,7 @@ module _ (bytes : List ℕ) (is_accepted : IsAccepted Edition2015 bytes) (target
   pub either_way : Every2009 (entries_in Edition2015 bytes) all target ⊎ Otherwise (entries_in Edition2015 bytes) all target
   either_way = go (find few target) (find all target)
     where
-      unlike : {refusal : Refusal} {set : ℕ} → NoClosure refusal ≡ Complete set → ⊥
+      unlike : {refusal : Refusal} {set : ℕ} → ◌≡◌ {A = Closure} (Err refusal) (Ok set) → ⊥
       unlike e = let z : ◌≡◌ {A = ℕ} 0 1 = cc in omega arith
 
       go : Found few target → Found all target → Every2009 (entries_in Edition2015 bytes) all target ⊎ Otherwise (entries_in Edition2015 bytes) all target

@@ -1,7 +1,7 @@
 -- THE 2009 READING OF A LOOP THAT THE 2015 READING ACCEPTS: it is accepted too, `accepted_in_2009`, with the same entries but for what
 -- Records says, `entries_in_2009`.
 -- Assumes nothing.
-use Rattle.std.specs.Prelude.{ℕ, suc, ◌<◌, ◌≡◌, refl, Bool, true, false, not, cond, ◌&&◌, ◌||◌, eqb, length}
+use Rattle.std.specs.Prelude.{ℕ, suc, ◌<◌, ◌≡◌, refl, Bool, true, false, not, cond, ◌&&◌, ◌||◌, eqb, length, Ok}
 use Rattle.std.proofs.Common.{sym, ◌∙◌, ap, ap₂, subst, true≢false, arith, ⊎_elim, eqb-true, not-suc-le-zero}
 use Rattle.std.proofs.Math.Bool.{not-eq-not}
 use mathlib.Core.List.{List, [], ◌∷◌, map, nil≢cons, head-eq_of_cons-eq}
@@ -28,7 +28,6 @@ use Rattle.implied.specs.Rule.{is_view, given, of_type, is_described_view}
 use Rattle.implied.specs.Marking.{is_described, with_mark, marked_record}
 use Rattle.implied.proofs.Marks.{view_known}
 use Rattle.loop_entries.specs.declared.Entry.{Entry}
-use Rattle.es_loop.specs.declared.reader.Outcome.TheVariants.{Accepted}
 use Rattle.es_loop.specs.declared.reader.LoopRead.{LoopRead}
 use Rattle.loop_entries.specs.declared.Stream.{Stream}
 use Rattle.loop_entries.specs.Entries.{stream_type, elementary_pid, stream_of, shown_of, pair_of, marked_stream, marked_streams, entry_of}
@@ -393,7 +392,7 @@ module _ (bytes : List ℕ) (is_accepted : IsAccepted Edition2015 bytes) where
   both : Both
   both = go (answer_meant Edition2015 bytes) is_accepted
     where
-      go : {read : LoopRead} → Answers Edition2015 bytes read → read.outcome ≡ Accepted → Both
+      go : {read : LoopRead} → Answers Edition2015 bytes read → read.outcome ≡ Ok tt → Both
       go (too_long_lem h) e = let z : ◌≡◌ {A = ℕ} 0 1 = cc in absurd (omega arith)
       go (refuses short c at-k lower earlier) e = let z : ◌≡◌ {A = ℕ} 0 1 = cc in absurd (omega arith)
       go (accepts {entries} short c none) e =

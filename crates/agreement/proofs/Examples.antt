@@ -1,7 +1,7 @@
 -- The two readings of loop A of document 01, and of a loop whose base layer is HEVC: both kinds of answer that demand 3 tells apart, and both
 -- numbers, 11 and 12, that the 2009 reading then gives.
 -- Assumes nothing.
-use Rattle.std.specs.Prelude.{ℕ, List, [], ◌∷◌, ◌++◌, ◌≡◌, refl, get_or}
+use Rattle.std.specs.Prelude.{ℕ, List, [], ◌∷◌, ◌++◌, ◌≡◌, refl, get_or, Err, Ok}
 use Rattle.std.proofs.Common.{sym, true≢false, arith}
 use Rattle.combinators.specs.Lists.{get_d_nth}
 use Rattle.vocabulary.specs.declared.stream_types.Reading.TheVariants.{Edition2009, Edition2015}
@@ -10,7 +10,6 @@ use Rattle.loop_entries.specs.declared.Entry.{Entry}
 use Rattle.loop_entries.specs.Entries.{blank_entry}
 use Rattle.es_loop.specs.Examples.{loop_a}
 use Rattle.closure.specs.declared.Layers.{Layers}
-use Rattle.closure.specs.declared.Closure.TheVariants.{Complete, Refused}
 use Rattle.closure.specs.Meaning.{itself}
 use Rattle.loop_layers.specs.Closures.{loop_closure}
 use Rattle.agreement.specs.Meaning.{Accepts, StreamType2009, Every2009, Otherwise, another_type, Refuses2009}
@@ -48,7 +47,7 @@ target_2 =
 target_2_refused : Refuses2009 loop_a 2
 target_2_refused = (agreement loop_a_lem 2).otherwise target_2
 
-target_2_gives_11 : loop_closure Edition2009 loop_a 2 ≡ Refused NoSuchLayer
+target_2_gives_11 : loop_closure Edition2009 loop_a 2 ≡ Err NoSuchLayer
 target_2_gives_11 = refl
 
 -- A base layer of type 0x24 below an SVC layer: complete in 2015; in 2009 the embedded layer is absent.
@@ -57,8 +56,8 @@ hevc_base =
     (0x24 ∷ 0xE1 ∷ 0x00 ∷ 0xF0 ∷ 0x06 ∷ 0x04 ∷ 0x04 ∷ 0xFF ∷ 0xC0 ∷ 0xFF ∷ 0xC0 ∷ [])
     ++ (0x1F ∷ 0xE1 ∷ 0x01 ∷ 0xF0 ∷ 0x06 ∷ 0x04 ∷ 0x04 ∷ 0xD1 ∷ 0xC1 ∷ 0x40 ∷ 0xC1 ∷ [])
 
-base_in_2015 : loop_closure Edition2015 hevc_base 1 ≡ Complete 0b011
+base_in_2015 : loop_closure Edition2015 hevc_base 1 ≡ Ok 0b011
 base_in_2015 = refl
 
-base_in_2009 : loop_closure Edition2009 hevc_base 1 ≡ Refused (EmbeddedLayerAbsent (record { 0 = 0 }))
+base_in_2009 : loop_closure Edition2009 hevc_base 1 ≡ Err (EmbeddedLayerAbsent (record { 0 = 0 }))
 base_in_2009 = refl

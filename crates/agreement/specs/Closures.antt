@@ -1,15 +1,14 @@
 -- CLOSURES IN A PART OF THE LAYERS. `few` has some of the layers that `all` has, each with the same embedded layers. Where it has every
 -- layer that a target rests on, the answer to the target is the same; and where it has a complete closure, it has all of them.
 -- Assumes nothing.
-use Rattle.std.specs.Prelude.{ℕ, ◌≡◌, refl, true, false, get_or}
+use Rattle.std.specs.Prelude.{ℕ, ◌≡◌, refl, true, false, get_or, Err, Ok}
 use Rattle.std.proofs.Common.{sym, ◌∙◌, ap, true≢false}
 use Rattle.std.proofs.Math.Bool.{not-eq-not}
 use Rattle.sets.specs.Sets.{has}
 use Rattle.vocabulary.specs.declared.refusal.Refusal.{Refusal}
 use Rattle.vocabulary.specs.declared.refusal.Refusal.TheVariants.{NoSuchLayer, EmbeddedLayerAbsent}
 use Rattle.closure.specs.declared.Layers.{Layers}
-use Rattle.closure.specs.declared.Closure.{Closure}
-use Rattle.closure.specs.declared.Closure.TheVariants.{Complete, Refused}
+use Rattle.closure.specs.Answer.{Closure}
 use Rattle.closure.specs.Closures.{is_layer, rested_on, closure_of}
 use Rattle.closure.specs.Meaning.{Names, RestsOn, itself, by, Missing, WholeClosure, Answers, no_such_layer, absent, complete}
 use Rattle.agreement.specs.Meaning.{NoSet, no_such_layer as eleven, embedded_layer_absent as twelve}
@@ -73,7 +72,7 @@ module _ (few all : Layers) (part : PartOf few all) (target : ℕ) where
     same_closure = sym (closure_only few target (answers_few (closure_meant all target)))
 
   -- WHERE FEW HAS A COMPLETE CLOSURE, it has every layer that the target rests on among all.
-  module _ (set : ℕ) (is-complete : closure_of few target ≡ Complete set) where
+  module _ (set : ℕ) (is-complete : closure_of few target ≡ Ok set) where
     whole : WholeClosure few target set
     whole = ((given_complete few target set).0 is-complete).1
 
@@ -85,8 +84,8 @@ module _ (few all : Layers) (part : PartOf few all) (target : ℕ) where
     every_kept j r = whole.in_loop j (rests_in_few r)
 
 -- WHAT A LAYER OF A COMPLETE CLOSURE RESTS ON is complete too.
-pub own_complete : (layers : Layers) (target closure : ℕ) → closure_of layers target ≡ Complete closure → (i : ℕ) → has closure i ≡ true
-    → closure_of layers i ≡ Complete (rested_on layers i)
+pub own_complete : (layers : Layers) (target closure : ℕ) → closure_of layers target ≡ Ok closure → (i : ℕ) → has closure i ≡ true
+    → closure_of layers i ≡ Ok (rested_on layers i)
 own_complete layers target closure e i h =
     let w = ((given_complete layers target closure).0 e).1 in
     let r = (w.members i).0 h in
@@ -100,8 +99,8 @@ own_complete layers target closure e i h =
 -- ---- an answer is a complete closure, or 11 or 12
 
 pub data Found (layers : Layers) (target : ℕ) : Type 0 where
-  found : (set : ℕ) → closure_of layers target ≡ Complete set → Found layers target
-  not_found : (refusal : Refusal) → NoSet refusal → closure_of layers target ≡ Refused refusal → Found layers target
+  found : (set : ℕ) → closure_of layers target ≡ Ok set → Found layers target
+  not_found : (refusal : Refusal) → NoSet refusal → closure_of layers target ≡ Err refusal → Found layers target
 
 pub find : (layers : Layers) (target : ℕ) → Found layers target
 find layers target = go (closure_meant layers target) refl

@@ -1,16 +1,14 @@
 -- DEMAND 3 OF WHAT IS COMPUTED, as the call `import` promises it: the layers and the answer in a reading, and that it always refuses with 11 or 12.
 -- The laws stand in proofs/Computed.antt: `identical_answer` and `always_refused`.
 -- Assumes nothing.
-use Rattle.std.specs.Prelude.{ℕ, ◌≡◌, List}
+use Rattle.std.specs.Prelude.{ℕ, ◌≡◌, List, Err}
 use Rattle.vocabulary.specs.declared.stream_types.Reading.{Reading}
 use Rattle.vocabulary.specs.declared.stream_types.Reading.TheVariants.{Edition2009}
 use Rattle.vocabulary.specs.declared.refusal.Refusal.{Refusal}
 use Rattle.closure.specs.declared.Layers.{Layers}
-use Rattle.closure.specs.declared.Closure.TheVariants.{Refused as NoClosure}
 use Rattle.loop_layers.specs.Closures.{loop_closure}
 use Rattle.loop_layers.specs.Layers.{layers_of}
-use Rattle.join_answers.specs.declared.answer.Joined.{Joined}
-use Rattle.join_answers.specs.declared.answer.Joined.TheVariants.{Refused}
+use Rattle.join_answers.specs.Answer.{Joined}
 use Rattle.rows.specs.Table.{Table}
 use Rattle.unit_lists.specs.Sequence.{Lists}
 use Rattle.join_answers.specs.Joining.{room_of}
@@ -33,4 +31,4 @@ pub record AlwaysRefused (bytes : List ℕ) (target : ℕ) : Type 0 where
   pub refusal : Refusal
   pub is_11_or_12 : NoSet refusal
   pub always : (t : Table) (before : Lists)
-      → answer_in Edition2009 bytes target t before ≡ answer_of (NoClosure refusal) (Refused refusal) before
+      → answer_in Edition2009 bytes target t before ≡ answer_of (Err refusal) (Err refusal) before

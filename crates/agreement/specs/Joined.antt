@@ -1,7 +1,8 @@
 -- JOINING LOOKS AT THE LAYERS OF THE CLOSURE ALONE. Two sets of layers that give a target the same closure, in which each layer has the same
 -- embedded layers and rests on the same, give it the same answer of joining and leave the same in the lists, for every row table, however long it may be, and every output room.
 -- Assumes nothing.
-use Rattle.std.specs.Prelude.{ℕ, ◌≡◌, refl, Bool, true, false, cond, ◌&&◌, eqb, ltb, get_or}
+use Rattle.join_answers.specs.Answer.{joined_units, Joined}
+use Rattle.std.specs.Prelude.{ℕ, ◌≡◌, refl, Bool, true, false, cond, ◌&&◌, eqb, ltb, get_or, Err, Ok}
 use Rattle.std.proofs.Common.{sym, ◌∙◌, ap, ap₂}
 use Rattle.std.proofs.Math.Path.{fun_ext}
 use Rattle.combinators.specs.Below.{some}
@@ -10,16 +11,13 @@ use Rattle.combinators.specs.Those.{those_alike}
 use Rattle.sets.specs.Sets.{has}
 use Rattle.vocabulary.specs.declared.refusal.Refusal.{Refusal}
 use Rattle.closure.specs.declared.Layers.{Layers}
-use Rattle.closure.specs.declared.Closure.{Closure}
-use Rattle.closure.specs.declared.Closure.TheVariants.{Complete, Refused as NoClosure}
+use Rattle.closure.specs.Answer.{Closure}
 use Rattle.closure.specs.Closures.{named_by, rested_on, closure_of}
 use Rattle.rows.specs.Table.{Table, rows_in, layer_of, decoding_of, match_of}
 use Rattle.rows.specs.Verdicts.{verdict_of}
 use Rattle.assembling.specs.Assemblies.{upper_of, lower_of, is_edge, edges_of}
 use Rattle.claims.specs.Claims.{embeds, claimed}
 use Rattle.heads.specs.Units.{Frame, frame}
-use Rattle.join_answers.specs.declared.answer.Joined.{Joined}
-use Rattle.join_answers.specs.declared.answer.Joined.TheVariants.{Units, Refused}
 use Rattle.unit_lists.specs.Sequence.{Lists, lists_over}
 use Rattle.join_answers.specs.Joining.{own_set, frame_of, Room, units_joined, joined_by, joined_in, joined_of, lists_after}
 use Rattle.join_answers.proofs.Cases.{IsOver, units_over, refused, is_over}
@@ -75,31 +73,31 @@ module _ (few all : Layers) (closure : ℕ)
       ∙ ap (frame closure (each_below (claimed all closure t) (rows_in t)) (each_below (own_set all closure) 64)) edges_alike
 
 module _ (few all : Layers) (target : ℕ) (same_closure : closure_of few target ≡ closure_of all target)
-    (same : (closure : ℕ) → closure_of all target ≡ Complete closure
+    (same : (closure : ℕ) → closure_of all target ≡ Ok closure
     → (i : ℕ) → has closure i ≡ true → get_or few.embedded i 0 ≡ get_or all.embedded i 0)
-    (own : (closure : ℕ) → closure_of all target ≡ Complete closure → (i : ℕ) → has closure i ≡ true → rested_on few i ≡ rested_on all i)
+    (own : (closure : ℕ) → closure_of all target ≡ Ok closure → (i : ℕ) → has closure i ≡ true → rested_on few i ≡ rested_on all i)
     (most : ℕ) (t : Table) (room : Room) where
   in_closure : (c : Closure) → closure_of all target ≡ c → joined_in most few t room c ≡ joined_in most all t room c
-  in_closure (Complete closure) e =
+  in_closure (Ok closure) e =
       ap (λ (f : Frame). joined_by (units_joined t f room) (verdict_of most t closure)) (frames_alike few all closure (same closure e) (own closure e) t)
-  in_closure (NoClosure refusal) e = refl
+  in_closure (Err refusal) e = refl
 
   -- THE SAME ANSWER,
   pub joined_alike : joined_of most few target t room ≡ joined_of most all target t room
   joined_alike = ap (joined_in most few t room) same_closure ∙ in_closure (closure_of all target) refl
 
   -- what holds of every refusal, and of units over the closure, holds of the answer
-  of_answer : (P : Joined → Type 0) → ((closure units rows : ℕ) → closure_of all target ≡ Complete closure → P (Units closure units rows))
-      → ((refusal : Refusal) → P (Refused refusal)) → P (joined_of most all target t room)
+  of_answer : (P : Joined → Type 0) → ((closure units rows : ℕ) → closure_of all target ≡ Ok closure → P (joined_units closure units rows))
+      → ((refusal : Refusal) → P (Err refusal)) → P (joined_of most all target t room)
   of_answer P with-units with-refusal = go (closure_of all target) refl
     where
-      from_over : (closure : ℕ) → closure_of all target ≡ Complete closure → {j : Joined} → IsOver closure j → P j
+      from_over : (closure : ℕ) → closure_of all target ≡ Ok closure → {j : Joined} → IsOver closure j → P j
       from_over closure e (units_over {units} {rows}) = with-units closure units rows e
       from_over closure e (refused {refusal}) = with-refusal refusal
 
       go : (c : Closure) → closure_of all target ≡ c → P (joined_in most all t room c)
-      go (Complete closure) e = from_over closure e (is_over most all t closure room)
-      go (NoClosure refusal) e = with-refusal refusal
+      go (Ok closure) e = from_over closure e (is_over most all t closure room)
+      go (Err refusal) e = with-refusal refusal
 
   -- and the same in the lists.
   pub lists_alike : (before : Lists) → lists_after few t (joined_of most few target t room) before

@@ -4,7 +4,7 @@
 -- table and every output room.' Here is what these words mean, over the meaning of reading a loop, of its layers, of a target's closure and of
 -- the whole import; proofs/Agreement.antt has the statement that it is so, with its proof.
 -- Assumes nothing.
-use Rattle.std.specs.Prelude.{ℕ, List, map, ◌↔◌, ◌≡◌}
+use Rattle.std.specs.Prelude.{ℕ, List, map, ◌↔◌, ◌≡◌, Err, Ok}
 use Rattle.vocabulary.specs.declared.LayerIndex.{LayerIndex}
 use Rattle.vocabulary.specs.declared.stream_types.Reading.{Reading}
 use Rattle.vocabulary.specs.declared.stream_types.Reading.TheVariants.{Edition2009, Edition2015}
@@ -16,14 +16,12 @@ use Rattle.loop_entries.specs.Entries.{entry_of}
 use Rattle.es_loop.specs.Reading.{accepted}
 use Rattle.es_loop.specs.Meaning as Loop
 use Rattle.closure.specs.declared.Layers.{Layers}
-use Rattle.closure.specs.declared.Closure.{Closure}
-use Rattle.closure.specs.declared.Closure.TheVariants.{Complete, Refused as NoClosure}
+use Rattle.closure.specs.Answer.{Closure}
 use Rattle.closure.specs.Meaning.{RestsOn}
 use Rattle.closure.specs.Meaning as Target
 use Rattle.loop_layers.specs.Meaning.{LayerAt, LayersOf}
 use Rattle.loop_layers.specs.Meaning as LoopClosure
-use Rattle.join_answers.specs.declared.answer.Joined.{Joined}
-use Rattle.join_answers.specs.declared.answer.Joined.TheVariants.{Refused}
+use Rattle.join_answers.specs.Answer.{Joined}
 use Rattle.rows.specs.Table.{Table}
 use Rattle.unit_lists.specs.Sequence.{Lists}
 use Rattle.importing.specs.Meaning as Import
@@ -50,7 +48,7 @@ module _ (entries : List Entry) (layers : Layers) (target : ℕ) where
   -- 'Otherwise, or if the 2015 reading finds no complete set of layers': no set is the answer to the target
   pub data Otherwise : Type 0 where
     another_type : (Every2009 → ⊥) → Otherwise
-    no_complete_set : ((set : ℕ) → Target.Answers layers target (Complete set) → ⊥) → Otherwise
+    no_complete_set : ((set : ℕ) → Target.Answers layers target (Ok set) → ⊥) → Otherwise
 
 -- 'In demand 3 the answer is the closure with the answer of joining, or the refusal with its place'; and with it goes what the three lists then
 -- hold, of which the lengths are the output room.
@@ -78,7 +76,7 @@ pub data NoSet : Refusal → Type 0 where
 pub record Refuses2009 (bytes : List ℕ) (target : ℕ) : Type 0 where
   pub refusal : Refusal
   pub is_11_or_12 : NoSet refusal
-  pub always : (t : Table) (before : Lists) → Gives Edition2009 bytes target t before (answer_of (NoClosure refusal) (Refused refusal) before)
+  pub always : (t : Table) (before : Lists) → Gives Edition2009 bytes target t before (answer_of (Err refusal) (Err refusal) before)
 
 -- THE DEMAND, of one loop, with its entries and layers in the 2015 reading, and one target.
 pub record Agrees (bytes : List ℕ) (entries : List Entry) (layers : Layers) (target : ℕ) : Type 0 where

@@ -54,7 +54,8 @@ fn next_edge(closure: u64, embedded: u64, edge: usize) -> usize
     if !sets::member(closure, upper) {
         return start + 64;
     }
-    let next = sets::lowest(sets::without(embedded, sets::below(embedded, edge % 64 + 1))) as usize;
+    let left = sets::without(embedded, sets::below(embedded, edge % 64 + 1));
+    let next = usize::from(sets::lowest(left));
     if upper <= next {
         return start + 64;
     }
@@ -130,9 +131,8 @@ pub fn assemble(
 {
     let none = indices.len();
     rows[top] = head;
-    let mut at = 0;
-    while at < edges.len() {
-        let edge = edges[at] as usize;
+    for &pair in edges {
+        let edge = usize::from(pair);
         let upper = rows[63 - edge / 64 % 64];
         if upper < none {
             let lower = edge % 64;
@@ -150,9 +150,6 @@ pub fn assemble(
                 return false;
             }
             rows[lower] = row;
-            at += 1;
-        } else {
-            at += 1;
         }
     }
     true

@@ -6,19 +6,14 @@
 ghost use Rattle.std.specs.Prelude.{◌+◌, ◌≤◌, length};
 ghost use Rattle.buffers.specs.Buffers.{Laid};
 
-use combinators::lesser;
-
 // Lays `bytes` into `out` from place `at` on, where there is room for all of it, and answers the place after it.
 pub fn put_whole(out: &mut [u8], at: usize, bytes: &[u8]) -> usize
     requires { at + length bytes.now ≤ length out.old }
     ensures { Laid out.old at bytes.now result out.new }
 {
-    let mut i = 0;
-    while i < bytes.len() {
-        out[at + i] = bytes[i];
-        i += 1;
-    }
-    at + bytes.len()
+    let end = at + bytes.len();
+    out[at..end].copy_from_slice(bytes);
+    end
 }
 
 // Lays `bytes` into `out` from place `at` on, as far as there is room, and answers the place after it.
@@ -28,6 +23,6 @@ pub fn put(out: &mut [u8], at: usize, bytes: &[u8]) -> usize
     if out.len() <= at {
         return out.len();
     }
-    let count = lesser(out.len() - at, bytes.len());
+    let count = (out.len() - at).min(bytes.len());
     put_whole(out, at, &bytes[..count])
 }

@@ -1,12 +1,11 @@
 -- THE ANSWER OF A CALL as one number of 64 bits, as include/thoquenry.h says: THQ_NUMBER(answer), the remainder by 256, is 0 where the call is accepted, or else the
 -- number of the refusal; THQ_VALUE(answer), the quotient, is the place of the refusal, or what the function counts.
 -- Assumes nothing.
-use Rattle.std.specs.Prelude.{ℕ, ◌+◌, ◌*◌, ◌%◌, ◌^◌, cond, List, eqb}
+use Rattle.std.specs.Prelude.{ℕ, ◌+◌, ◌*◌, ◌%◌, ◌^◌, cond, List, eqb, None, Some}
 use Rattle.vocabulary.specs.declared.refusal.Refusal.{Refusal}
 use Rattle.vocabulary.specs.declared.stream_types.Reading.TheVariants.{Edition2009, Edition2015}
 use Rattle.vocabulary.specs.Refusals.{number_of, place_of}
-use Rattle.c_answers.specs.declared.Asked.{Asked}
-use Rattle.c_answers.specs.declared.Asked.TheVariants.{Known, Neither}
+use Rattle.c_answers.specs.Answer.{Asked}
 
 -- 8 bits for the number and 56 for the value
 abbrev pub answer_of : ℕ → ℕ → ℕ
@@ -23,7 +22,7 @@ abbrev pub not_a_call : ℕ
 not_a_call = answer_of 255 0
 
 abbrev pub asked_for : ℕ → Asked
-asked_for reading = cond (eqb reading 2009) (Known Edition2009) (cond (eqb reading 2015) (Known Edition2015) Neither)
+asked_for reading = cond (eqb reading 2009) (Some Edition2009) (cond (eqb reading 2015) (Some Edition2015) None)
 
 -- What a call leaves: its answer, and the final content of its buffer.
 pub record Reply : Type 0 where

@@ -7,17 +7,10 @@ ghost use Rattle.c_answers.specs.Answers.{answer_of, accepted as acceptedOf, ref
 
 use vocabulary::{Reading, Refusal};
 
-// The reading that a caller asks for, if there is one of that year.
-#[derive(Clone, Copy)]
-pub enum Asked {
-    Known(Reading),
-    Neither,
-}
-
 fn answer(number: u8, value: usize) -> u64
     ensures { result ≡ answer_of number value }
 {
-    number as u64 + 256 * (value as u64 % 72057594037927936)
+    u64::from(number) + 256 * (value as u64 % 72057594037927936)
 }
 
 pub fn accepted(count: usize) -> u64
@@ -38,14 +31,12 @@ pub fn not_a_call() -> u64
     answer(255, 0)
 }
 
-pub fn reading_of(year: u64) -> Asked
+pub fn reading_of(year: u64) -> Option<Reading>
     ensures { result ≡ asked_for year }
 {
-    if year == 2009 {
-        return Asked::Known(Reading::Edition2009);
+    match year {
+        2009 => Some(Reading::Edition2009),
+        2015 => Some(Reading::Edition2015),
+        _ => None,
     }
-    if year == 2015 {
-        return Asked::Known(Reading::Edition2015);
-    }
-    Asked::Neither
 }

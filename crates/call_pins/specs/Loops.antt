@@ -1,7 +1,7 @@
 -- LOOPS, pinned: derived by hand from document 01, each number given and narrowly not given; and one loop in which every field differs from every
 -- other, read, listed and written.
 -- Assumes nothing.
-use Rattle.std.specs.Prelude.{ℕ, ◌+◌, Bool, true, false, List, [], ◌∷◌, ◌++◌, map, ◌≡◌, refl, length, take, replicate}
+use Rattle.std.specs.Prelude.{ℕ, ◌+◌, Bool, true, false, List, [], ◌∷◌, ◌++◌, map, ◌≡◌, refl, length, take, replicate, Err, Ok}
 use Rattle.vocabulary.specs.declared.stream_types.Reading.{Reading}
 use Rattle.vocabulary.specs.declared.stream_types.Reading.TheVariants.{Edition2009, Edition2015}
 use Rattle.vocabulary.specs.declared.refusal.Refusal.TheVariants.{DoesNotFit, EmbeddedLayerAbsent, LoopTooLong, NoRoom, RepeatedLayerIndex, RepeatedPid, SecondRecord, TooWide, TypeNotAllowed, WrongEmbeddedIndex, WrongFlags, WrongLength}
@@ -12,12 +12,10 @@ use Rattle.text.specs.Text.{ascii, decimal, decimal_width, texts}
 use Rattle.records.specs.declared.Record.{Record}
 use Rattle.records.specs.declared.Record.TheVariants.{NoRecord, Hierarchy, Extension, Implied}
 use Rattle.loop_entries.specs.declared.Entry.{Entry}
-use Rattle.es_loop.specs.declared.reader.Outcome.{Outcome}
-use Rattle.es_loop.specs.declared.reader.Outcome.TheVariants.{Accepted, Refused}
+use Rattle.es_loop.specs.Answer.{Outcome}
 use Rattle.es_loop.specs.Reading.{loop_read}
-use Rattle.closure.specs.declared.Closure.TheVariants.{Complete, Refused as NoClosure}
 use Rattle.loop_layers.specs.Closures.{loop_closure}
-use Rattle.loop_writer.specs.declared.writer.Written.{Written}
+use Rattle.loop_writer.specs.Answer.{Written}
 use Rattle.loop_writer.specs.Writing.{answer, content}
 use Rattle.record_pins.specs.Records.{hierarchy_payload, hierarchy, extension_payload, extension}
 use Rattle.listing.specs.Lines.{members, layer_line, line_at, layers_text, accepted_text, refused_text, loop_text}
@@ -72,87 +70,87 @@ sports = avc_view ++ audio ++ mvc_view
 abbrev pub loops : List Case
 loops =
     -- 1: 1,008 bytes and 1,009
-    case Edition2009 ((0x02 ∷ 0xE1 ∷ 0x00 ∷ 0xF3 ∷ 0xEB ∷ []) ++ replicate 1003 0xFF) Accepted
-    ∷ case Edition2009 ((0x02 ∷ 0xE1 ∷ 0x00 ∷ 0xF3 ∷ 0xEC ∷ []) ++ replicate 1004 0xFF) (Refused LoopTooLong)
-    ∷ case Edition2015 ((0x02 ∷ 0xE1 ∷ 0x00 ∷ 0xF3 ∷ 0xEC ∷ []) ++ replicate 1004 0xFF) (Refused LoopTooLong)
+    case Edition2009 ((0x02 ∷ 0xE1 ∷ 0x00 ∷ 0xF3 ∷ 0xEB ∷ []) ++ replicate 1003 0xFF) (Ok tt)
+    ∷ case Edition2009 ((0x02 ∷ 0xE1 ∷ 0x00 ∷ 0xF3 ∷ 0xEC ∷ []) ++ replicate 1004 0xFF) (Err LoopTooLong)
+    ∷ case Edition2015 ((0x02 ∷ 0xE1 ∷ 0x00 ∷ 0xF3 ∷ 0xEC ∷ []) ++ replicate 1004 0xFF) (Err LoopTooLong)
     -- 2: an entry of one byte too few; all 12 bits of its length count; a descriptor of one byte too few, on a known type alone
-    ∷ case Edition2015 (0x1B ∷ 0xE1 ∷ 0x00 ∷ 0xF0 ∷ 0x00 ∷ 0x1F ∷ 0xE1 ∷ 0x01 ∷ 0xF0 ∷ 0x00 ∷ []) Accepted
-    ∷ case Edition2015 (0x1B ∷ 0xE1 ∷ 0x00 ∷ 0xF0 ∷ 0x00 ∷ 0x1F ∷ 0xE1 ∷ 0x01 ∷ 0xF0 ∷ []) (Refused (DoesNotFit 1))
-    ∷ case Edition2015 (0x1B ∷ 0xE1 ∷ 0x00 ∷ 0xF4 ∷ 0x00 ∷ []) (Refused (DoesNotFit 0))
-    ∷ case Edition2009 (0x1B ∷ 0xE1 ∷ 0x00 ∷ 0xF0 ∷ 0x02 ∷ 0x05 ∷ 0x01 ∷ []) (Refused (DoesNotFit 0))
-    ∷ case Edition2009 (0x1B ∷ 0xE1 ∷ 0x00 ∷ 0xF0 ∷ 0x03 ∷ 0x05 ∷ 0x01 ∷ 0xAA ∷ []) Accepted
-    ∷ case Edition2015 (0x2C ∷ 0xE1 ∷ 0x00 ∷ 0xF0 ∷ 0x01 ∷ 0x04 ∷ []) Accepted
-    ∷ case Edition2009 (0x24 ∷ 0xE1 ∷ 0x00 ∷ 0xF0 ∷ 0x01 ∷ 0x04 ∷ []) Accepted
-    ∷ case Edition2015 (0x24 ∷ 0xE1 ∷ 0x00 ∷ 0xF0 ∷ 0x01 ∷ 0x04 ∷ []) (Refused (DoesNotFit 0))
+    ∷ case Edition2015 (0x1B ∷ 0xE1 ∷ 0x00 ∷ 0xF0 ∷ 0x00 ∷ 0x1F ∷ 0xE1 ∷ 0x01 ∷ 0xF0 ∷ 0x00 ∷ []) (Ok tt)
+    ∷ case Edition2015 (0x1B ∷ 0xE1 ∷ 0x00 ∷ 0xF0 ∷ 0x00 ∷ 0x1F ∷ 0xE1 ∷ 0x01 ∷ 0xF0 ∷ []) (Err (DoesNotFit 1))
+    ∷ case Edition2015 (0x1B ∷ 0xE1 ∷ 0x00 ∷ 0xF4 ∷ 0x00 ∷ []) (Err (DoesNotFit 0))
+    ∷ case Edition2009 (0x1B ∷ 0xE1 ∷ 0x00 ∷ 0xF0 ∷ 0x02 ∷ 0x05 ∷ 0x01 ∷ []) (Err (DoesNotFit 0))
+    ∷ case Edition2009 (0x1B ∷ 0xE1 ∷ 0x00 ∷ 0xF0 ∷ 0x03 ∷ 0x05 ∷ 0x01 ∷ 0xAA ∷ []) (Ok tt)
+    ∷ case Edition2015 (0x2C ∷ 0xE1 ∷ 0x00 ∷ 0xF0 ∷ 0x01 ∷ 0x04 ∷ []) (Ok tt)
+    ∷ case Edition2009 (0x24 ∷ 0xE1 ∷ 0x00 ∷ 0xF0 ∷ 0x01 ∷ 0x04 ∷ []) (Ok tt)
+    ∷ case Edition2015 (0x24 ∷ 0xE1 ∷ 0x00 ∷ 0xF0 ∷ 0x01 ∷ 0x04 ∷ []) (Err (DoesNotFit 0))
     -- 3: a PID twice, on whatever type; 13 bits of it count
-    ∷ case Edition2009 (0x1B ∷ 0xE1 ∷ 0x00 ∷ 0xF0 ∷ 0x00 ∷ 0x0F ∷ 0xE1 ∷ 0x00 ∷ 0xF0 ∷ 0x00 ∷ []) (Refused (RepeatedPid 1))
-    ∷ case Edition2015 (0x1B ∷ 0xE1 ∷ 0x00 ∷ 0xF0 ∷ 0x00 ∷ 0x0F ∷ 0xE1 ∷ 0x01 ∷ 0xF0 ∷ 0x00 ∷ []) Accepted
-    ∷ case Edition2015 (0x0F ∷ 0xE1 ∷ 0x00 ∷ 0xF0 ∷ 0x00 ∷ 0x0F ∷ 0xF1 ∷ 0x00 ∷ 0xF0 ∷ 0x00 ∷ []) Accepted
-    ∷ case Edition2015 (0x02 ∷ 0xE0 ∷ 0x01 ∷ 0xF0 ∷ 0x00 ∷ 0x02 ∷ 0xE0 ∷ 0x02 ∷ 0xF0 ∷ 0x00 ∷ 0x02 ∷ 0xE0 ∷ 0x02 ∷ 0xF0 ∷ 0x00 ∷ 0x02 ∷ 0xE0 ∷ 0x01 ∷ 0xF0 ∷ 0x00 ∷ []) (Refused (RepeatedPid 2))
+    ∷ case Edition2009 (0x1B ∷ 0xE1 ∷ 0x00 ∷ 0xF0 ∷ 0x00 ∷ 0x0F ∷ 0xE1 ∷ 0x00 ∷ 0xF0 ∷ 0x00 ∷ []) (Err (RepeatedPid 1))
+    ∷ case Edition2015 (0x1B ∷ 0xE1 ∷ 0x00 ∷ 0xF0 ∷ 0x00 ∷ 0x0F ∷ 0xE1 ∷ 0x01 ∷ 0xF0 ∷ 0x00 ∷ []) (Ok tt)
+    ∷ case Edition2015 (0x0F ∷ 0xE1 ∷ 0x00 ∷ 0xF0 ∷ 0x00 ∷ 0x0F ∷ 0xF1 ∷ 0x00 ∷ 0xF0 ∷ 0x00 ∷ []) (Ok tt)
+    ∷ case Edition2015 (0x02 ∷ 0xE0 ∷ 0x01 ∷ 0xF0 ∷ 0x00 ∷ 0x02 ∷ 0xE0 ∷ 0x02 ∷ 0xF0 ∷ 0x00 ∷ 0x02 ∷ 0xE0 ∷ 0x02 ∷ 0xF0 ∷ 0x00 ∷ 0x02 ∷ 0xE0 ∷ 0x01 ∷ 0xF0 ∷ 0x00 ∷ []) (Err (RepeatedPid 2))
     -- 4: a hierarchy descriptor of length 3, 4, 5; an extension of another length than its count demands, and too short to hold its count
-    ∷ case Edition2009 (0x1B ∷ 0xE1 ∷ 0x00 ∷ 0xF0 ∷ 0x05 ∷ 0x04 ∷ 0x03 ∷ 0xFF ∷ 0xC0 ∷ 0xFF ∷ []) (Refused (WrongLength 0))
-    ∷ case Edition2009 (0x1B ∷ 0xE1 ∷ 0x00 ∷ 0xF0 ∷ 0x06 ∷ 0x04 ∷ 0x04 ∷ 0xFF ∷ 0xC0 ∷ 0xFF ∷ 0xC0 ∷ []) Accepted
-    ∷ case Edition2015 (0x1B ∷ 0xE1 ∷ 0x00 ∷ 0xF0 ∷ 0x07 ∷ 0x04 ∷ 0x05 ∷ 0xFF ∷ 0xC0 ∷ 0xFF ∷ 0xC0 ∷ 0x00 ∷ []) (Refused (WrongLength 0))
-    ∷ case Edition2009 (0x0F ∷ 0xE1 ∷ 0x00 ∷ 0xF0 ∷ 0x02 ∷ 0x04 ∷ 0x00 ∷ []) Accepted
-    ∷ case Edition2015 (0x28 ∷ 0xE1 ∷ 0x00 ∷ 0xF0 ∷ 0x02 ∷ 0x3F ∷ 0x00 ∷ []) Accepted
-    ∷ case Edition2015 (0x28 ∷ 0xE1 ∷ 0x00 ∷ 0xF0 ∷ 0x07 ∷ 0x3F ∷ 0x05 ∷ 0x06 ∷ 0x00 ∷ 0x02 ∷ 0x04 ∷ 0x00 ∷ []) (Refused (WrongLength 0))
-    ∷ case Edition2015 (0x28 ∷ 0xE1 ∷ 0x00 ∷ 0xF0 ∷ 0x0A ∷ 0x3F ∷ 0x08 ∷ 0x06 ∷ 0x00 ∷ 0x02 ∷ 0x04 ∷ 0x00 ∷ 0xC1 ∷ 0xC0 ∷ 0xC0 ∷ []) Accepted
-    ∷ case Edition2015 (0x28 ∷ 0xE1 ∷ 0x00 ∷ 0xF0 ∷ 0x0A ∷ 0x3F ∷ 0x08 ∷ 0x06 ∷ 0x00 ∷ 0x02 ∷ 0x04 ∷ 0x00 ∷ 0xC2 ∷ 0xC0 ∷ 0xC0 ∷ []) (Refused (WrongLength 0))
-    ∷ case Edition2009 (0x1B ∷ 0xE1 ∷ 0x00 ∷ 0xF0 ∷ 0x03 ∷ 0x3F ∷ 0x01 ∷ 0x06 ∷ []) Accepted
+    ∷ case Edition2009 (0x1B ∷ 0xE1 ∷ 0x00 ∷ 0xF0 ∷ 0x05 ∷ 0x04 ∷ 0x03 ∷ 0xFF ∷ 0xC0 ∷ 0xFF ∷ []) (Err (WrongLength 0))
+    ∷ case Edition2009 (0x1B ∷ 0xE1 ∷ 0x00 ∷ 0xF0 ∷ 0x06 ∷ 0x04 ∷ 0x04 ∷ 0xFF ∷ 0xC0 ∷ 0xFF ∷ 0xC0 ∷ []) (Ok tt)
+    ∷ case Edition2015 (0x1B ∷ 0xE1 ∷ 0x00 ∷ 0xF0 ∷ 0x07 ∷ 0x04 ∷ 0x05 ∷ 0xFF ∷ 0xC0 ∷ 0xFF ∷ 0xC0 ∷ 0x00 ∷ []) (Err (WrongLength 0))
+    ∷ case Edition2009 (0x0F ∷ 0xE1 ∷ 0x00 ∷ 0xF0 ∷ 0x02 ∷ 0x04 ∷ 0x00 ∷ []) (Ok tt)
+    ∷ case Edition2015 (0x28 ∷ 0xE1 ∷ 0x00 ∷ 0xF0 ∷ 0x02 ∷ 0x3F ∷ 0x00 ∷ []) (Ok tt)
+    ∷ case Edition2015 (0x28 ∷ 0xE1 ∷ 0x00 ∷ 0xF0 ∷ 0x07 ∷ 0x3F ∷ 0x05 ∷ 0x06 ∷ 0x00 ∷ 0x02 ∷ 0x04 ∷ 0x00 ∷ []) (Err (WrongLength 0))
+    ∷ case Edition2015 (0x28 ∷ 0xE1 ∷ 0x00 ∷ 0xF0 ∷ 0x0A ∷ 0x3F ∷ 0x08 ∷ 0x06 ∷ 0x00 ∷ 0x02 ∷ 0x04 ∷ 0x00 ∷ 0xC1 ∷ 0xC0 ∷ 0xC0 ∷ []) (Ok tt)
+    ∷ case Edition2015 (0x28 ∷ 0xE1 ∷ 0x00 ∷ 0xF0 ∷ 0x0A ∷ 0x3F ∷ 0x08 ∷ 0x06 ∷ 0x00 ∷ 0x02 ∷ 0x04 ∷ 0x00 ∷ 0xC2 ∷ 0xC0 ∷ 0xC0 ∷ []) (Err (WrongLength 0))
+    ∷ case Edition2009 (0x1B ∷ 0xE1 ∷ 0x00 ∷ 0xF0 ∷ 0x03 ∷ 0x3F ∷ 0x01 ∷ 0x06 ∷ []) (Ok tt)
     -- 5: two records; the 2009 reading sees one of them
-    ∷ case Edition2015 (0x1B ∷ 0xE1 ∷ 0x00 ∷ 0xF0 ∷ 0x0C ∷ 0x04 ∷ 0x04 ∷ 0xFF ∷ 0xC0 ∷ 0xFF ∷ 0xC0 ∷ 0x04 ∷ 0x04 ∷ 0xFF ∷ 0xC1 ∷ 0xFF ∷ 0xC0 ∷ []) (Refused (SecondRecord 0))
-    ∷ case Edition2015 (0x1B ∷ 0xE1 ∷ 0x00 ∷ 0xF0 ∷ 0x0F ∷ 0x04 ∷ 0x04 ∷ 0xFF ∷ 0xC0 ∷ 0xFF ∷ 0xC0 ∷ 0x3F ∷ 0x07 ∷ 0x06 ∷ 0x00 ∷ 0x00 ∷ 0x04 ∷ 0x00 ∷ 0xC0 ∷ 0xC0 ∷ []) (Refused (SecondRecord 0))
-    ∷ case Edition2009 (0x1B ∷ 0xE1 ∷ 0x00 ∷ 0xF0 ∷ 0x0F ∷ 0x04 ∷ 0x04 ∷ 0xFF ∷ 0xC0 ∷ 0xFF ∷ 0xC0 ∷ 0x3F ∷ 0x07 ∷ 0x06 ∷ 0x00 ∷ 0x00 ∷ 0x04 ∷ 0x00 ∷ 0xC0 ∷ 0xC0 ∷ []) Accepted
+    ∷ case Edition2015 (0x1B ∷ 0xE1 ∷ 0x00 ∷ 0xF0 ∷ 0x0C ∷ 0x04 ∷ 0x04 ∷ 0xFF ∷ 0xC0 ∷ 0xFF ∷ 0xC0 ∷ 0x04 ∷ 0x04 ∷ 0xFF ∷ 0xC1 ∷ 0xFF ∷ 0xC0 ∷ []) (Err (SecondRecord 0))
+    ∷ case Edition2015 (0x1B ∷ 0xE1 ∷ 0x00 ∷ 0xF0 ∷ 0x0F ∷ 0x04 ∷ 0x04 ∷ 0xFF ∷ 0xC0 ∷ 0xFF ∷ 0xC0 ∷ 0x3F ∷ 0x07 ∷ 0x06 ∷ 0x00 ∷ 0x00 ∷ 0x04 ∷ 0x00 ∷ 0xC0 ∷ 0xC0 ∷ []) (Err (SecondRecord 0))
+    ∷ case Edition2009 (0x1B ∷ 0xE1 ∷ 0x00 ∷ 0xF0 ∷ 0x0F ∷ 0x04 ∷ 0x04 ∷ 0xFF ∷ 0xC0 ∷ 0xFF ∷ 0xC0 ∷ 0x3F ∷ 0x07 ∷ 0x06 ∷ 0x00 ∷ 0x00 ∷ 0x04 ∷ 0x00 ∷ 0xC0 ∷ 0xC0 ∷ []) (Ok tt)
     -- 6: type 9 on 0x1B, and on 0x20; type 15 on 0x1F; an extension on 0x1B, and on 0x28
-    ∷ case Edition2015 (0x1B ∷ 0xE1 ∷ 0x00 ∷ 0xF0 ∷ 0x06 ∷ 0x04 ∷ 0x04 ∷ 0xF9 ∷ 0xC1 ∷ 0x40 ∷ 0xC0 ∷ []) (Refused (TypeNotAllowed 0))
-    ∷ case Edition2015 (0x20 ∷ 0xE1 ∷ 0x00 ∷ 0xF0 ∷ 0x06 ∷ 0x04 ∷ 0x04 ∷ 0xF9 ∷ 0xC1 ∷ 0x40 ∷ 0xC0 ∷ []) Accepted
-    ∷ case Edition2009 (0x1F ∷ 0xE1 ∷ 0x00 ∷ 0xF0 ∷ 0x06 ∷ 0x04 ∷ 0x04 ∷ 0xFF ∷ 0xC1 ∷ 0x40 ∷ 0xC0 ∷ []) (Refused (TypeNotAllowed 0))
-    ∷ case Edition2015 (0x1B ∷ 0xE1 ∷ 0x00 ∷ 0xF0 ∷ 0x09 ∷ 0x3F ∷ 0x07 ∷ 0x06 ∷ 0x00 ∷ 0x02 ∷ 0x04 ∷ 0x00 ∷ 0xC0 ∷ 0xC0 ∷ []) (Refused (TypeNotAllowed 0))
-    ∷ case Edition2009 (0x1B ∷ 0xE1 ∷ 0x00 ∷ 0xF0 ∷ 0x09 ∷ 0x3F ∷ 0x07 ∷ 0x06 ∷ 0x00 ∷ 0x02 ∷ 0x04 ∷ 0x00 ∷ 0xC0 ∷ 0xC0 ∷ []) Accepted
-    ∷ case Edition2015 (0x28 ∷ 0xE1 ∷ 0x00 ∷ 0xF0 ∷ 0x09 ∷ 0x3F ∷ 0x07 ∷ 0x06 ∷ 0x00 ∷ 0x02 ∷ 0x04 ∷ 0x00 ∷ 0xC0 ∷ 0xC0 ∷ []) Accepted
+    ∷ case Edition2015 (0x1B ∷ 0xE1 ∷ 0x00 ∷ 0xF0 ∷ 0x06 ∷ 0x04 ∷ 0x04 ∷ 0xF9 ∷ 0xC1 ∷ 0x40 ∷ 0xC0 ∷ []) (Err (TypeNotAllowed 0))
+    ∷ case Edition2015 (0x20 ∷ 0xE1 ∷ 0x00 ∷ 0xF0 ∷ 0x06 ∷ 0x04 ∷ 0x04 ∷ 0xF9 ∷ 0xC1 ∷ 0x40 ∷ 0xC0 ∷ []) (Ok tt)
+    ∷ case Edition2009 (0x1F ∷ 0xE1 ∷ 0x00 ∷ 0xF0 ∷ 0x06 ∷ 0x04 ∷ 0x04 ∷ 0xFF ∷ 0xC1 ∷ 0x40 ∷ 0xC0 ∷ []) (Err (TypeNotAllowed 0))
+    ∷ case Edition2015 (0x1B ∷ 0xE1 ∷ 0x00 ∷ 0xF0 ∷ 0x09 ∷ 0x3F ∷ 0x07 ∷ 0x06 ∷ 0x00 ∷ 0x02 ∷ 0x04 ∷ 0x00 ∷ 0xC0 ∷ 0xC0 ∷ []) (Err (TypeNotAllowed 0))
+    ∷ case Edition2009 (0x1B ∷ 0xE1 ∷ 0x00 ∷ 0xF0 ∷ 0x09 ∷ 0x3F ∷ 0x07 ∷ 0x06 ∷ 0x00 ∷ 0x02 ∷ 0x04 ∷ 0x00 ∷ 0xC0 ∷ 0xC0 ∷ []) (Ok tt)
+    ∷ case Edition2015 (0x28 ∷ 0xE1 ∷ 0x00 ∷ 0xF0 ∷ 0x09 ∷ 0x3F ∷ 0x07 ∷ 0x06 ∷ 0x00 ∷ 0x02 ∷ 0x04 ∷ 0x00 ∷ 0xC0 ∷ 0xC0 ∷ []) (Ok tt)
     -- 7: one flag at 0 and two; no_view counts in 2015 alone; type 8 with all at 0; type 9 with one
-    ∷ case Edition2015 (0x1F ∷ 0xE1 ∷ 0x00 ∷ 0xF0 ∷ 0x06 ∷ 0x04 ∷ 0x04 ∷ 0x71 ∷ 0xC1 ∷ 0x40 ∷ 0xC0 ∷ []) Accepted
-    ∷ case Edition2015 (0x1F ∷ 0xE1 ∷ 0x00 ∷ 0xF0 ∷ 0x06 ∷ 0x04 ∷ 0x04 ∷ 0x31 ∷ 0xC1 ∷ 0x40 ∷ 0xC0 ∷ []) (Refused (WrongFlags 0))
-    ∷ case Edition2009 (0x1F ∷ 0xE1 ∷ 0x00 ∷ 0xF0 ∷ 0x06 ∷ 0x04 ∷ 0x04 ∷ 0x31 ∷ 0xC1 ∷ 0x40 ∷ 0xC0 ∷ []) Accepted
-    ∷ case Edition2009 (0x1F ∷ 0xE1 ∷ 0x00 ∷ 0xF0 ∷ 0x06 ∷ 0x04 ∷ 0x04 ∷ 0x11 ∷ 0xC1 ∷ 0x40 ∷ 0xC0 ∷ []) (Refused (WrongFlags 0))
-    ∷ case Edition2015 (0x1F ∷ 0xE1 ∷ 0x00 ∷ 0xF0 ∷ 0x06 ∷ 0x04 ∷ 0x04 ∷ 0x08 ∷ 0xC1 ∷ 0x40 ∷ 0xC0 ∷ []) Accepted
-    ∷ case Edition2015 (0x20 ∷ 0xE1 ∷ 0x00 ∷ 0xF0 ∷ 0x06 ∷ 0x04 ∷ 0x04 ∷ 0x79 ∷ 0xC1 ∷ 0x40 ∷ 0xC0 ∷ []) (Refused (WrongFlags 0))
-    ∷ case Edition2009 (0x20 ∷ 0xE1 ∷ 0x00 ∷ 0xF0 ∷ 0x06 ∷ 0x04 ∷ 0x04 ∷ 0x79 ∷ 0xC1 ∷ 0x40 ∷ 0xC0 ∷ []) Accepted
+    ∷ case Edition2015 (0x1F ∷ 0xE1 ∷ 0x00 ∷ 0xF0 ∷ 0x06 ∷ 0x04 ∷ 0x04 ∷ 0x71 ∷ 0xC1 ∷ 0x40 ∷ 0xC0 ∷ []) (Ok tt)
+    ∷ case Edition2015 (0x1F ∷ 0xE1 ∷ 0x00 ∷ 0xF0 ∷ 0x06 ∷ 0x04 ∷ 0x04 ∷ 0x31 ∷ 0xC1 ∷ 0x40 ∷ 0xC0 ∷ []) (Err (WrongFlags 0))
+    ∷ case Edition2009 (0x1F ∷ 0xE1 ∷ 0x00 ∷ 0xF0 ∷ 0x06 ∷ 0x04 ∷ 0x04 ∷ 0x31 ∷ 0xC1 ∷ 0x40 ∷ 0xC0 ∷ []) (Ok tt)
+    ∷ case Edition2009 (0x1F ∷ 0xE1 ∷ 0x00 ∷ 0xF0 ∷ 0x06 ∷ 0x04 ∷ 0x04 ∷ 0x11 ∷ 0xC1 ∷ 0x40 ∷ 0xC0 ∷ []) (Err (WrongFlags 0))
+    ∷ case Edition2015 (0x1F ∷ 0xE1 ∷ 0x00 ∷ 0xF0 ∷ 0x06 ∷ 0x04 ∷ 0x04 ∷ 0x08 ∷ 0xC1 ∷ 0x40 ∷ 0xC0 ∷ []) (Ok tt)
+    ∷ case Edition2015 (0x20 ∷ 0xE1 ∷ 0x00 ∷ 0xF0 ∷ 0x06 ∷ 0x04 ∷ 0x04 ∷ 0x79 ∷ 0xC1 ∷ 0x40 ∷ 0xC0 ∷ []) (Err (WrongFlags 0))
+    ∷ case Edition2009 (0x20 ∷ 0xE1 ∷ 0x00 ∷ 0xF0 ∷ 0x06 ∷ 0x04 ∷ 0x04 ∷ 0x79 ∷ 0xC1 ∷ 0x40 ∷ 0xC0 ∷ []) (Ok tt)
     -- 8: an index held by an earlier layer; channel and nuh_layer_id are no index
-    ∷ case Edition2015 (0x1B ∷ 0xE1 ∷ 0x00 ∷ 0xF0 ∷ 0x06 ∷ 0x04 ∷ 0x04 ∷ 0xFF ∷ 0xC0 ∷ 0xFF ∷ 0xC0 ∷ 0x1F ∷ 0xE1 ∷ 0x01 ∷ 0xF0 ∷ 0x06 ∷ 0x04 ∷ 0x04 ∷ 0xF1 ∷ 0xC1 ∷ 0x40 ∷ 0xC0 ∷ 0x1F ∷ 0xE1 ∷ 0x02 ∷ 0xF0 ∷ 0x06 ∷ 0x04 ∷ 0x04 ∷ 0xF2 ∷ 0xC1 ∷ 0x40 ∷ 0xC0 ∷ []) (Refused (RepeatedLayerIndex 2))
-    ∷ case Edition2009 (0x1B ∷ 0xE1 ∷ 0x00 ∷ 0xF0 ∷ 0x06 ∷ 0x04 ∷ 0x04 ∷ 0xFF ∷ 0xC0 ∷ 0xFF ∷ 0xC0 ∷ 0x1F ∷ 0xE1 ∷ 0x01 ∷ 0xF0 ∷ 0x06 ∷ 0x04 ∷ 0x04 ∷ 0xF1 ∷ 0xC1 ∷ 0x40 ∷ 0xC0 ∷ 0x1F ∷ 0xE1 ∷ 0x02 ∷ 0xF0 ∷ 0x06 ∷ 0x04 ∷ 0x04 ∷ 0xF2 ∷ 0xC2 ∷ 0x40 ∷ 0xC0 ∷ []) Accepted
-    ∷ case Edition2015 (0x24 ∷ 0xE1 ∷ 0x00 ∷ 0xF0 ∷ 0x06 ∷ 0x04 ∷ 0x04 ∷ 0xFF ∷ 0xC0 ∷ 0xFF ∷ 0xC0 ∷ 0x28 ∷ 0xE1 ∷ 0x01 ∷ 0xF0 ∷ 0x0A ∷ 0x3F ∷ 0x08 ∷ 0x06 ∷ 0x00 ∷ 0x01 ∷ 0x04 ∷ 0x02 ∷ 0xC1 ∷ 0xC1 ∷ 0xC0 ∷ 0x2A ∷ 0xE1 ∷ 0x02 ∷ 0xF0 ∷ 0x0A ∷ 0x3F ∷ 0x08 ∷ 0x06 ∷ 0x00 ∷ 0x02 ∷ 0x08 ∷ 0x02 ∷ 0xC1 ∷ 0xC1 ∷ 0xC0 ∷ []) Accepted
+    ∷ case Edition2015 (0x1B ∷ 0xE1 ∷ 0x00 ∷ 0xF0 ∷ 0x06 ∷ 0x04 ∷ 0x04 ∷ 0xFF ∷ 0xC0 ∷ 0xFF ∷ 0xC0 ∷ 0x1F ∷ 0xE1 ∷ 0x01 ∷ 0xF0 ∷ 0x06 ∷ 0x04 ∷ 0x04 ∷ 0xF1 ∷ 0xC1 ∷ 0x40 ∷ 0xC0 ∷ 0x1F ∷ 0xE1 ∷ 0x02 ∷ 0xF0 ∷ 0x06 ∷ 0x04 ∷ 0x04 ∷ 0xF2 ∷ 0xC1 ∷ 0x40 ∷ 0xC0 ∷ []) (Err (RepeatedLayerIndex 2))
+    ∷ case Edition2009 (0x1B ∷ 0xE1 ∷ 0x00 ∷ 0xF0 ∷ 0x06 ∷ 0x04 ∷ 0x04 ∷ 0xFF ∷ 0xC0 ∷ 0xFF ∷ 0xC0 ∷ 0x1F ∷ 0xE1 ∷ 0x01 ∷ 0xF0 ∷ 0x06 ∷ 0x04 ∷ 0x04 ∷ 0xF1 ∷ 0xC1 ∷ 0x40 ∷ 0xC0 ∷ 0x1F ∷ 0xE1 ∷ 0x02 ∷ 0xF0 ∷ 0x06 ∷ 0x04 ∷ 0x04 ∷ 0xF2 ∷ 0xC2 ∷ 0x40 ∷ 0xC0 ∷ []) (Ok tt)
+    ∷ case Edition2015 (0x24 ∷ 0xE1 ∷ 0x00 ∷ 0xF0 ∷ 0x06 ∷ 0x04 ∷ 0x04 ∷ 0xFF ∷ 0xC0 ∷ 0xFF ∷ 0xC0 ∷ 0x28 ∷ 0xE1 ∷ 0x01 ∷ 0xF0 ∷ 0x0A ∷ 0x3F ∷ 0x08 ∷ 0x06 ∷ 0x00 ∷ 0x01 ∷ 0x04 ∷ 0x02 ∷ 0xC1 ∷ 0xC1 ∷ 0xC0 ∷ 0x2A ∷ 0xE1 ∷ 0x02 ∷ 0xF0 ∷ 0x0A ∷ 0x3F ∷ 0x08 ∷ 0x06 ∷ 0x00 ∷ 0x02 ∷ 0x08 ∷ 0x02 ∷ 0xC1 ∷ 0xC1 ∷ 0xC0 ∷ []) (Ok tt)
     -- 9: layer 1 on 0 and on 1; a base layer on whatever; an extension that lists a layer twice
-    ∷ case Edition2009 (0x1F ∷ 0xE1 ∷ 0x00 ∷ 0xF0 ∷ 0x06 ∷ 0x04 ∷ 0x04 ∷ 0xF1 ∷ 0xC1 ∷ 0x40 ∷ 0xC0 ∷ []) Accepted
-    ∷ case Edition2009 (0x1F ∷ 0xE1 ∷ 0x00 ∷ 0xF0 ∷ 0x06 ∷ 0x04 ∷ 0x04 ∷ 0xF1 ∷ 0xC1 ∷ 0x41 ∷ 0xC0 ∷ []) (Refused (WrongEmbeddedIndex 0))
-    ∷ case Edition2015 (0x1B ∷ 0xE1 ∷ 0x00 ∷ 0xF0 ∷ 0x06 ∷ 0x04 ∷ 0x04 ∷ 0xFF ∷ 0xC5 ∷ 0x7F ∷ 0xC0 ∷ []) Accepted
-    ∷ case Edition2015 (0x28 ∷ 0xE1 ∷ 0x00 ∷ 0xF0 ∷ 0x0B ∷ 0x3F ∷ 0x09 ∷ 0x06 ∷ 0x00 ∷ 0x01 ∷ 0x0C ∷ 0x02 ∷ 0xC2 ∷ 0xC0 ∷ 0xC1 ∷ 0xC0 ∷ []) Accepted
-    ∷ case Edition2015 (0x28 ∷ 0xE1 ∷ 0x00 ∷ 0xF0 ∷ 0x0B ∷ 0x3F ∷ 0x09 ∷ 0x06 ∷ 0x00 ∷ 0x01 ∷ 0x0C ∷ 0x02 ∷ 0xC2 ∷ 0xC0 ∷ 0xC0 ∷ 0xC0 ∷ []) (Refused (WrongEmbeddedIndex 0))
+    ∷ case Edition2009 (0x1F ∷ 0xE1 ∷ 0x00 ∷ 0xF0 ∷ 0x06 ∷ 0x04 ∷ 0x04 ∷ 0xF1 ∷ 0xC1 ∷ 0x40 ∷ 0xC0 ∷ []) (Ok tt)
+    ∷ case Edition2009 (0x1F ∷ 0xE1 ∷ 0x00 ∷ 0xF0 ∷ 0x06 ∷ 0x04 ∷ 0x04 ∷ 0xF1 ∷ 0xC1 ∷ 0x41 ∷ 0xC0 ∷ []) (Err (WrongEmbeddedIndex 0))
+    ∷ case Edition2015 (0x1B ∷ 0xE1 ∷ 0x00 ∷ 0xF0 ∷ 0x06 ∷ 0x04 ∷ 0x04 ∷ 0xFF ∷ 0xC5 ∷ 0x7F ∷ 0xC0 ∷ []) (Ok tt)
+    ∷ case Edition2015 (0x28 ∷ 0xE1 ∷ 0x00 ∷ 0xF0 ∷ 0x0B ∷ 0x3F ∷ 0x09 ∷ 0x06 ∷ 0x00 ∷ 0x01 ∷ 0x0C ∷ 0x02 ∷ 0xC2 ∷ 0xC0 ∷ 0xC1 ∷ 0xC0 ∷ []) (Ok tt)
+    ∷ case Edition2015 (0x28 ∷ 0xE1 ∷ 0x00 ∷ 0xF0 ∷ 0x0B ∷ 0x3F ∷ 0x09 ∷ 0x06 ∷ 0x00 ∷ 0x01 ∷ 0x0C ∷ 0x02 ∷ 0xC2 ∷ 0xC0 ∷ 0xC0 ∷ 0xC0 ∷ []) (Err (WrongEmbeddedIndex 0))
     -- 8 embedded layers, and 9
-    ∷ case Edition2015 (0x28 ∷ 0xE1 ∷ 0x00 ∷ 0xF0 ∷ 0x11 ∷ 0x3F ∷ 0x0F ∷ 0x06 ∷ 0x00 ∷ 0x01 ∷ 0x20 ∷ 0x02 ∷ 0xC8 ∷ 0xC0 ∷ 0xC0 ∷ 0xC1 ∷ 0xC2 ∷ 0xC3 ∷ 0xC4 ∷ 0xC5 ∷ 0xC6 ∷ 0xC7 ∷ []) Accepted
-    ∷ case Edition2015 (0x28 ∷ 0xE1 ∷ 0x00 ∷ 0xF0 ∷ 0x12 ∷ 0x3F ∷ 0x10 ∷ 0x06 ∷ 0x00 ∷ 0x01 ∷ 0x24 ∷ 0x02 ∷ 0xC9 ∷ 0xC0 ∷ 0xC0 ∷ 0xC1 ∷ 0xC2 ∷ 0xC3 ∷ 0xC4 ∷ 0xC5 ∷ 0xC6 ∷ 0xC7 ∷ 0xC8 ∷ []) Accepted
+    ∷ case Edition2015 (0x28 ∷ 0xE1 ∷ 0x00 ∷ 0xF0 ∷ 0x11 ∷ 0x3F ∷ 0x0F ∷ 0x06 ∷ 0x00 ∷ 0x01 ∷ 0x20 ∷ 0x02 ∷ 0xC8 ∷ 0xC0 ∷ 0xC0 ∷ 0xC1 ∷ 0xC2 ∷ 0xC3 ∷ 0xC4 ∷ 0xC5 ∷ 0xC6 ∷ 0xC7 ∷ []) (Ok tt)
+    ∷ case Edition2015 (0x28 ∷ 0xE1 ∷ 0x00 ∷ 0xF0 ∷ 0x12 ∷ 0x3F ∷ 0x10 ∷ 0x06 ∷ 0x00 ∷ 0x01 ∷ 0x24 ∷ 0x02 ∷ 0xC9 ∷ 0xC0 ∷ 0xC0 ∷ 0xC1 ∷ 0xC2 ∷ 0xC3 ∷ 0xC4 ∷ 0xC5 ∷ 0xC6 ∷ 0xC7 ∷ 0xC8 ∷ []) (Ok tt)
     -- 12, 62 and 63 of them; one of 63 listed twice; 63 counted where 62 are listed, and 62 counted where 63 are
-    ∷ case Edition2015 (layer63 12 (first 12)) Accepted
-    ∷ case Edition2015 (layer63 62 (first 62)) Accepted
-    ∷ case Edition2015 (layer63 63 (first 63)) Accepted
-    ∷ case Edition2009 (layer63 63 (first 63)) Accepted
-    ∷ case Edition2015 (layer63 63 (first 62 ++ 61 ∷ [])) (Refused (WrongEmbeddedIndex 0))
-    ∷ case Edition2015 (layer63 63 (first 62)) (Refused (WrongLength 0))
-    ∷ case Edition2015 (layer63 62 (first 63)) (Refused (WrongLength 0))
+    ∷ case Edition2015 (layer63 12 (first 12)) (Ok tt)
+    ∷ case Edition2015 (layer63 62 (first 62)) (Ok tt)
+    ∷ case Edition2015 (layer63 63 (first 63)) (Ok tt)
+    ∷ case Edition2009 (layer63 63 (first 63)) (Ok tt)
+    ∷ case Edition2015 (layer63 63 (first 62 ++ 61 ∷ [])) (Err (WrongEmbeddedIndex 0))
+    ∷ case Edition2015 (layer63 63 (first 62)) (Err (WrongLength 0))
+    ∷ case Edition2015 (layer63 62 (first 63)) (Err (WrongLength 0))
     -- two views and no hierarchy descriptor, beside an HEVC base of index 0: 8 at the later entry, whichever is implied; none in 2009, or with a second MVC
-    ∷ case Edition2015 (hevc_base ++ avc_view ++ mvc_view) (Refused (RepeatedLayerIndex 1))
-    ∷ case Edition2015 (avc_view ++ hevc_base ++ mvc_view) (Refused (RepeatedLayerIndex 1))
-    ∷ case Edition2015 (avc_view ++ mvc_view ++ hevc_base) (Refused (RepeatedLayerIndex 2))
-    ∷ case Edition2015 (mvc_view ++ hevc_base ++ avc_view) (Refused (RepeatedLayerIndex 2))
-    ∷ case Edition2009 (hevc_base ++ avc_view ++ mvc_view) Accepted
-    ∷ case Edition2015 (hevc_base ++ avc_view ++ mvc_view ++ (0x20 ∷ 0xE1 ∷ 0x25 ∷ 0xF0 ∷ 0x00 ∷ [])) Accepted
+    ∷ case Edition2015 (hevc_base ++ avc_view ++ mvc_view) (Err (RepeatedLayerIndex 1))
+    ∷ case Edition2015 (avc_view ++ hevc_base ++ mvc_view) (Err (RepeatedLayerIndex 1))
+    ∷ case Edition2015 (avc_view ++ mvc_view ++ hevc_base) (Err (RepeatedLayerIndex 2))
+    ∷ case Edition2015 (mvc_view ++ hevc_base ++ avc_view) (Err (RepeatedLayerIndex 2))
+    ∷ case Edition2009 (hevc_base ++ avc_view ++ mvc_view) (Ok tt)
+    ∷ case Edition2015 (hevc_base ++ avc_view ++ mvc_view ++ (0x20 ∷ 0xE1 ∷ 0x25 ∷ 0xF0 ∷ 0x00 ∷ [])) (Ok tt)
     -- beside a layer of index 1, in both readings; of index 2, which rests on 1
-    ∷ case Edition2009 (svc_layer 1 0 ++ avc_view ++ mvc_view) (Refused (RepeatedLayerIndex 2))
-    ∷ case Edition2015 (mvc_view ++ svc_layer 1 0 ++ avc_view) (Refused (RepeatedLayerIndex 1))
-    ∷ case Edition2009 (avc_view ++ mvc_view ++ svc_layer 2 1) Accepted
+    ∷ case Edition2009 (svc_layer 1 0 ++ avc_view ++ mvc_view) (Err (RepeatedLayerIndex 2))
+    ∷ case Edition2015 (mvc_view ++ svc_layer 1 0 ++ avc_view) (Err (RepeatedLayerIndex 1))
+    ∷ case Edition2009 (avc_view ++ mvc_view ++ svc_layer 2 1) (Ok tt)
     -- an extension on one of them
-    ∷ case Edition2009 (avc_view ++ extended_view) Accepted
-    ∷ case Edition2015 (avc_view ++ extended_view) (Refused (TypeNotAllowed 1))
+    ∷ case Edition2009 (avc_view ++ extended_view) (Ok tt)
+    ∷ case Edition2015 (avc_view ++ extended_view) (Err (TypeNotAllowed 1))
     ∷ []
 
 -- A loop in which every field differs from every other:
@@ -264,49 +262,49 @@ write entries count room written = record { entries = entries; count = count; ro
 abbrev pub writes : List Write
 writes =
     -- 25: a PID of 8191 and 8192; hierarchy_type 16; an index of 64
-    write (plain_entry 8191 ∷ []) 1 5 (Written.Bytes 5)
-    ∷ write (plain_entry 8192 ∷ []) 1 5 (Written.Refused TooWide)
-    ∷ write (layer 27 300 16 true 9 7 ∷ []) 1 11 (Written.Refused TooWide)
-    ∷ write (layer 27 300 1 true 64 7 ∷ []) 1 11 (Written.Refused TooWide)
+    write (plain_entry 8191 ∷ []) 1 5 (Ok 5)
+    ∷ write (plain_entry 8192 ∷ []) 1 5 (Err TooWide)
+    ∷ write (layer 27 300 16 true 9 7 ∷ []) 1 11 (Err TooWide)
+    ∷ write (layer 27 300 1 true 64 7 ∷ []) 1 11 (Err TooWide)
     -- 1: 202 entries; 201 of one PID are 1,005 bytes: 3
-    ∷ write (replicate 201 (plain_entry 300)) 202 2000 (Written.Refused LoopTooLong)
-    ∷ write (replicate 201 (plain_entry 300)) 201 2000 (Written.Refused (RepeatedPid 1))
+    ∷ write (replicate 201 (plain_entry 300)) 202 2000 (Err LoopTooLong)
+    ∷ write (replicate 201 (plain_entry 300)) 201 2000 (Err (RepeatedPid 1))
     -- 3: the same PID, and another
-    ∷ write (plain_entry 300 ∷ plain_entry 300 ∷ []) 2 10 (Written.Refused (RepeatedPid 1))
-    ∷ write (plain_entry 300 ∷ plain_entry 301 ∷ []) 2 10 (Written.Bytes 10)
+    ∷ write (plain_entry 300 ∷ plain_entry 300 ∷ []) 2 10 (Err (RepeatedPid 1))
+    ∷ write (plain_entry 300 ∷ plain_entry 301 ∷ []) 2 10 (Ok 10)
     -- 6: type 9 on 0x1B; a record on a type that is not known; type 1 on 0x1F
-    ∷ write (layer 27 300 9 true 9 7 ∷ []) 1 11 (Written.Refused (TypeNotAllowed 0))
-    ∷ write (layer 44 300 1 true 9 7 ∷ []) 1 11 (Written.Refused (TypeNotAllowed 0))
-    ∷ write (layer 31 300 1 true 9 7 ∷ []) 1 11 (Written.Bytes 11)
+    ∷ write (layer 27 300 9 true 9 7 ∷ []) 1 11 (Err (TypeNotAllowed 0))
+    ∷ write (layer 44 300 1 true 9 7 ∷ []) 1 11 (Err (TypeNotAllowed 0))
+    ∷ write (layer 31 300 1 true 9 7 ∷ []) 1 11 (Ok 11)
     -- 6: the marks of two views, right; each of them missing; on another stream; of a view alone, and of one beside a view with a descriptor
-    ∷ write (sports_entries Implied NoRecord Implied) 3 15 (Written.Bytes 15)
-    ∷ write (sports_entries NoRecord NoRecord NoRecord) 3 15 (Written.Refused (TypeNotAllowed 0))
-    ∷ write (sports_entries NoRecord NoRecord Implied) 3 15 (Written.Refused (TypeNotAllowed 0))
-    ∷ write (sports_entries Implied NoRecord NoRecord) 3 15 (Written.Refused (TypeNotAllowed 2))
-    ∷ write (sports_entries Implied Implied Implied) 3 15 (Written.Refused (TypeNotAllowed 1))
-    ∷ write (sports_entries Implied NoRecord Implied) 1 15 (Written.Refused (TypeNotAllowed 0))
-    ∷ write (sports_entries NoRecord NoRecord Implied) 2 15 (Written.Bytes 10)
-    ∷ write (layer 27 300 15 true 0 63 ∷ undescribed 32 289 Implied ∷ []) 2 16 (Written.Refused (TypeNotAllowed 1))
-    ∷ write (layer 27 300 15 true 0 63 ∷ undescribed 32 289 NoRecord ∷ []) 2 16 (Written.Bytes 16)
+    ∷ write (sports_entries Implied NoRecord Implied) 3 15 (Ok 15)
+    ∷ write (sports_entries NoRecord NoRecord NoRecord) 3 15 (Err (TypeNotAllowed 0))
+    ∷ write (sports_entries NoRecord NoRecord Implied) 3 15 (Err (TypeNotAllowed 0))
+    ∷ write (sports_entries Implied NoRecord NoRecord) 3 15 (Err (TypeNotAllowed 2))
+    ∷ write (sports_entries Implied Implied Implied) 3 15 (Err (TypeNotAllowed 1))
+    ∷ write (sports_entries Implied NoRecord Implied) 1 15 (Err (TypeNotAllowed 0))
+    ∷ write (sports_entries NoRecord NoRecord Implied) 2 15 (Ok 10)
+    ∷ write (layer 27 300 15 true 0 63 ∷ undescribed 32 289 Implied ∷ []) 2 16 (Err (TypeNotAllowed 1))
+    ∷ write (layer 27 300 15 true 0 63 ∷ undescribed 32 289 NoRecord ∷ []) 2 16 (Ok 16)
     -- 7: a second flag at 0
-    ∷ write (layer 31 300 1 false 9 7 ∷ []) 1 11 (Written.Refused (WrongFlags 0))
+    ∷ write (layer 31 300 1 false 9 7 ∷ []) 1 11 (Err (WrongFlags 0))
     -- 8: the same index
-    ∷ write (layer 31 300 1 true 9 7 ∷ layer 31 301 1 true 9 7 ∷ []) 2 22 (Written.Refused (RepeatedLayerIndex 1))
-    ∷ write (layer 31 300 1 true 9 7 ∷ layer 31 301 1 true 10 7 ∷ []) 2 22 (Written.Bytes 22)
+    ∷ write (layer 31 300 1 true 9 7 ∷ layer 31 301 1 true 9 7 ∷ []) 2 22 (Err (RepeatedLayerIndex 1))
+    ∷ write (layer 31 300 1 true 9 7 ∷ layer 31 301 1 true 10 7 ∷ []) 2 22 (Ok 22)
     -- 8: an index of two views, at the later entry
-    ∷ write (layer 31 300 1 true 1 0 ∷ sports_entries Implied NoRecord Implied) 4 26 (Written.Refused (RepeatedLayerIndex 3))
-    ∷ write (sports_entries Implied NoRecord Implied ++ layer 31 300 1 true 1 0 ∷ []) 4 26 (Written.Refused (RepeatedLayerIndex 3))
-    ∷ write (sports_entries Implied NoRecord Implied ++ layer 31 300 1 true 2 1 ∷ []) 4 26 (Written.Bytes 26)
+    ∷ write (layer 31 300 1 true 1 0 ∷ sports_entries Implied NoRecord Implied) 4 26 (Err (RepeatedLayerIndex 3))
+    ∷ write (sports_entries Implied NoRecord Implied ++ layer 31 300 1 true 1 0 ∷ []) 4 26 (Err (RepeatedLayerIndex 3))
+    ∷ write (sports_entries Implied NoRecord Implied ++ layer 31 300 1 true 2 1 ∷ []) 4 26 (Ok 26)
     -- 9: on itself
-    ∷ write (layer 31 300 1 true 9 9 ∷ []) 1 11 (Written.Refused (WrongEmbeddedIndex 0))
+    ∷ write (layer 31 300 1 true 9 9 ∷ []) 1 11 (Err (WrongEmbeddedIndex 0))
     -- on 8 layers, on 9 and on 63; 25: on 64
-    ∷ write (on_many 8 ∷ []) 1 22 (Written.Bytes 22)
-    ∷ write (on_many 9 ∷ []) 1 23 (Written.Bytes 23)
-    ∷ write (on_many 63 ∷ []) 1 77 (Written.Bytes 77)
-    ∷ write (on_many 63 ∷ []) 1 76 (Written.Refused NoRoom)
-    ∷ write (on_many 64 ∷ []) 1 78 (Written.Refused TooWide)
+    ∷ write (on_many 8 ∷ []) 1 22 (Ok 22)
+    ∷ write (on_many 9 ∷ []) 1 23 (Ok 23)
+    ∷ write (on_many 63 ∷ []) 1 77 (Ok 77)
+    ∷ write (on_many 63 ∷ []) 1 76 (Err NoRoom)
+    ∷ write (on_many 64 ∷ []) 1 78 (Err TooWide)
     -- 17: one place too few
-    ∷ write (plain_entry 300 ∷ []) 1 4 (Written.Refused NoRoom)
+    ∷ write (plain_entry 300 ∷ []) 1 4 (Err NoRoom)
     ∷ []
 
 -- a base layer of index 0, on PID 256
@@ -317,18 +315,18 @@ pub record LoopsPinned : Type 0 where
   pub outcomes : map (λ (c : Case). (loop_read c.reading c.bytes).outcome) loops ≡ map (λ (c : Case). c.outcome) loops
   pub read : take 3 (loop_read Edition2015 distinct).entries ≡ distinct_entries
   pub answers : map (λ (w : Write). answer w.room w.count w.entries) writes ≡ map (λ (w : Write). w.written) writes
-  pub written : (answer 38 3 distinct_entries ≡ Written.Bytes 38) × (content 3 distinct_entries (replicate 40 5) ≡ distinct ++ 5 ∷ 5 ∷ [])
-  pub closures : (loop_closure Edition2015 distinct 12 ≡ Complete 0b1001010000000) × (loop_closure Edition2009 distinct 9 ≡ Complete 0b1010000000)
+  pub written : (answer 38 3 distinct_entries ≡ Ok 38) × (content 3 distinct_entries (replicate 40 5) ≡ distinct ++ 5 ∷ 5 ∷ [])
+  pub closures : (loop_closure Edition2015 distinct 12 ≡ Ok 0b1001010000000) × (loop_closure Edition2009 distinct 9 ≡ Ok 0b1010000000)
   -- layer 63 on the 63 others, none of which is in the loop
   pub long_list_read : take 1 (loop_read Edition2015 on_all).entries ≡ on_many 63 ∷ []
   pub long_list_written : content 1 (on_many 63 ∷ []) (replicate 78 5) ≡ on_all ++ 5 ∷ []
-  pub long_list_absent : loop_closure Edition2015 on_all 63 ≡ NoClosure (EmbeddedLayerAbsent (record { 0 = 0 }))
+  pub long_list_absent : loop_closure Edition2015 on_all 63 ≡ Err (EmbeddedLayerAbsent (record { 0 = 0 }))
   -- two views and no hierarchy descriptor
   pub views_read : (take 3 (loop_read Edition2015 sports).entries ≡ sports_entries Implied NoRecord Implied)
       × (take 3 (loop_read Edition2009 sports).entries ≡ sports_entries Implied NoRecord Implied)
   pub views_written : content 3 (sports_entries Implied NoRecord Implied) (replicate 16 5) ≡ sports ++ 5 ∷ []
-  pub views_closures : (loop_closure Edition2009 sports 0 ≡ Complete 0b1) × (loop_closure Edition2015 sports 1 ≡ Complete 0b11)
-      × (loop_closure Edition2015 (mvc_view ++ avc_view ++ svc_layer 2 1) 2 ≡ Complete 0b111)
+  pub views_closures : (loop_closure Edition2009 sports 0 ≡ Ok 0b1) × (loop_closure Edition2015 sports 1 ≡ Ok 0b11)
+      × (loop_closure Edition2015 (mvc_view ++ avc_view ++ svc_layer 2 1) 2 ≡ Ok 0b111)
   pub views_listed : loop_text Edition2015 (mvc_view ++ avc_view)
       ≡ ascii "accepted 2\nlayer 0 pid 288 type 27 channel 0 closure 0\nlayer 1 pid 289 type 32 channel 0 closure 0 1\n"
   pub listed : loop_text Edition2015 distinct

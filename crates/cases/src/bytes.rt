@@ -1,7 +1,7 @@
 // Bytes out of words, each after one blank or more: HH, a byte as two hexadecimal digits, or HH*N, that byte N times, N in decimal.
-ghost use Rattle.std.specs.Prelude.{◌≡◌, ◌≤◌, replicate};
+ghost use Rattle.std.specs.Prelude.{◌≡◌, ◌≤◌, replicate, IfSome};
 
-use super::first_part;
+use super::words;
 
 // Room for the bytes of a case. What goes beyond it is not kept.
 pub fn empty_room() -> [u8; 2048]
@@ -10,116 +10,75 @@ pub fn empty_room() -> [u8; 2048]
     [0; 2048]
 }
 
-// What the words of a case are: whether each has the form that it should, and how many bytes they make.
-#[derive(Clone, Copy)]
-pub struct Found {
-    pub readable: bool,
-    pub count: usize,
-}
-
 // What one word says: a byte so many times.
 #[derive(Clone, Copy)]
-enum Word {
-    Run { byte: u8, times: usize },
-    Unreadable,
+struct Run {
+    byte: u8,
+    times: usize,
 }
 
-// The value of a hexadecimal digit, and 16 of any other character.
-fn digit(character: u8) -> u8
-    ensures { result ≤ 16 }
+// The value of a hexadecimal digit. Small letters are none, though `to_digit` takes them.
+fn digit(character: u8) -> Option<u8>
+    ensures { IfSome result (λ value. value ≤ 15) }
 {
     match character {
-        b'0'..=b'9' => character - b'0',
-        b'A'..=b'F' => character - b'A' + 10,
-        _ => 16,
+        b'0'..=b'9' => Some(character - b'0'),
+        b'A'..=b'F' => Some(character - b'A' + 10),
+        _ => None,
     }
 }
 
-fn run_of(byte: u8, decimal: &[u8]) -> Word {
+fn byte_of(high: u8, low: u8) -> Option<u8> {
+    Some(digit(high)? * 16 + digit(low)?)
+}
+
+// A number of at most five digits, which `parse` would not hold it to: no digit at all is 0, and a sign is none.
+fn times_of(decimal: &[u8]) -> Option<usize> {
     let mut times = 0;
-    let mut i = 0;
-    while i < decimal.len() {
-        let value = digit(decimal[i]) as usize;
-        if 9 < value {
-            return Word::Unreadable;
-        }
+    for character in decimal {
+        let value = (*character as char).to_digit(10)?;
         if 9999 < times {
-            return Word::Unreadable;
+            return None;
         }
-        times = times * 10 + value;
-        i += 1;
+        times = times * 10 + value as usize;
     }
-    Word::Run { byte, times }
+    Some(times)
 }
 
-fn read_word(word: &[u8]) -> Word {
-    if word.len() == 0 {
-        return Word::Run { byte: 0, times: 0 };
+// No run where the word has neither form. Between two blanks stands a word of nothing, which is no byte.
+fn read_word(word: &[u8]) -> Option<Run> {
+    match word {
+        [] => Some(Run { byte: 0, times: 0 }),
+        [high, low] => Some(Run {
+            byte: byte_of(*high, *low)?,
+            times: 1,
+        }),
+        [high, low, b'*', decimal @ ..] => Some(Run {
+            byte: byte_of(*high, *low)?,
+            times: times_of(decimal)?,
+        }),
+        _ => None,
     }
-    if word.len() == 1 {
-        return Word::Unreadable;
-    }
-    let high = digit(word[0]);
-    let low = digit(word[1]);
-    if 15 < high {
-        return Word::Unreadable;
-    }
-    if 15 < low {
-        return Word::Unreadable;
-    }
-    let byte = high * 16 + low;
-    if word.len() == 2 {
-        return Word::Run { byte, times: 1 };
-    }
-    if word[2] != b'*' {
-        return Word::Unreadable;
-    }
-    run_of(byte, &word[3..])
 }
 
-// Puts a byte so many times after the first `from`, and answers how many there are then.
-fn put(byte: u8, times: usize, from: usize, room: &mut [u8; 2048]) -> usize
+// Puts a run after the first `from` bytes, and answers how many there are then.
+fn put(run: Run, from: usize, room: &mut [u8; 2048]) -> usize
     requires { from ≤ 2048 }
     ensures { result ≤ 2048 }
 {
-    let mut count = from;
-    let mut left = times;
-    while 0 < left {
-        if 2048 <= count {
-            return count;
-        }
-        room[count] = byte;
-        count += 1;
-        left -= 1;
-    }
-    count
+    let end = from + run.times.min(2048 - from);
+    room[from..end].fill(run.byte);
+    end
 }
 
-// Puts the bytes of all words at the start of the room.
-pub fn read_bytes(words: &[u8], room: &mut [u8; 2048]) -> Found
-    ensures { result.count ≤ 2048 }
+// Puts the bytes of all words at the start of the room, and answers how many they are, or that a word has not the form that it should.
+pub fn read_bytes(text: &[u8], room: &mut [u8; 2048]) -> Option<usize>
+    ensures { IfSome result (λ count. count ≤ 2048) }
 {
     let mut count = 0;
-    let mut at = 0;
-    while at < words.len() {
-        let rest = &words[at..];
-        let word = first_part(b' ', rest);
-        let size = word.size;
-        match read_word(&rest[..size]) {
-            Word::Run { byte, times } => {
-                count = put(byte, times, count, room);
-            }
-            Word::Unreadable => {
-                return Found {
-                    readable: false,
-                    count: 0,
-                };
-            }
-        }
-        at += word.step;
+    for word in words(text) {
+        let run = read_word(word)?;
+        count = put(run, count, room);
     }
-    Found {
-        readable: true,
-        count,
-    }
+    Some(count)
 }

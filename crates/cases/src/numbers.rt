@@ -3,7 +3,7 @@ ghost use Rattle.std.specs.Prelude.{◌≡◌, ◌≤◌};
 ghost use Rattle.cases.specs.Numbers.{is_digit, digit_of, with_character, numbers_of, number_or};
 
 // The numbers of a word: `last` is the place of the last one in the list. A `last` above 7 is of a word that has more than eight
-// numbers, or one that is too large.
+// numbers, or one that is too large. No Option: the definition `numbers_of` and the edit `ninth_number_kept` hold the two fields.
 #[derive(Clone, Copy)]
 pub struct Numbers {
     pub last: usize,
@@ -13,20 +13,7 @@ pub struct Numbers {
 pub fn is_digit(character: u8) -> bool
     ensures { result ≡ is_digit character }
 {
-    match character {
-        b'0'..=b'9' => true,
-        _ => false,
-    }
-}
-
-// The value of a decimal digit, and 0 of any other character.
-fn digit(character: u8) -> u64
-    ensures { (result ≡ digit_of character) × (result ≤ 9) }
-{
-    match character {
-        b'0'..=b'9' => (character - b'0') as u64,
-        _ => 0,
-    }
+    character.is_ascii_digit()
 }
 
 // The numbers with one more digit in the last, or with one more number where the character is no digit.
@@ -38,17 +25,17 @@ fn with_character(numbers: Numbers, character: u8) -> Numbers
     if 7 < last {
         return Numbers { last: 8, list };
     }
-    if !is_digit(character) {
+    let Some(digit) = (character as char).to_digit(10) else {
         return Numbers {
             last: last + 1,
             list,
         };
-    }
+    };
     let value = list[last];
     if 1844674407370955160 < value {
         return Numbers { last: 8, list };
     }
-    list[last] = value * 10 + digit(character);
+    list[last] = value * 10 + u64::from(digit);
     Numbers { last, list }
 }
 
@@ -59,10 +46,8 @@ pub fn numbers_of(word: &[u8]) -> Numbers
         last: 0,
         list: [0; 8],
     };
-    let mut i = 0;
-    while i < word.len() {
-        numbers = with_character(numbers, word[i]);
-        i += 1;
+    for character in word {
+        numbers = with_character(numbers, *character);
     }
     numbers
 }
@@ -74,8 +59,5 @@ pub fn number_or(numbers: Numbers, place: usize, other: u64) -> u64
     if numbers.last < place {
         return other;
     }
-    if 7 < place {
-        return other;
-    }
-    numbers.list[place]
+    numbers.list.get(place).copied().unwrap_or(other)
 }

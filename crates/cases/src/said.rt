@@ -1,9 +1,9 @@
 // What is told, whatever the cases mean. A write that fails is answered, when some of the text may have been written.
-ghost use Rattle.std.specs.Prelude.{◌++◌, ◌∷◌, [], OnOk};
-ghost use Rattle.std.specs.Fmt.{decimal};
+ghost use Rattle.std.specs.Prelude.{◌++◌, ◌∷◌, [], OnOk, IfSome};
 ghost use Rattle.std.specs.Io.KnownBytes.{Appends};
 ghost use lib.Chars.{codes};
 
+use std::fmt::Display;
 use std::io::{Result, Write};
 
 pub fn say<W: Write>(out: &mut W, text: &[u8]) -> Result<()>
@@ -12,8 +12,9 @@ pub fn say<W: Write>(out: &mut W, text: &[u8]) -> Result<()>
     out.write_all(text)
 }
 
-pub fn say_number<W: Write>(out: &mut W, name: &[u8], value: u64) -> Result<()>
-    ensures { OnOk result (Appends (W.contents out.old) (W.contents out.new) (name.now ++ decimal value)) }
+// A name and a value as it prints: of a number its decimal digits.
+pub fn say_number<W: Write, N: Display + Copy>(out: &mut W, name: &[u8], value: N) -> Result<()>
+    ensures { OnOk result (IfSome (N.output value) (λ digits. Appends (W.contents out.old) (W.contents out.new) (name.now ++ digits))) }
 {
     say(out, name)?;
     write!(out, "{value}")

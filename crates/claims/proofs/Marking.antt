@@ -55,25 +55,6 @@ module _ (t : Table) (layer : ℕ) (rising : Rising t layer) where
           let same = eqb-true k (row_at t layer time) e in
           rw same ((seek_first (sought time) (rows_in t)).found (omega (arith, h)))
 
--- ---- marks taken away
-
-module _ (before : List Bool) where
-  pub clear_start : Stands 0 (λ _. false) before before
-  clear_start = record { as_long = refl; at = λ k h. absurd (omega arith); beyond = λ k h. refl }
-
-  pub clear_more : (at : ℕ) (marks : List Bool) → Stands at (λ _. false) before marks → at < length before
-      → Stands (at + 1) (λ _. false) before (set marks at false)
-  clear_more at marks known inside =
-      record {
-        as_long = length-set marks at false ∙ known.as_long;
-        at = λ k h. go k h (ℕ_discrete k at);
-        beyond = λ k h. get_or-set_other marks at k false false (omega arith) ∙ known.beyond k (omega arith);
-      }
-    where
-      go : (k : ℕ) → k < at + 1 → Dec (k ≡ at) → get_or (set marks at false) k false ≡ false
-      go k h (yes e) = rw e (get_or-set_same marks at false false (omega (arith, known.as_long)))
-      go k h (no e) = get_or-set_other marks at k false false e ∙ known.at k (omega arith)
-
 -- ---- one mark
 
 module _ (count row : ℕ) (marks : List Bool) where

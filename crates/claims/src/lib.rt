@@ -16,11 +16,7 @@ pub fn clear(marks: &mut [bool], count: usize)
     requires { count ≤ length marks.old }
     ensures { Stands count (λ _. false) marks.old marks.new }
 {
-    let mut at = 0;
-    while at < count {
-        marks[at] = false;
-        at += 1;
-    }
+    marks[..count].fill(false);
 }
 
 // Marks a row, where it is one of the first `count`.
@@ -52,7 +48,7 @@ fn mark_timed(
 {
     let mut left = layers;
     while left != 0 {
-        let layer = sets::lowest(left) as usize;
+        let layer = usize::from(sets::lowest(left));
         let row = row_at(indices, decodings, starts, order, layer, time, next);
         mark(marks, indices.len(), row);
         left = sets::rest(left);
@@ -79,9 +75,8 @@ pub fn mark_claimed(
 {
     clear(claimed, indices.len());
     let mut next = [0usize; 64];
-    let mut row = 0;
-    while row < indices.len() {
-        let layer = indices[row] as usize;
+    for (row, &index) in indices.iter().enumerate() {
+        let layer = usize::from(index);
         mark_timed(
             indices,
             decodings,
@@ -92,6 +87,5 @@ pub fn mark_claimed(
             &mut next,
             claimed,
         );
-        row += 1;
     }
 }

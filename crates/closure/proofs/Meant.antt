@@ -1,5 +1,6 @@
 -- What Closures computes is what Meaning says, and nothing else is: `closure_meant` and `closure_only`.
 -- Assumes nothing.
+use Rattle.std.specs.Prelude.{Err, Ok}
 use Prim.Native.Nat.{ℕ, ◌^◌, ◌≤◌, ◌<◌}
 use mathlib.Core.Bool.{Bool, true, false, not, ◌&&◌, true≢false}
 use mathlib.Core.Logic.{◌↔◌}
@@ -17,8 +18,7 @@ use Rattle.sets.proofs.Laws.{same_members, has_within}
 use Rattle.vocabulary.specs.declared.LayerIndex.{LayerIndex}
 use Rattle.vocabulary.specs.declared.refusal.Refusal.TheVariants.{NoSuchLayer, EmbeddedLayerAbsent}
 use Rattle.closure.specs.declared.Layers.{Layers}
-use Rattle.closure.specs.declared.Closure.{Closure}
-use Rattle.closure.specs.declared.Closure.TheVariants.{Complete, Refused}
+use Rattle.closure.specs.Answer.{Closure}
 use Rattle.closure.specs.Closures.{is_layer, rested_on, lacks, closure_of}
 use Rattle.closure.specs.Meaning.{Names, RestsOn, itself, by, Missing, LowestMissing, WholeClosure, Answers, no_such_layer, absent, complete}
 use Rattle.closure.proofs.Reached.{layer_below_64, member_rests_on, rests_on_member, rests_on_at_most}
@@ -100,15 +100,15 @@ module _ (layers : Layers) where
           subst (Answers layers target) (none_missing layers target (rested_on layers target) here refl s)
           (complete here (record { members = λ j. (member_rests_on layers target j, rests_on_member layers target j); in_loop = all_in_loop s }))
 
-      only_absent : (index : LayerIndex) → LowestMissing layers target index.0 → Refused (EmbeddedLayerAbsent index) ≡ closure_of layers target
+      only_absent : (index : LayerIndex) → LowestMissing layers target index.0 → Err (EmbeddedLayerAbsent index) ≡ closure_of layers target
       only_absent index m =
           one_missing layers target (rested_on layers target) here refl index.0
           (some_at (missing_at layers target) 64 index.0 (below_64 index.0 m.missing.rested_on) (missing_lacks index.0 m.missing))
           (lowest_is_first index.0 m)
 
-      only_complete : (set : ℕ) → WholeClosure layers target set → Complete set ≡ closure_of layers target
+      only_complete : (set : ℕ) → WholeClosure layers target set → Ok set ≡ closure_of layers target
       only_complete set w =
-          ap Complete (same_members set (rested_on layers target) (λ j. same_test (has set j) (has (rested_on layers target) j)
+          ap Ok (same_members set (rested_on layers target) (λ j. same_test (has set j) (has (rested_on layers target) j)
           (λ m. rests_on_member layers target j ((w.members j).0 m)) (λ m. (w.members j).1 (member_rests_on layers target j m))))
           ∙ none_missing layers target (rested_on layers target) here refl (no_missing w.in_loop)
 
@@ -136,23 +136,23 @@ module _ (layers : Layers) where
     meant : (answer : Closure) → closure_of layers target ≡ answer → Answers layers target answer
     meant answer e = subst (Answers layers target) e (closure_meant target)
 
-    pub given_11 : (closure_of layers target ≡ Refused NoSuchLayer) ↔ (is_layer layers target ≡ false)
-    given_11 = (λ e. go (meant (Refused NoSuchLayer) e), λ h. sym (closure_only target (no_such_layer h)))
+    pub given_11 : (closure_of layers target ≡ Err NoSuchLayer) ↔ (is_layer layers target ≡ false)
+    given_11 = (λ e. go (meant (Err NoSuchLayer) e), λ h. sym (closure_only target (no_such_layer h)))
       where
-        go : Answers layers target (Refused NoSuchLayer) → is_layer layers target ≡ false
+        go : Answers layers target (Err NoSuchLayer) → is_layer layers target ≡ false
         go (no_such_layer h) = h
 
     pub given_12 : (index : LayerIndex)
-        → (closure_of layers target ≡ Refused (EmbeddedLayerAbsent index)) ↔ ((is_layer layers target ≡ true) × LowestMissing layers target index.0)
-    given_12 index = (λ e. go (meant (Refused (EmbeddedLayerAbsent index)) e), λ w. sym (closure_only target (absent w.0 w.1)))
+        → (closure_of layers target ≡ Err (EmbeddedLayerAbsent index)) ↔ ((is_layer layers target ≡ true) × LowestMissing layers target index.0)
+    given_12 index = (λ e. go (meant (Err (EmbeddedLayerAbsent index)) e), λ w. sym (closure_only target (absent w.0 w.1)))
       where
-        go : Answers layers target (Refused (EmbeddedLayerAbsent index)) → (is_layer layers target ≡ true) × LowestMissing layers target index.0
+        go : Answers layers target (Err (EmbeddedLayerAbsent index)) → (is_layer layers target ≡ true) × LowestMissing layers target index.0
         go (absent here m) = (here, m)
 
-    pub given_complete : (set : ℕ) → (closure_of layers target ≡ Complete set) ↔ ((is_layer layers target ≡ true) × WholeClosure layers target set)
-    given_complete set = (λ e. go (meant (Complete set) e), λ w. sym (closure_only target (complete w.0 w.1)))
+    pub given_complete : (set : ℕ) → (closure_of layers target ≡ Ok set) ↔ ((is_layer layers target ≡ true) × WholeClosure layers target set)
+    given_complete set = (λ e. go (meant (Ok set) e), λ w. sym (closure_only target (complete w.0 w.1)))
       where
-        go : Answers layers target (Complete set) → (is_layer layers target ≡ true) × WholeClosure layers target set
+        go : Answers layers target (Ok set) → (is_layer layers target ≡ true) × WholeClosure layers target set
         go (complete here w) = (here, w)
 
     -- What is missing is named by some layer of the closure.

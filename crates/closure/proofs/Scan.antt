@@ -1,5 +1,6 @@
 -- The scan as the code does it: one index less at each turn, and the two ways of a turn.
 -- Assumes nothing.
+use Rattle.std.specs.Prelude.{Err, Ok}
 use Prim.Native.Nat.{ℕ, zero, suc, ◌+◌, ◌-◌, ◌*◌, ◌%◌, ◌^◌, ◌≤◌, ◌<◌}
 use mathlib.Core.Bool.{Bool, true, false, not, cond, ◌&&◌}
 use mathlib.Core.Path.{◌≡◌, refl, sym, ap, ap₂, ◌∙◌, subst}
@@ -14,7 +15,6 @@ use Rattle.sets.specs.Sets.{has, joined, without, below, lowest}
 use Rattle.sets.proofs.Laws.{one_shifted, has_none, has_within, has_without, lowest_member, without_within}
 use Rattle.vocabulary.specs.declared.refusal.Refusal.TheVariants.{NoSuchLayer, EmbeddedLayerAbsent}
 use Rattle.closure.specs.declared.Layers.{Layers}
-use Rattle.closure.specs.declared.Closure.TheVariants.{Complete, Refused}
 use Rattle.closure.specs.Closures.{is_layer, named_by, named, following, followed_below, rested_on, lacks, answer_for, closure_of}
 
 -- an index below 64 is a layer's when its bit is 1
@@ -70,22 +70,22 @@ module _ (layers : Layers) (target : ℕ) where
       → answer_for layers here set ≡ closure_of layers target
   answer_for_lem here set h e = ap₂ (answer_for layers) (sym h) e
 
-  pub no_layer_lem : is_layer layers target ≡ false → Refused NoSuchLayer ≡ closure_of layers target
+  pub no_layer_lem : is_layer layers target ≡ false → Err NoSuchLayer ≡ closure_of layers target
   no_layer_lem h = answer_for_lem false (rested_on layers target) h refl
 
   module _ (set : ℕ) (here : is_layer layers target ≡ true) (rests : set ≡ rested_on layers target) where
     answer : (b : Bool) → some (lacks layers set) 64 ≡ b
-        → cond b (Refused (EmbeddedLayerAbsent (record { 0 = seek (lacks layers set) 64 }))) (Complete set) ≡ closure_of layers target
+        → cond b (Err (EmbeddedLayerAbsent (record { 0 = seek (lacks layers set) 64 }))) (Ok set) ≡ closure_of layers target
     answer b e =
-        ap (λ (x : Bool). cond x (Refused (EmbeddedLayerAbsent (record { 0 = seek (lacks layers set) 64 }))) (Complete set)) (sym e)
+        ap (λ (x : Bool). cond x (Err (EmbeddedLayerAbsent (record { 0 = seek (lacks layers set) 64 }))) (Ok set)) (sym e)
         ∙ answer_for_lem true set here rests
 
-    pub none_missing : some (lacks layers set) 64 ≡ false → Complete set ≡ closure_of layers target
+    pub none_missing : some (lacks layers set) 64 ≡ false → Ok set ≡ closure_of layers target
     none_missing = answer false
 
     pub one_missing : (index : ℕ) → some (lacks layers set) 64 ≡ true → index ≡ seek (lacks layers set) 64
-        → Refused (EmbeddedLayerAbsent (record { 0 = index })) ≡ closure_of layers target
-    one_missing index s e = ap (λ (i : ℕ). Refused (EmbeddedLayerAbsent (record { 0 = i }))) e ∙ answer true s
+        → Err (EmbeddedLayerAbsent (record { 0 = index })) ≡ closure_of layers target
+    one_missing index s e = ap (λ (i : ℕ). Err (EmbeddedLayerAbsent (record { 0 = i }))) e ∙ answer true s
 
 -- what is missing, as a set
 module _ (layers : Layers) (set missing : ℕ) (is-missing : missing ≡ without set layers.present) where

@@ -1,12 +1,11 @@
 -- Closures, as document 01 has them: 'The closure of a layer is the layer, its embedded layers, theirs, and so on.'
 -- Assumes nothing.
-use Rattle.std.specs.Prelude.{ℕ, zero, suc, Bool, true, false, not, cond, ◌&&◌, ltb, get_or}
+use Rattle.std.specs.Prelude.{ℕ, zero, suc, Bool, true, false, not, cond, ◌&&◌, ltb, get_or, Err, Ok}
 use Rattle.combinators.specs.Below.{some, seek}
 use Rattle.sets.specs.Sets.{has, joined, only, below}
 use Rattle.vocabulary.specs.declared.refusal.Refusal.TheVariants.{NoSuchLayer, EmbeddedLayerAbsent}
 use Rattle.closure.specs.declared.Layers.{Layers}
-use Rattle.closure.specs.declared.Closure.{Closure}
-use Rattle.closure.specs.declared.Closure.TheVariants.{Complete, Refused}
+use Rattle.closure.specs.Answer.{Closure}
 
 -- whether the loop has a layer of index i; indices have six bits, so a number above 63 is no layer's
 abbrev pub is_layer : Layers → ℕ → Bool
@@ -41,9 +40,9 @@ lacks layers set i = has set i && not (is_layer layers i)
 -- The answer, given whether the target is a layer of the loop, and what it rests on: 11 where there is no layer with the target index; 12,
 -- at the lowest missing index, where a layer in the closure is not in the loop; else the closure.
 abbrev pub answer_for : Layers → Bool → ℕ → Closure
-answer_for layers false set = Refused NoSuchLayer
+answer_for layers false set = Err NoSuchLayer
 answer_for layers true set =
-    cond (some (lacks layers set) 64) (Refused (EmbeddedLayerAbsent (record { 0 = seek (lacks layers set) 64 }))) (Complete set)
+    cond (some (lacks layers set) 64) (Err (EmbeddedLayerAbsent (record { 0 = seek (lacks layers set) 64 }))) (Ok set)
 
 abbrev pub closure_of : Layers → ℕ → Closure
 closure_of layers target = answer_for layers (is_layer layers target) (rested_on layers target)

@@ -1,13 +1,12 @@
 -- What is right, in the words of document 01, with no word of how it is found.
 -- proofs/Meant.antt has the laws that join this to what is computed: the computed answer has this meaning, and no other answer has it.
 -- Assumes nothing.
-use Rattle.std.specs.Prelude.{ℕ, ◌<◌, ◌≤◌, true, false, ◌↔◌, ◌≡◌, get_or}
+use Rattle.std.specs.Prelude.{ℕ, ◌<◌, ◌≤◌, true, false, ◌↔◌, ◌≡◌, get_or, Err, Ok}
 use Rattle.sets.specs.Sets.{has}
 use Rattle.vocabulary.specs.declared.LayerIndex.{LayerIndex}
 use Rattle.vocabulary.specs.declared.refusal.Refusal.TheVariants.{NoSuchLayer, EmbeddedLayerAbsent}
 use Rattle.closure.specs.declared.Layers.{Layers}
-use Rattle.closure.specs.declared.Closure.{Closure}
-use Rattle.closure.specs.declared.Closure.TheVariants.{Complete, Refused}
+use Rattle.closure.specs.Answer.{Closure}
 use Rattle.closure.specs.Closures.{is_layer}
 
 -- Layer i names j: the loop has a layer i, and j is one of its embedded indices, below its own. (In an accepted loop every embedded index
@@ -40,7 +39,7 @@ pub record WholeClosure (layers : Layers) (target set : ℕ) : Type 0 where
 -- THE ANSWER to a target: 11 'no layer with the target index'; 12 'a layer in the closure is not in the loop', with the lowest missing
 -- index as its place; else the closure.
 pub data Answers (layers : Layers) (target : ℕ) : Closure → Type 0 where
-  no_such_layer : is_layer layers target ≡ false → Answers layers target (Refused NoSuchLayer)
+  no_such_layer : is_layer layers target ≡ false → Answers layers target (Err NoSuchLayer)
   absent : {index : LayerIndex} → is_layer layers target ≡ true → LowestMissing layers target index.0
-      → Answers layers target (Refused (EmbeddedLayerAbsent index))
-  complete : {set : ℕ} → is_layer layers target ≡ true → WholeClosure layers target set → Answers layers target (Complete set)
+      → Answers layers target (Err (EmbeddedLayerAbsent index))
+  complete : {set : ℕ} → is_layer layers target ≡ true → WholeClosure layers target set → Answers layers target (Ok set)

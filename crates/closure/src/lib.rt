@@ -17,13 +17,6 @@ pub struct Layers {
     pub embedded: [u64; 64],
 }
 
-// The answer to a target: the set of the layer indices of its closure, or why there is none.
-#[derive(Clone, Copy)]
-pub enum Closure {
-    Complete(u64),
-    Refused(Refusal),
-}
-
 // The set of the indices that a layer names: those of its embedded indices below its own, and none where the loop has no such layer.
 pub fn named(present: u64, embedded: u64, index: usize) -> u64
     ensures { result ≡ named_by (has present index) embedded index }
@@ -52,20 +45,20 @@ pub fn rested_on(layers: Layers, target: usize) -> u64
 }
 
 // The closure of a target in a loop's layers. A target above 63 is no layer's index.
-pub fn closure_of(layers: Layers, target: u64) -> Closure
+pub fn closure_of(layers: Layers, target: u64) -> Result<u64, Refusal>
     ensures { result ≡ closure_of layers target }
 {
     if 64 <= target {
-        return Closure::Refused(Refusal::NoSuchLayer);
+        return Err(Refusal::NoSuchLayer);
     }
     let index = target as usize;
     if !sets::member(layers.present, index) {
-        return Closure::Refused(Refusal::NoSuchLayer);
+        return Err(Refusal::NoSuchLayer);
     }
     let set = rested_on(layers, index);
     let missing = sets::without(set, layers.present);
     if missing == 0 {
-        return Closure::Complete(set);
+        return Ok(set);
     }
-    Closure::Refused(Refusal::EmbeddedLayerAbsent(LayerIndex(sets::lowest(missing))))
+    Err(Refusal::EmbeddedLayerAbsent(LayerIndex(sets::lowest(missing))))
 }

@@ -9,7 +9,7 @@ use std::io;
 use std::io::Read;
 
 // Reads until the buffer is full, the input ends or a read fails, and answers how many bytes stand at the start of the buffer then. A read that
-// a signal interrupts has failed.
+// a signal interrupts has failed. Not `read_exact` or `read_to_end`: these say little after an Err, and the second allocates.
 pub fn read_input<R: Read>(reader: &mut R, buf: &mut [u8]) -> io::Result<usize>
     ensures counted { Counted result buf.new }
     ensures bytes { IfOk result (λ n. Consumes (R.remaining reader.old) (R.remaining reader.new) (take n buf.new)) }
@@ -37,12 +37,10 @@ pub fn looks_like_packets(bytes: &[u8]) -> bool
         return false;
     }
     let packets = (bytes.len() - 1) / 188 + 1;
-    let mut k = 0;
-    while k < packets {
+    for k in 0..packets {
         if bytes[k * 188] != SYNC_BYTE {
             return false;
         }
-        k += 1;
     }
     true
 }

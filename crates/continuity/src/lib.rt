@@ -22,10 +22,7 @@ pub enum Step {
 fn difference(one: u8, other: u8) -> u8
     ensures { result ≡ difference_of one other }
 {
-    if one == other {
-        return 0;
-    }
-    1
+    u8::from(one != other)
 }
 
 // Whether two parts of packets have the same bytes. All places are looked at, so that they are looked at side by side.
@@ -34,10 +31,8 @@ fn same(one: &[u8], other: &[u8]) -> bool
     ensures { result ≡ same_bytes one.now other.now }
 {
     let mut differences: u8 = 0;
-    let mut at = 0;
-    while at < one.len() {
-        differences += difference(one[at], other[at]);
-        at += 1;
+    for (at, byte) in one.iter().enumerate() {
+        differences += difference(*byte, other[at]);
     }
     differences == 0
 }

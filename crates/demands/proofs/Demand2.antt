@@ -1,21 +1,19 @@
 -- DEMAND 2 is kept, as specs/Demand2.antt states it: of every run of a call, by what its function's contract ensures.
 -- Assumes nothing.
-use Rattle.std.specs.Prelude.{ℕ, List, [], ◌≡◌, length, take}
+use Rattle.join_answers.specs.Answer.{joined_units, Joined}
+use Rattle.std.specs.Prelude.{ℕ, List, [], ◌≡◌, length, take, Ok}
 use Rattle.std.proofs.Common.{sym, ◌∙◌, ap, ap₂}
 use Rattle.vocabulary.specs.declared.stream_types.Reading.{Reading}
 use Rattle.vocabulary.specs.declared.stream_types.Reading.TheVariants.{Edition2015}
 use Rattle.loop_entries.specs.declared.Entry.{Entry}
 use Rattle.es_loop.specs.Reading.{loop_read, accepted}
 use Rattle.es_loop.specs.declared.reader.LoopRead.{LoopRead}
-use Rattle.loop_writer.specs.declared.writer.Written.{Written}
-use Rattle.loop_writer.specs.declared.writer.Written.TheVariants as Loop
+use Rattle.loop_writer.specs.Answer.{Written}
 use Rattle.loop_writer.specs.Layout.{loop_bytes}
 use Rattle.loop_writer.specs.Writing.{answer, content_after}
 use Rattle.loop_round_trip.proofs.RoundTrip as loops
 use Rattle.loop_round_trip.proofs.Rewriting as loops-again
 use Rattle.pes.proofs.RoundTrips as times
-use Rattle.join_answers.specs.declared.answer.Joined.{Joined}
-use Rattle.join_answers.specs.declared.answer.Joined.TheVariants.{Units}
 use Rattle.unit_lists.specs.Sequence.{Lists, lists}
 use Rattle.join_answers.specs.Meaning as Joining
 use Rattle.join_answers.proofs.Meant as joining
@@ -33,7 +31,7 @@ pub read_back : LoopReadBack
 read_back wrote written n is-bytes typed read ensured same =
     let g = write_loop.given wrote in
     let w = loop_written_computed.ensured wrote written in
-    let accepted : answer (length g.out) g.count g.array ≡ Loop.Bytes n = sym w.0 ∙ is-bytes in
+    let accepted : answer (length g.out) g.count g.array ≡ Ok n = sym w.0 ∙ is-bytes in
     (loop_read_computed.ensured read ensured).0
     ∙ ap (λ (l : LoopGiven). loop_read l.reading l.bytes) same
     ∙ ap (loop_read Edition2015) (ap (take n) w.1 ∙ loops.buffer_holds g.count g.array g.out accepted)
@@ -55,20 +53,20 @@ rewritten read ensured in_2015 bytes own is_accepted wrote written same_count sa
     )
 
 -- what the meaning says of units
-one_unit_each : {given : RowsGiven} {after : Lists} {closure units rows : ℕ} → join_rows.Means given (Units closure units rows) after
+one_unit_each : {given : RowsGiven} {after : Lists} {closure units rows : ℕ} → join_rows.Means given (joined_units closure units rows) after
     → OneUnitEach given closure units rows after
 one_unit_each (Joining.over_closure c (Joining.joined o s n a)) = record { closed = c; in_order = o; in_one_unit = s; near = n; accepted = a }
 
 units_meant : {given : RowsGiven} {answer : Joined} {left after : Lists} {closure units rows : ℕ} → join_rows.Means given answer left
-    → answer ≡ Units closure units rows → left ≡ after → OneUnitEach given closure units rows after
+    → answer ≡ joined_units closure units rows → left ≡ after → OneUnitEach given closure units rows after
 units_meant {given} means is_answer is_after = one_unit_each {given = given} (rw (is_answer, is_after) at means)
 
 imported_meant : {given : ImportGiven} {answer : Joined} {left after : Lists} {closure units rows : ℕ} → import_loop.Means given answer left
-    → answer ≡ Units closure units rows → left ≡ after → OneUnitEachOfLoop given closure units rows after
+    → answer ≡ joined_units closure units rows → left ≡ after → OneUnitEachOfLoop given closure units rows after
 imported_meant {given} means is_answer is_after = go (rw (is_answer, is_after) at means)
   where
     go : {closure units rows : ℕ} {after : Lists}
-        → Import.Answers given.reading given.bytes given.target given.rows given.before (Units closure units rows) after
+        → Import.Answers given.reading given.bytes given.target given.rows given.before (joined_units closure units rows) after
         → OneUnitEachOfLoop given closure units rows after
     go (Import.loop_accepted streams {layers} a m j) =
         record { streams = streams; layers = layers; loop_accepted = a; layers_of_loop = m; one_unit_each = one_unit_each {given = over_layers given layers} j }

@@ -1,6 +1,6 @@
 -- Of W-206: that in the new build refusal 10 never occurs, and the round trips with as many layers as six bits allow. The statements stand in specs/Embedding.antt.
 -- Assumes nothing.
-use Rattle.std.specs.Prelude.{ℕ, ◌-◌, Bool, false, ◌&&◌, List, ◌++◌, map, ◌≡◌, refl, eqb, length, get_or, take, replicate}
+use Rattle.std.specs.Prelude.{ℕ, ◌-◌, Bool, false, ◌&&◌, List, ◌++◌, map, ◌≡◌, refl, eqb, length, get_or, take, replicate, Err, Ok}
 use Rattle.std.proofs.Common.{append-nil, sym, ◌∙◌, ap, subst, arith, take_all, take_at}
 use Rattle.std.proofs.lemmas.List.{length-map}
 use Rattle.combinators.specs.Bools.{both_ways}
@@ -17,8 +17,7 @@ use Rattle.vocabulary.proofs.Numbers.{not_listed}
 use Rattle.extension.specs.Extension.{no_layer}
 use Rattle.loop_entries.specs.declared.Entry.{Entry}
 use Rattle.es_loop.specs.declared.reader.LoopRead.{LoopRead}
-use Rattle.es_loop.specs.declared.reader.Outcome.{Outcome}
-use Rattle.es_loop.specs.declared.reader.Outcome.TheVariants.{Accepted, Refused}
+use Rattle.es_loop.specs.Answer.{Outcome}
 use Rattle.loop_layers.specs.declared.table.LayerTable.{LayerTable}
 use Rattle.loop_layers.specs.declared.table.TableRead.{TableRead}
 use Rattle.loop_layers.specs.Closures.{entries_read, loop_table}
@@ -93,8 +92,8 @@ no_ten RangesMeet = refl
 
 never_listed : (outcome : Outcome) (table : LayerTable) (rest : List ℕ) → read_text outcome table ≡ ascii "refused 10 " ++ rest → ⊥
 unfolding accepted_text is_ten
-never_listed Accepted table rest e = let z : ◌≡◌ {A = ℕ} 97 114 = ap (λ (text : List ℕ). get_or text 0 0) e in absurd (omega arith)
-never_listed (Refused refusal) table rest e = both_ways (ap is_ten e) (no_ten refusal)
+never_listed (Ok tt) table rest e = let z : ◌≡◌ {A = ℕ} 97 114 = ap (λ (text : List ℕ). get_or text 0 0) e in absurd (omega arith)
+never_listed (Err refusal) table rest e = both_ways (ap is_ten e) (no_ten refusal)
 
 never_in_text : (reading : Reading) (bytes rest : List ℕ) → loop_text reading bytes ≡ ascii "refused 10 " ++ rest → ⊥
 unfolding loop_text

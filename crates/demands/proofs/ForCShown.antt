@@ -1,6 +1,6 @@
 -- The promises of the seven functions for C.
 -- Assumes nothing.
-use Rattle.std.specs.Prelude.{ℕ, ◌*◌, ◌≤◌, Bool, true, false, cond, List, [], ◌∷◌, ◌≡◌, refl, ltb, length, take}
+use Rattle.std.specs.Prelude.{ℕ, ◌*◌, ◌≤◌, Bool, true, false, cond, List, [], ◌∷◌, ◌≡◌, refl, ltb, length, take, Err, Ok}
 use Rattle.std.proofs.Math.Option.{some}
 use Rattle.std.proofs.Common.{◌∙◌, arith}
 use Rattle.combinators.specs.Bools.{either_way}
@@ -10,24 +10,19 @@ use Rattle.vocabulary.specs.declared.refusal.Refusal.TheVariants.{NoRoom, TooWid
 use Rattle.vocabulary.specs.declared.stream_types.Reading.{Reading}
 use Rattle.vocabulary.specs.Refusals.{number_of}
 use Rattle.loop_entries.specs.declared.Entry.{Entry}
-use Rattle.es_loop.specs.declared.reader.Outcome.{Outcome}
-use Rattle.es_loop.specs.declared.reader.Outcome.TheVariants as Outcome
+use Rattle.es_loop.specs.Answer.{Outcome}
 use Rattle.es_loop.specs.Reading.{loop_read}
-use Rattle.closure.specs.declared.Closure.{Closure}
-use Rattle.closure.specs.declared.Closure.TheVariants as Closure
+use Rattle.closure.specs.Answer.{Closure}
 use Rattle.loop_layers.specs.Closures.{loop_closure}
-use Rattle.loop_writer.specs.declared.writer.Written.{Written}
-use Rattle.loop_writer.specs.declared.writer.Written.TheVariants as Written
+use Rattle.loop_writer.specs.Answer.{Written}
 use Rattle.loop_writer.specs.Layout.{loop_bytes}
 use Rattle.loop_writer.specs.Writing as LoopWriting
-use Rattle.pes_reader.specs.declared.Answer.{Answer}
-use Rattle.pes_reader.specs.declared.Answer.TheVariants as Answer
+use Rattle.pes_reader.specs.Answer.{Answer}
 use Rattle.pes_reader.specs.Reading.{read_of}
-use Rattle.pes_writer.specs.declared.Written.{Written as TimesWritten}
-use Rattle.pes_writer.specs.declared.Written.TheVariants as TimesWritten
+use Rattle.pes_writer.specs.Answer.{Written as TimesWritten}
 use Rattle.pes_writer.specs.Writing.{header_of, write_of, buffer_of}
 use Rattle.entry_rows.specs.Rows.{rows_of, some_too_wide, row_count, entries_in}
-use Rattle.c_answers.specs.declared.Asked.{Asked}
+use Rattle.c_answers.specs.Answer.{Asked}
 use Rattle.c_answers.specs.Answers.{accepted, Reply, reply, unchanged}
 use Rattle.thoquenry.specs.Loops.{loop_laid, rows_asked, read_loop as cReadLoop, loop_written, write_loop as cWriteLoop, closure_laid, closure_asked, closure_call}
 use Rattle.thoquenry.specs.Times.{times_read, read_times as cReadTimes, bytes_written, times_written, write_times as cWriteTimes}
@@ -54,20 +49,20 @@ tells_either false t u before r s p q = q
 -- ---- thq_read_loop
 
 loop_tells : (outcome : Outcome) (count : ℕ) (entries : List Entry) (room : List ℕ) → Tells (loop_told outcome count entries room) room (loop_laid outcome count entries room)
-loop_tells (Outcome.Refused refusal) count entries room = (refl, refl)
-loop_tells Outcome.Accepted count entries room =
+loop_tells (Err refusal) count entries room = (refl, refl)
+loop_tells (Ok tt) count entries room =
     tells_either (ltb (length room) (length entries * 80)) (refuses NoRoom) (counts count (over (rows_of entries) room)) room
     (unchanged NoRoom room) (reply (accepted count) (over (rows_of entries) room)) (refl, refl) (refl, refl)
 
 loop_fits : (outcome : Outcome) (count : ℕ) (entries : List Entry) (room : List ℕ) → SmallOutcome outcome → count ≤ 32768 → Fits (loop_told outcome count entries room)
-loop_fits (Outcome.Refused refusal) count entries room h k = omega arith
-loop_fits Outcome.Accepted count entries room h k =
+loop_fits (Err refusal) count entries room h k = omega arith
+loop_fits (Ok tt) count entries room h k =
     either_way Fits (ltb (length room) (length entries * 80)) (refuses NoRoom) (counts count (over (rows_of entries) room)) (omega arith) (omega arith)
 
 loop_listed : (outcome : Outcome) (count : ℕ) (entries : List Entry) (room : List ℕ) → is_listed read_loop.numbers (outcome_number outcome) ≡ true
     → is_listed thq_read_loop.numbers (number_told (loop_told outcome count entries room)) ≡ true
-loop_listed (Outcome.Refused refusal) count entries room e = listed_first read_loop.numbers (17 ∷ 255 ∷ []) (some (number_of refusal)) e
-loop_listed Outcome.Accepted count entries room e =
+loop_listed (Err refusal) count entries room e = listed_first read_loop.numbers (17 ∷ 255 ∷ []) (some (number_of refusal)) e
+loop_listed (Ok tt) count entries room e =
     either_way (λ (t : Told (List ℕ)). is_listed thq_read_loop.numbers (number_told t) ≡ true) (ltb (length room) (length entries * 80)) (refuses NoRoom)
     (counts count (over (rows_of entries) room)) refl refl
 
@@ -120,17 +115,17 @@ told_write_loop given = cond (some_too_wide given.entries) (refuses TooWide) (wr
 
 written_tells : (written : Written) (bytes out : List ℕ)
     → Tells (written_told written (LoopWriting.content_after written bytes out)) out (reply (loop_written written) (LoopWriting.content_after written bytes out))
-written_tells (Written.Bytes count) bytes out = (refl, refl)
-written_tells (Written.Refused refusal) bytes out = (refl, refl)
+written_tells (Ok count) bytes out = (refl, refl)
+written_tells (Err refusal) bytes out = (refl, refl)
 
 pub written_fits : (written : Written) (left : List ℕ) → SmallWritten written → Fits (written_told written left)
-written_fits (Written.Bytes count) left h = omega arith
-written_fits (Written.Refused refusal) left h = omega arith
+written_fits (Ok count) left h = omega arith
+written_fits (Err refusal) left h = omega arith
 
 written_listed : (written : Written) (left : List ℕ) → is_listed write_loop.numbers (written_number written) ≡ true
     → is_listed write_loop.numbers (number_told (written_told written left)) ≡ true
-written_listed (Written.Bytes count) left e = refl
-written_listed (Written.Refused refusal) left e = e
+written_listed (Ok count) left e = refl
+written_listed (Err refusal) left e = e
 
 write_loop_replied : (given : WriteLoopGiven) → Tells (told_write_loop given) given.out (cWriteLoop given.entries given.out)
 write_loop_replied given =
@@ -156,21 +151,21 @@ thq_loop_written =
 -- ---- thq_closure
 
 closure_tells : (found : Closure) (room : List ℕ) → Tells (closure_told found room) room (closure_laid found room)
-closure_tells (Closure.Refused refusal) room = (refl, refl)
-closure_tells (Closure.Complete members) room =
+closure_tells (Err refusal) room = (refl, refl)
+closure_tells (Ok members) room =
     tells_either (ltb (length room) 1) (refuses NoRoom) (counts (size members) (over (members ∷ []) room)) room
     (unchanged NoRoom room) (reply (accepted (size members)) (over (members ∷ []) room)) (refl, refl) (refl, refl)
 
 pub closure_fits : (found : Closure) (room : List ℕ) → SmallClosure found → Fits (closure_told found room)
-closure_fits (Closure.Refused refusal) room h = omega arith
-closure_fits (Closure.Complete members) room h =
+closure_fits (Err refusal) room h = omega arith
+closure_fits (Ok members) room h =
     let small : size members ≤ 64 = size_short members in
     either_way Fits (ltb (length room) 1) (refuses NoRoom) (counts (size members) (over (members ∷ []) room)) (omega arith) (omega arith)
 
 closure_listed : (found : Closure) (room : List ℕ) → is_listed closure_of_loop.numbers (closure_number found) ≡ true
     → is_listed thq_closure.numbers (number_told (closure_told found room)) ≡ true
-closure_listed (Closure.Refused refusal) room e = listed_first closure_of_loop.numbers (17 ∷ 255 ∷ []) (some (number_of refusal)) e
-closure_listed (Closure.Complete members) room e =
+closure_listed (Err refusal) room e = listed_first closure_of_loop.numbers (17 ∷ 255 ∷ []) (some (number_of refusal)) e
+closure_listed (Ok members) room e =
     either_way (λ (t : Told (List ℕ)). is_listed thq_closure.numbers (number_told t) ≡ true) (ltb (length room) 1) (refuses NoRoom)
     (counts (size members) (over (members ∷ []) room)) refl refl
 
@@ -208,17 +203,17 @@ thq_closure_found =
 -- ---- thq_read_times
 
 times_tells : (read : Answer) (room : List ℕ) → Tells (times_told read room) room (times_read read room)
-times_tells (Answer.Read header) room = (refl, refl)
-times_tells (Answer.Refused refusal) room = (refl, refl)
+times_tells (Ok header) room = (refl, refl)
+times_tells (Err refusal) room = (refl, refl)
 
 times_fits : (read : Answer) (room : List ℕ) → SmallTimes read → Fits (times_told read room)
-times_fits (Answer.Read header) room h = omega arith
-times_fits (Answer.Refused refusal) room h = omega arith
+times_fits (Ok header) room h = omega arith
+times_fits (Err refusal) room h = omega arith
 
 times_listed : (read : Answer) (room : List ℕ) → is_listed read_times.numbers (times_number read) ≡ true
     → is_listed thq_read_times.numbers (number_told (times_told read room)) ≡ true
-times_listed (Answer.Read header) room e = refl
-times_listed (Answer.Refused refusal) room e = listed_second (17 ∷ []) read_times.numbers (some (number_of refusal)) e
+times_listed (Ok header) room e = refl
+times_listed (Err refusal) room e = listed_second (17 ∷ []) read_times.numbers (some (number_of refusal)) e
 
 abbrev times_said : ReadTimesGiven → Told (List ℕ)
 times_said given = times_told (read_of given.bytes) given.times
@@ -261,8 +256,8 @@ told_write_times given = cond (ltb 1 given.with_tref) (refuses TooWide) (header_
 
 header_tells : (given : TimesGiven) (written : TimesWritten)
     → Tells (times_written_told written (header_by given written)) given.out (reply (bytes_written written) (header_by given written))
-header_tells given (TimesWritten.Bytes count) = (refl, refl)
-header_tells given (TimesWritten.Refused refusal) = (refl, refl)
+header_tells given (Ok count) = (refl, refl)
+header_tells given (Err refusal) = (refl, refl)
 
 write_times_replied : (given : WriteTimesGiven)
     → Tells (told_write_times given) given.out (cWriteTimes given.pts given.decoding given.matching given.with_tref given.out)
@@ -272,13 +267,13 @@ write_times_replied given =
     (unchanged TooWide given.out) (times_written header.times header.with_tref given.out) (refl, refl) (header_tells header (header_written header))
 
 header_fits : (written : TimesWritten) (left : List ℕ) → SmallHeader written → Fits (times_written_told written left)
-header_fits (TimesWritten.Bytes count) left h = omega arith
-header_fits (TimesWritten.Refused refusal) left h = omega arith
+header_fits (Ok count) left h = omega arith
+header_fits (Err refusal) left h = omega arith
 
 header_listed : (written : TimesWritten) (left : List ℕ) → is_listed write_times.numbers (times_written_number written) ≡ true
     → is_listed write_times.numbers (number_told (times_written_told written left)) ≡ true
-header_listed (TimesWritten.Bytes count) left e = refl
-header_listed (TimesWritten.Refused refusal) left e = e
+header_listed (Ok count) left e = refl
+header_listed (Err refusal) left e = e
 
 pub thq_times_written : Promised (for_c thq_write_times)
 thq_times_written =

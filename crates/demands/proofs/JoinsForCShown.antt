@@ -1,6 +1,7 @@
 -- That the functions for C which join rows keep their promises: what each equals by its contract tells what its call answers.
 -- Assumes nothing.
-use Rattle.std.specs.Prelude.{ℕ, ◌≤◌, ◌^◌, Bool, true, false, cond, List, [], ◌∷◌, ◌≡◌, refl, ltb, length}
+use Rattle.join_answers.specs.Answer.{joined_units, Joined}
+use Rattle.std.specs.Prelude.{ℕ, ◌≤◌, ◌^◌, Bool, true, false, cond, List, [], ◌∷◌, ◌≡◌, refl, ltb, length, Err, Ok}
 use Rattle.std.proofs.Math.Option.{some}
 use Rattle.std.proofs.Common.{◌∙◌, arith}
 use Rattle.buffers.specs.Buffers.{over}
@@ -11,12 +12,10 @@ use Rattle.closure.specs.declared.Layers.{Layers}
 use Rattle.es_loop.specs.Reading.{loop_read}
 use Rattle.rows.specs.Table.{Table, most_rows}
 use Rattle.unit_lists.specs.Sequence.{Lists}
-use Rattle.join_answers.specs.declared.answer.Joined.{Joined}
-use Rattle.join_answers.specs.declared.answer.Joined.TheVariants as Joined
 use Rattle.join_answers.specs.Joining.{room_of, joined_of, lists_after, most_long, longest_table}
 use Rattle.join_answers.specs.Steps.{spaces}
 use Rattle.importing.specs.Importing.{layers_read, import_of}
-use Rattle.c_answers.specs.declared.Asked.{Asked}
+use Rattle.c_answers.specs.Answer.{Asked}
 use Rattle.c_answers.specs.Answers.{asked_for}
 use Rattle.thoquenry_joins.specs.Joins.{JoinReply, layers_given, with_summary, join_reply, join_over, import_asked}
 use Rattle.thoquenry_joins.proofs.Bounds.{Few, few_joined, few_imported}
@@ -38,24 +37,24 @@ module _ (layers : Layers) (rows : Table) (before : Filled) where
 
   joined_tells : (joined : Joined)
       → TellsFilled (joined_said joined) before (join_reply layers rows (with_summary (length before.summary) joined) before.after before.summary)
-  joined_tells (Joined.Refused refusal) = (refl, refl, refl)
-  joined_tells (Joined.Units set units total) = by (ltb (length before.summary) 2)
+  joined_tells (Err refusal) = (refl, refl, refl)
+  joined_tells (Ok joined) = by (ltb (length before.summary) 2)
     where
       by : (short : Bool) → TellsFilled
           (cond short (refuses NoRoom)
-          (counts total (filled (lists_after layers rows (Joined.Units set units total) before.after) (over (set ∷ units ∷ []) before.summary)))) before
-          (join_reply layers rows (cond short (Joined.Refused NoRoom) (Joined.Units set units total)) before.after before.summary)
+          (counts joined.rows (filled (lists_after layers rows (joined_units joined.closure joined.units joined.rows) before.after) (over (joined.closure ∷ joined.units ∷ []) before.summary)))) before
+          (join_reply layers rows (cond short (Err NoRoom) (joined_units joined.closure joined.units joined.rows)) before.after before.summary)
       by true = (refl, refl, refl)
       by false = (refl, refl, refl)
 
 joined_fits : (summary : List ℕ) (joined : Joined) (after : Lists) → Few joined → Fits (joined_told summary joined after)
-joined_fits summary (Joined.Refused refusal) after h = h
-joined_fits summary (Joined.Units set units total) after h = either_way Fits (ltb (length summary) 2) (refuses NoRoom) _ (omega arith) h
+joined_fits summary (Err refusal) after h = h
+joined_fits summary (Ok joined) after h = either_way Fits (ltb (length summary) 2) (refuses NoRoom) _ (omega arith) h
 
 joined_listed : (numbers : List ℕ) → is_listed numbers (some 17) ≡ true → (summary : List ℕ) (joined : Joined) (after : Lists)
     → is_listed numbers (joined_number joined) ≡ true → is_listed numbers (number_told (joined_told summary joined after)) ≡ true
-joined_listed numbers no_room summary (Joined.Refused refusal) after e = e
-joined_listed numbers no_room summary (Joined.Units set units total) after e =
+joined_listed numbers no_room summary (Err refusal) after e = e
+joined_listed numbers no_room summary (Ok joined) after e =
     either_way (λ (t : Told Filled). is_listed numbers (number_told t) ≡ true) (ltb (length summary) 2) (refuses NoRoom) _ no_room refl
 
 -- what the contract ensures, by the reply that it names

@@ -1,6 +1,6 @@
 -- The promise of the function for C that reads a program's operation points.
 -- Assumes nothing.
-use Rattle.std.specs.Prelude.{ℕ, zero, suc, ◌+◌, ◌*◌, ◌/◌, ◌^◌, ◌≤◌, ◌<◌, Bool, List, [], ◌∷◌, ◌++◌, map, length, take, drop}
+use Rattle.std.specs.Prelude.{ℕ, zero, suc, ◌+◌, ◌*◌, ◌/◌, ◌^◌, ◌≤◌, ◌<◌, Bool, List, [], ◌∷◌, ◌++◌, map, length, take, drop, Err, None, Ok, Some}
 use Rattle.std.proofs.Math.Bool.{true, false, cond}
 use Rattle.std.proofs.Math.Option.{some}
 use mathlib.Core.Path.{◌≡◌, refl, sym, ◌∙◌, ap, subst}
@@ -16,20 +16,15 @@ use Rattle.vocabulary.specs.declared.stream_types.Reading.TheVariants.{Edition20
 use Rattle.vocabulary.specs.Refusals.{number_of, place_of}
 use Rattle.descriptor_heads.specs.Head.{descriptor_tag, descriptor_length}
 use Rattle.closure.specs.declared.Layers.{Layers}
-use Rattle.es_loop.specs.declared.reader.Outcome.{Outcome}
-use Rattle.es_loop.specs.declared.reader.Outcome.TheVariants as Outcome
+use Rattle.es_loop.specs.Answer.{Outcome}
 use Rattle.es_loop.specs.declared.reader.LoopRead.{LoopRead}
 use Rattle.es_loop.specs.Reading.{loop_read}
 use Rattle.es_loop.proofs.Meant as loop
 use Rattle.operation_points.specs.Parts.{walked}
 use Rattle.operation_points.specs.Tables.{head_syntax}
 use Rattle.operation_points.specs.declared.Head.{Head}
-use Rattle.operation_points.specs.declared.HeadRead.{HeadRead}
-use Rattle.operation_points.specs.declared.HeadRead.TheVariants.{Before, HeadDoesNotFit}
-use Rattle.operation_points.specs.declared.FirstPoint.{FirstPoint}
-use Rattle.operation_points.specs.declared.FirstPoint.TheVariants.{Read, DoesNotFit, ReservedCount}
-use Rattle.operation_points.specs.declared.Filling.{Filling}
-use Rattle.operation_points.specs.declared.Filling.TheVariants.{Exact, Inexact, Reserved}
+use Rattle.operation_points.specs.Answer.{HeadRead, FirstPoint}
+use Rattle.operation_points.specs.declared.PointFault.TheVariants.{DoesNotFit, ReservedCount}
 use Rattle.operation_points.specs.Points.{head_from, head_of, first_point}
 use Rattle.operation_points.specs.Values.{PointValue, DescriptorValue, point_value, points_by, each_point, value_after, value_of, counts_of, reference_bytes, layer_bytes, row_of}
 use Rattle.point_descriptors.specs.Descriptors.{descriptors_of, each, is_points, payload_if, too_long, program_filling, payloads_in}
@@ -104,8 +99,8 @@ module _ (layers : Layers) (program : List ℕ) where
 
 tells_by : (outcome : Outcome) (layers : Layers) (program : List ℕ) (old : Lists)
     → reply_by outcome layers program old ≡ points_reply (code (points_told (by_outcome outcome layers program) old)) (leaves (points_told (by_outcome outcome layers program) old) old)
-tells_by (Outcome.Refused refusal) layers program old = refl
-tells_by Outcome.Accepted layers program old = tells_accepted layers program old
+tells_by (Err refusal) layers program old = refl
+tells_by (Ok _) layers program old = tells_accepted layers program old
 
 replied : (program bytes : List ℕ) (old : Lists)
     → read_points program bytes old ≡ points_reply (code (points_told (telling program (points_read program bytes)) old)) (leaves (points_told (telling program (points_read program bytes)) old) old)
@@ -118,11 +113,11 @@ replied program bytes old = tells_by (points_read program bytes).outcome (points
 eight_bits : (payload : List ℕ) → (head_from (walked head_syntax [] 0 payload)).operation_points_count < 256
 eight_bits payload = omega arith
 
-head_small : (payload : List ℕ) (head : Head) → head_of payload ≡ Before head → head.operation_points_count < 256
+head_small : (payload : List ℕ) (head : Head) → head_of payload ≡ Some head → head.operation_points_count < 256
 unfolding head_of
 head_small payload head = go (lib.Dec.leb (walked head_syntax [] 0 payload).end (length payload))
   where
-    go : (f : Bool) → cond f (Before (head_from (walked head_syntax [] 0 payload))) HeadDoesNotFit ≡ Before head → head.operation_points_count < 256
+    go : (f : Bool) → cond f (Some (head_from (walked head_syntax [] 0 payload))) None ≡ Some head → head.operation_points_count < 256
     go false e = let z : ◌≡◌ {A = ℕ} 0 1 = cc in absurd (omega arith)
     go true e =
         let same : head_from (walked head_syntax [] 0 payload) ≡ head = cc in
@@ -134,16 +129,16 @@ at_most (suc count) left = go (first_point left) (λ size. at_most count (drop s
   where
     go : (a : FirstPoint) → ((size : ℕ) → length (each_point point_value count (drop size left)) ≤ count)
         → length (points_by a (λ point. point_value point left) (λ size. each_point point_value count (drop size left))) ≤ suc count
-    go (Read point) later = omega (arith, later point.size)
-    go DoesNotFit later = omega arith
-    go ReservedCount later = omega arith
+    go (Ok point) later = omega (arith, later point.size)
+    go (Err DoesNotFit) later = omega arith
+    go (Err ReservedCount) later = omega arith
 
 payload_few : (payload : List ℕ) → length (value_of payload).points ≤ 255
 payload_few payload = go (head_of payload) refl
   where
     go : (a : HeadRead) → head_of payload ≡ a → length (value_after a payload).points ≤ 255
-    go HeadDoesNotFit e = omega arith
-    go (Before head) e =
+    go None e = omega arith
+    go (Some head) e =
         omega (arith, at_most head.operation_points_count (drop head.points_at payload), head_small payload head e)
 
 points_few : (payloads : List (List ℕ)) → length (gather (λ value. value.points) (map value_of payloads)) ≤ 255 * length payloads
@@ -178,11 +173,11 @@ payloads_few (whole head body ∷ items) at =
     one true = omega arith
     one false = omega arith
 
-few_points : (program : List ℕ) → program_filling program ≡ Exact → length (points_in program) ≤ 257040
+few_points : (program : List ℕ) → program_filling program ≡ Ok tt → length (points_in program) ≤ 257040
 few_points program e =
     omega (arith, points_few (payloads_in program), payloads_few (descriptors_of program) 0, items_few (length program) program, short (too_long program) refl e)
   where
-    short : (t : Bool) → too_long program ≡ t → cond t Inexact (Rattle.point_descriptors.specs.Descriptors.worst Exact (map Rattle.point_descriptors.specs.Descriptors.filling_in (descriptors_of program))) ≡ Exact
+    short : (t : Bool) → too_long program ≡ t → cond t (Err DoesNotFit) (Rattle.point_descriptors.specs.Descriptors.worst (Ok tt) (map Rattle.point_descriptors.specs.Descriptors.filling_in (descriptors_of program))) ≡ Ok tt
         → length program ≤ 1008
     short true p f = let z : ◌≡◌ {A = ℕ} 0 1 = cc in absurd (omega arith)
     short false p f = ltb-false 1008 (length program) p
@@ -194,14 +189,14 @@ Good room answer = (is_listed thq_read_points.numbers (number_told (points_told 
 
 refused_good : {program bytes : List ℕ} {refusal : Refusal} (room : Lists) → Answers program bytes (refused refusal) → Good room (refused refusal)
 refused_good {program} {bytes} {refusal} room (loop_refused l) =
-    let same : Outcome.Refused refusal ≡ (loop_read Edition2015 bytes).outcome = ap (λ (r : LoopRead). r.outcome) (loop.answer_only Edition2015 bytes l) in
+    let same : ◌≡◌ {A = Outcome} (Err refusal) ((loop_read Edition2015 bytes).outcome) = ap (λ (r : LoopRead). r.outcome) (loop.answer_only Edition2015 bytes l) in
     let few : place_of refusal ≤ 1008 = subst SmallOutcome (sym same) (small_loop Edition2015 bytes).0 in
     (listed_first read_loop.numbers (17 ∷ 40 ∷ 41 ∷ 42 ∷ []) (some (number_of refusal)) (read_listed l), omega arith)
 refused_good room (loop_accepted l c (answers_40 m)) = (refl, omega arith)
 refused_good room (loop_accepted l c (answers_41 f r)) = (refl, omega arith)
 refused_good room (loop_accepted l c (answers_42 f g v x)) = (refl, omega arith)
 
-told_good : (layers : Layers) (program : List ℕ) → program_filling program ≡ Exact → (room : Lists) → Good room (told (program_told layers program))
+told_good : (layers : Layers) (program : List ℕ) → program_filling program ≡ Ok tt → (room : Lists) → Good room (told (program_told layers program))
 told_good layers program e room =
     either_way (λ (t : Told Lists). (is_listed thq_read_points.numbers (number_told t) ≡ true) × Fits t) (enough (lists_told (program_told layers program)) room)
     (counts (length (map (point_told layers) (points_in program))) (over_all (lists_told (program_told layers program)) room)) (refuses NoRoom)
@@ -212,8 +207,8 @@ good program bytes room = go (points_read program bytes).outcome refl (points_me
   where
     go : (o : Outcome) → (points_read program bytes).outcome ≡ o → Answers program bytes (by_outcome o (points_read program bytes).layers program)
         → Good room (by_outcome o (points_read program bytes).layers program)
-    go (Outcome.Refused refusal) e a = refused_good room a
-    go Outcome.Accepted e a =
+    go (Err refusal) e a = refused_good room a
+    go (Ok _) e a =
         let w = accepted_read program bytes (points_read program bytes) refl e in
         told_good (points_read program bytes).layers program (sym (filling_is program (points_read program bytes).found w.filled.is_found) ∙ w.filled.exact) room
 

@@ -1,14 +1,13 @@
 -- The promise of the function for C that writes an operation point descriptor.
 -- Assumes nothing.
-use Rattle.std.specs.Prelude.{ℕ, ◌+◌, ◌≤◌, Bool, true, false, cond, List, ◌↔◌, ◌≡◌, refl, ltb, length}
+use Rattle.std.specs.Prelude.{ℕ, ◌+◌, ◌≤◌, Bool, true, false, cond, List, ◌↔◌, ◌≡◌, refl, ltb, length, Err, Ok}
 use Rattle.std.proofs.Common.{sym, ◌∙◌, ap, subst, arith}
 use borrow.Author.Tests.{ltb-false}
 use Rattle.combinators.specs.Bools.{either_way, or_else}
 use Rattle.vocabulary.specs.declared.refusal.Refusal.{Refusal}
 use Rattle.vocabulary.specs.declared.refusal.Refusal.TheVariants.{TooWide, ReservedEsCount, NoRoom}
 use Rattle.c_answers.specs.Answers.{Reply, reply}
-use Rattle.point_weights.specs.declared.Written.{Written}
-use Rattle.point_weights.specs.declared.Written.TheVariants as Written
+use Rattle.point_weights.specs.Answer.{Written}
 use Rattle.point_weights.specs.Rows.{rows_in, counts_wrong, points_wrong, is_reserved, length_for, judged}
 use Rattle.combinators.specs.Lists.{any}
 use Rattle.point_writer.specs.Layout.{descriptor_bytes}
@@ -33,8 +32,8 @@ module _ (given : WritePointsGiven) where
 
   writing_tells : (w : Written) (bytes : List ℕ)
       → (points_written w ≡ code (descriptor_told w (content_after w bytes given.out))) × (content_after w bytes given.out ≡ leaves (descriptor_told w (content_after w bytes given.out)) given.out)
-  writing_tells (Written.Bytes count) bytes = (refl, refl)
-  writing_tells (Written.Refused refusal) bytes = (refl, refl)
+  writing_tells (Ok count) bytes = (refl, refl)
+  writing_tells (Err refusal) bytes = (refl, refl)
 
   replied : (points_written written ≡ code told_write_points) × (left ≡ leaves told_write_points given.out)
   replied = writing_tells written (descriptor_bytes given.profiles given.points given.references given.layers)
@@ -59,16 +58,16 @@ module _ (given : WritePointsGiven) where
   written_good : Good written
   unfolding judged
   written_good =
-      either_way (λ (w : Written). Good (in_room (length given.out) w)) (counts_wrong (length given.profiles) (length given.points)) (Written.Refused TooWide) _
+      either_way (λ (w : Written). Good (in_room (length given.out) w)) (counts_wrong (length given.profiles) (length given.points)) (Err TooWide) _
       (λ l. (refl, omega arith))
-      (either_way (λ (w : Written). Good (in_room (length given.out) w)) (points_wrong (rows_in given.points) given.references (length given.layers)) (Written.Refused TooWide) _
+      (either_way (λ (w : Written). Good (in_room (length given.out) w)) (points_wrong (rows_in given.points) given.references (length given.layers)) (Err TooWide) _
       (λ l. (refl, omega arith))
-      (either_way (λ (w : Written). Good (in_room (length given.out) w)) (any is_reserved (rows_in given.points)) (Written.Refused ReservedEsCount) _
+      (either_way (λ (w : Written). Good (in_room (length given.out) w)) (any is_reserved (rows_in given.points)) (Err ReservedEsCount) _
       (λ l. (refl, omega arith))
-      (or_else (λ (w : Written). Good (in_room (length given.out) w)) (ltb 255 (length_for (rows_in given.points) (length given.profiles))) (Written.Refused TooWide)
-      (Written.Bytes (2 + length_for (rows_in given.points) (length given.profiles))) (λ l. (refl, omega arith))
-      (λ e. either_way Good (ltb (length given.out) (2 + length_for (rows_in given.points) (length given.profiles))) (Written.Refused NoRoom)
-      (Written.Bytes (2 + length_for (rows_in given.points) (length given.profiles))) (λ l. (refl, omega arith))
+      (or_else (λ (w : Written). Good (in_room (length given.out) w)) (ltb 255 (length_for (rows_in given.points) (length given.profiles))) (Err TooWide)
+      (Ok (2 + length_for (rows_in given.points) (length given.profiles))) (λ l. (refl, omega arith))
+      (λ e. either_way Good (ltb (length given.out) (2 + length_for (rows_in given.points) (length given.profiles))) (Err NoRoom)
+      (Ok (2 + length_for (rows_in given.points) (length given.profiles))) (λ l. (refl, omega arith))
       (λ l. (refl, (let short = ltb-false 255 (length_for (rows_in given.points) (length given.profiles)) e in omega arith)))))))
 
 pub thq_points_written : Promised (for_c thq_write_points)

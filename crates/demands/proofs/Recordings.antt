@@ -1,23 +1,21 @@
 -- W-202, the demands over recordings are kept, as specs/Recordings.antt states them.
 -- Assumes nothing.
-use Rattle.std.specs.Prelude.{ℕ, ◌≡◌, refl}
+use Rattle.join_answers.specs.Answer.{joined_units, Joined}
+use Rattle.std.specs.Prelude.{ℕ, ◌≡◌, refl, Err, Ok}
 use Rattle.std.proofs.Common.{◌∙◌, ap, subst, arith}
 use Rattle.vocabulary.specs.declared.refusal.Refusal.{Refusal}
 use Rattle.vocabulary.specs.declared.refusal.Refusal.TheVariants.{Unpaired, UsedTwice}
 use Rattle.closure.specs.declared.Layers.{Layers}
-use Rattle.closure.specs.declared.Closure.TheVariants.{Complete}
 use Rattle.closure.specs.Meaning.{WholeClosure, Answers as ClosureAnswers, complete}
 use Rattle.unit_lists.specs.Sequence.{Lists}
-use Rattle.join_answers.specs.declared.answer.Joined.{Joined}
-use Rattle.join_answers.specs.declared.answer.Joined.TheVariants as Joined
 use Rattle.join_answers.specs.Joining.{room_of, joined_of, lists_after}
 use Rattle.join_answers.specs.Meaning as Joining
 use Rattle.join_answers.proofs.Meant as joining
 use Rattle.join_answers.proofs.EveryRow as every
 use Rattle.recording_layers.proofs.Meant.{layer_pids}
 use Rattle.recording_layers.proofs.Predecessors.{by_pid_or_by_layer}
-use Rattle.recording_imports.specs.declared.Imported.{Imported}
-use Rattle.recording_imports.specs.declared.Imported.TheVariants.{Units, Refused}
+use Rattle.recording_imports.specs.Answer.{Imported}
+use Rattle.recording_imports.specs.declared.Unread.TheVariants.{Refused}
 use Rattle.recording_imports.specs.Imports.{imported_of}
 use Rattle.recording_demands.specs.Agreement.{filled}
 use Rattle.recording_demands.specs.Reaching.{OfJoining}
@@ -62,7 +60,7 @@ module _ (given : ImportGiven) {answer : Imported} {left : Lists} (means : Right
     said : Says over computed (lists_after over.layers over.rows computed over.before)
     said = says over (joining.joined_meant over.most over.layers over.target over.rows over.before)
 
-    refused : (refusal : Refusal) → computed ≡ Joined.Refused refusal → answer ≡ Refused refusal
+    refused : (refusal : Refusal) → computed ≡ Err refusal → answer ≡ Err (Refused refusal)
     refused refusal e =
         (answers r computed (lists_after over.layers over.rows computed over.before) (joining.joined_meant over.most over.layers over.target over.rows over.before)).0
         ∙ ap imported_of e
@@ -71,25 +69,25 @@ module _ (given : ImportGiven) {answer : Imported} {left : Lists} (means : Right
   says_of_recording =
       record {
         units = λ closure units rows after. (
-          λ e. (let w = joins (Joined.Units closure units rows) tt e.0 in
+          λ e. (let w = joins (joined_units closure units rows) tt e.0 in
               record { nothing_before = w.0; holds = ((says (rows_over given w.0.layers) w.1).units closure units rows after).0 (refl, e.1) }),
           λ u. (let each = u.holds in
-              answers u.nothing_before (Joined.Units closure units rows) after
+              answers u.nothing_before (joined_units closure units rows) after
               (Joining.over_closure each.closed (Joining.joined each.in_order each.in_one_unit each.near each.accepted))),
         );
         unpaired = λ row. (
-          λ e. (let w = joins (Joined.Refused (Unpaired row)) (omega arith, omega arith) e in
+          λ e. (let w = joins (Err (Unpaired row)) (omega arith, omega arith) e in
               record { nothing_before = w.0; holds = ((says (rows_over given w.0.layers) w.1).unpaired row).0 refl }),
           λ u. refused u.nothing_before (Unpaired row) (((said u.nothing_before).unpaired row).1 u.holds),
         );
         used_twice = λ row. (
-          λ e. (let w = joins (Joined.Refused (UsedTwice row)) (omega arith, omega arith) e in
+          λ e. (let w = joins (Err (UsedTwice row)) (omega arith, omega arith) e in
               record { nothing_before = w.0; holds = ((says (rows_over given w.0.layers) w.1).used_twice row).0 refl }),
           λ u. refused u.nothing_before (UsedTwice row) (((said u.nothing_before).used_twice row).1 u.holds),
         );
       }
 
-whole_closure : {layers : Layers} {target closure : ℕ} → ClosureAnswers layers target (Complete closure) → WholeClosure layers target closure
+whole_closure : {layers : Layers} {target closure : ℕ} → ClosureAnswers layers target (Ok closure) → WholeClosure layers target closure
 whole_closure (complete here whole) = whole
 
 pub each_once : EachRowOnce

@@ -1,6 +1,6 @@
 -- The promises of the calls on layer sets, and of the four functions for C.
 -- Assumes nothing.
-use Rattle.std.specs.Prelude.{ℕ, ◌≤◌, ◌<◌, Bool, true, false, cond, ◌&&◌, List, [], ◌∷◌, ◌++◌, ◌↔◌, ◌≡◌, refl, eqb, ltb, length}
+use Rattle.std.specs.Prelude.{ℕ, ◌≤◌, ◌<◌, Bool, true, false, cond, ◌&&◌, List, [], ◌∷◌, ◌++◌, ◌↔◌, ◌≡◌, refl, eqb, ltb, length, Err, Ok}
 use Rattle.std.proofs.Math.Option.{some}
 use Rattle.std.proofs.Common.{sym, ap, ap₂, ◌∙◌, subst, arith, eqb-true, eq-eqb, ne_eqb}
 use Rattle.std.proofs.lemmas.Bool.{eqb-false}
@@ -12,11 +12,9 @@ use Rattle.vocabulary.specs.declared.stream_types.Reading.{Reading}
 use Rattle.vocabulary.specs.declared.refusal.Refusal.TheVariants.{NoRoom, TooWide}
 use Rattle.vocabulary.specs.Refusals.{number_of, place_of}
 use Rattle.loop_entries.specs.declared.Entry.{Entry}
-use Rattle.es_loop.specs.declared.reader.Outcome.{Outcome}
-use Rattle.es_loop.specs.declared.reader.Outcome.TheVariants as Outcome
+use Rattle.es_loop.specs.Answer.{Outcome}
 use Rattle.es_loop.specs.Reading.{loop_read}
-use Rattle.closure.specs.declared.Closure.{Closure}
-use Rattle.closure.specs.declared.Closure.TheVariants as Closure
+use Rattle.closure.specs.Answer.{Closure}
 use Rattle.closure.specs.declared.Layers.{Layers}
 use Rattle.closure.proofs.Reached.{rests_on_at_most, layer_below_64}
 use Rattle.closure.specs.Meaning as Target
@@ -27,7 +25,7 @@ use Rattle.layer_set.specs.Sets.{stored_in, loop_set, added_to, removed_from, cl
 use Rattle.layer_set.specs.Meaning.{IsSet, Condition, pid_held_lem, type_wrong, implied_mark, no_layer_lem, flags_wrong, index_held, embedded_wrong, Adds, too_wide_lem, refuses as add-refuses, adds, Removes, no_such_layer, removes}
 use Rattle.layer_set.proofs.Meant.{add_meant, add_only, remove_meant, remove_only, target_meant, target_only}
 use Rattle.layer_set_rows.specs.Buffers.{set_in, stored_numbers, holds_set}
-use Rattle.c_answers.specs.declared.Asked.{Asked}
+use Rattle.c_answers.specs.Answer.{Asked}
 use Rattle.c_answers.specs.Answers.{accepted, refused, not_a_call as not_a_call_code, asked_for, Reply, reply, unchanged}
 use Rattle.thoquenry.specs.Bounds.{SmallOutcome, small_loop, SmallClosure, size_short}
 use Rattle.thoquenry_sets.specs.Calls.{SetReply, set_reply, set_laid, changed_laid, after_change, read_into, read_set, add_set, remove_set, closure_laid, closure_set}
@@ -142,16 +140,16 @@ not_told b = record { answered = refl; layers_left = refl; stored_left = refl }
 
 set_tells : (o : Outcome) (s : LayerSet) (b : SetBuffers) → Tells (set_told o s) b (changed_laid o s b.layers b.stored)
 unfolding set_laid
-set_tells Outcome.Accepted s b = record { answered = refl; layers_left = refl; stored_left = refl }
-set_tells (Outcome.Refused refusal) s b = record { answered = refl; layers_left = refl; stored_left = refl }
+set_tells (Ok tt) s b = record { answered = refl; layers_left = refl; stored_left = refl }
+set_tells (Err refusal) s b = record { answered = refl; layers_left = refl; stored_left = refl }
 
 set_fits : (o : Outcome) (s : LayerSet) → SmallOutcome o → Fits (set_told o s)
-set_fits Outcome.Accepted s h = let small : size s.layers.present ≤ 64 = size_short s.layers.present in omega arith
-set_fits (Outcome.Refused refusal) s h = omega arith
+set_fits (Ok tt) s h = let small : size s.layers.present ≤ 64 = size_short s.layers.present in omega arith
+set_fits (Err refusal) s h = omega arith
 
 set_number : (numbers : List ℕ) (o : Outcome) (s : LayerSet) → is_listed numbers (outcome_number o) ≡ true → is_listed numbers (number_told (set_told o s)) ≡ true
-set_number numbers Outcome.Accepted s e = refl
-set_number numbers (Outcome.Refused refusal) s e = e
+set_number numbers (Ok tt) s e = refl
+set_number numbers (Err refusal) s e = e
 
 -- no set, from the test
 no_set : (b : SetBuffers) → holds_set b.layers b.stored ≡ false → (s : LayerSet) → HoldsIn b s → ⊥
@@ -429,8 +427,8 @@ abbrev told_set_closure : SetClosureGiven → Told (List ℕ)
 told_set_closure given = cond (holds_set given.buffers.layers given.buffers.stored) (closure_told (closure_found given) given.closure) not_a_call
 
 closure_laid_lem : (found : Closure) (room : List ℕ) → ((closure_laid found room).answer ≡ code (closure_told found room)) × ((closure_laid found room).buffer ≡ leaves (closure_told found room) room)
-closure_laid_lem (Closure.Refused refusal) room = (refl, refl)
-closure_laid_lem (Closure.Complete members) room = go (ltb (length room) 1)
+closure_laid_lem (Err refusal) room = (refl, refl)
+closure_laid_lem (Ok members) room = go (ltb (length room) 1)
   where
     go : (b : Bool) → ((cond b (unchanged NoRoom room) (reply (accepted (size members)) (over (members ∷ []) room))).answer ≡ code (cond b (refuses NoRoom) (counts (size members) (over (members ∷ []) room))))
         × ((cond b (unchanged NoRoom room) (reply (accepted (size members)) (over (members ∷ []) room))).buffer ≡ leaves (cond b (refuses NoRoom) (counts (size members) (over (members ∷ []) room))) room)

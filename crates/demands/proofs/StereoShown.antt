@@ -1,6 +1,6 @@
 -- The promises of the two functions for C of the stereo set.
 -- Assumes nothing.
-use Rattle.std.specs.Prelude.{ℕ, zero, suc, ◌+◌, ◌≤◌, ◌<◌, Bool, true, false, cond, not, ◌||◌, List, [], ◌∷◌, ◌++◌, ◌↔◌, ◌≡◌, refl, ltb, length}
+use Rattle.std.specs.Prelude.{ℕ, zero, suc, ◌+◌, ◌≤◌, ◌<◌, Bool, true, false, cond, not, ◌||◌, List, [], ◌∷◌, ◌++◌, ◌↔◌, ◌≡◌, refl, ltb, length, Err, Ok}
 use Rattle.std.proofs.Math.Bool.{or-false}
 use Rattle.std.proofs.Math.Option.{some}
 use Rattle.std.proofs.Common.{sym, ◌∙◌, ap, ap₂, subst, arith, ltb-false}
@@ -13,13 +13,11 @@ use Rattle.vocabulary.specs.declared.refusal.Refusal.TheVariants.{LoopTooLong, N
 use Rattle.vocabulary.specs.declared.stream_types.Reading.TheVariants.{Edition2015}
 use Rattle.vocabulary.specs.Refusals.{number_of, place_of}
 use Rattle.loop_entries.specs.declared.Entry.{Entry}
-use Rattle.es_loop.specs.declared.reader.Outcome.{Outcome}
-use Rattle.es_loop.specs.declared.reader.Outcome.TheVariants as Outcome
+use Rattle.es_loop.specs.Answer.{Outcome}
 use Rattle.es_loop.specs.declared.reader.LoopRead.{LoopRead}
 use Rattle.es_loop.specs.Reading.{loop_read}
 use Rattle.es_loop.proofs.Meant as loop
-use Rattle.loop_writer.specs.declared.writer.Written.{Written}
-use Rattle.loop_writer.specs.declared.writer.Written.TheVariants as Written
+use Rattle.loop_writer.specs.Answer.{Written}
 use Rattle.loop_writer.specs.Layout.{loop_bytes, too_wide}
 use Rattle.loop_writer.specs.Writing.{in_room, judged_in, content_after}
 use Rattle.entry_rows.specs.Rows.{some_too_wide, row_count, row_at, entry_in, entries_below}
@@ -63,8 +61,8 @@ TellsBoth t before left = (left.answer ≡ code t) × (left.entries ≡ (leaves 
 
 set_tells : (outcome : Outcome) (read : StereoRead) (room : BothLists)
     → TellsBoth (stereo_told outcome read room) room (set_read outcome read room.entries room.extensions)
-set_tells (Outcome.Refused refusal) read room = (refl, refl, refl)
-set_tells Outcome.Accepted read room = by (ltb (length room.entries) 160) (ltb (length room.extensions) 16)
+set_tells (Err refusal) read room = (refl, refl, refl)
+set_tells (Ok tt) read room = by (ltb (length room.entries) 160) (ltb (length room.extensions) 16)
   where
     by : (a b : Bool) → TellsBoth
         (cond a (refuses NoRoom) (cond b (refuses NoRoom) (counts 2 (record {
@@ -88,7 +86,7 @@ Listed outcome = (is_listed thq_read_stereo.numbers (outcome_number outcome) ≡
 
 set_listed : {bytes : List ℕ} {read : StereoRead} → Set.Answers bytes read → Listed read.outcome
 set_listed {bytes} (Set.loop_refused {refusal} l) =
-    let same : Outcome.Refused refusal ≡ (loop_read Edition2015 bytes).outcome = ap (λ (r : LoopRead). r.outcome) (loop.answer_only Edition2015 bytes l) in (
+    let same : ◌≡◌ {A = Outcome} (Err refusal) ((loop_read Edition2015 bytes).outcome) = ap (λ (r : LoopRead). r.outcome) (loop.answer_only Edition2015 bytes l) in (
       listed_first read_loop.numbers (17 ∷ 44 ∷ 45 ∷ 46 ∷ []) (some (number_of refusal)) (read_listed l),
       subst SmallOutcome (sym same) (small_loop Edition2015 bytes).0,
     )
@@ -102,8 +100,8 @@ ToldListed t = (is_listed thq_read_stereo.numbers (number_told t) ≡ true) × F
 
 told_listed : (outcome : Outcome) (read : StereoRead) (room : BothLists) → Listed outcome
     → (is_listed thq_read_stereo.numbers (number_told (stereo_told outcome read room)) ≡ true) × Fits (stereo_told outcome read room)
-told_listed (Outcome.Refused refusal) read room l = (l.0, (let few : place_of refusal ≤ 1008 = l.1 in omega arith))
-told_listed Outcome.Accepted read room l =
+told_listed (Err refusal) read room l = (l.0, (let few : place_of refusal ≤ 1008 = l.1 in omega arith))
+told_listed (Ok tt) read room l =
     either_way ToldListed (ltb (length room.entries) 160) (refuses NoRoom) _ (refl, omega arith)
     (either_way ToldListed (ltb (length room.extensions) 16) (refuses NoRoom) _ (refl, omega arith) (refl, omega arith))
 
@@ -152,8 +150,8 @@ module _ (given : WriteStereoGiven) where
 
   writing_tells : (w : Written) (bytes : List ℕ)
       → (set_written w ≡ code (written_told w (content_after w bytes given.out))) × (content_after w bytes given.out ≡ leaves (written_told w (content_after w bytes given.out)) given.out)
-  writing_tells (Written.Bytes count) bytes = (refl, refl)
-  writing_tells (Written.Refused refusal) bytes = (refl, refl)
+  writing_tells (Ok count) bytes = (refl, refl)
+  writing_tells (Err refusal) bytes = (refl, refl)
 
   replied : let r : Reply = write_stereo given.entries given.extensions given.out in (r.answer ≡ code told_write_stereo) × (r.buffer ≡ leaves told_write_stereo given.out)
   replied = by (given_too_wide given.entries given.extensions)
@@ -199,7 +197,7 @@ module _ (given : WriteStereoGiven) where
 
     writing_good : Good written
     writing_good =
-        or_else Good (ltb 201 (length es) || ltb 1008 (length (loop_bytes es) + 20)) (Written.Refused LoopTooLong) _ (refl, omega arith) (λ e.
+        or_else Good (ltb 201 (length es) || ltb 1008 (length (loop_bytes es) + 20)) (Err LoopTooLong) _ (refl, omega arith) (λ e.
         (let few = ltb-false 201 (length es) (neither_left (ltb 201 (length es)) (ltb 1008 (length (loop_bytes es) + 20)) e) in
         let short = ltb-false 1008 (length (loop_bytes es) + 20) (neither_right (ltb 201 (length es)) (ltb 1008 (length (loop_bytes es) + 20)) e) in
         by_loop few short (loop_case x y es none_wide few short) (judged_good few short)))
@@ -211,10 +209,10 @@ module _ (given : WriteStereoGiven) where
           subst SmallWritten (judged_alike x y es none_wide few short) (small_written (length (loop_bytes es)) (length es) es),
         )
 
-        in_room_lem : length (loop_bytes es) + 20 ≤ 1008 → (set_for x y es).outcome ≡ Outcome.Accepted → Good (in_room (length given.out) (length (stereo_bytes x y es)))
+        in_room_lem : length (loop_bytes es) + 20 ≤ 1008 → (set_for x y es).outcome ≡ Ok tt → Good (in_room (length given.out) (length (stereo_bytes x y es)))
         in_room_lem short is_set =
             let long = set_size x y es is_set in
-            either_way Good (ltb (length given.out) (length (stereo_bytes x y es))) (Written.Refused NoRoom) (Written.Bytes (length (stereo_bytes x y es))) (refl, omega arith) (refl, omega arith)
+            either_way Good (ltb (length given.out) (length (stereo_bytes x y es))) (Err NoRoom) (Ok (length (stereo_bytes x y es))) (refl, omega arith) (refl, omega arith)
 
         by_set : length (loop_bytes es) + 20 ≤ 1008 → {o : Outcome} → (set_for x y es).outcome ≡ o → SetOutcome x y es o
             → Good (after_set o (in_room (length given.out) (length (stereo_bytes x y es))))
@@ -230,8 +228,8 @@ module _ (given : WriteStereoGiven) where
 
   writing_told : (w : Written) (l : List ℕ) → (is_listed thq_write_stereo.numbers (written_number w) ≡ true) × SmallWritten w
       → (is_listed thq_write_stereo.numbers (number_told (written_told w l)) ≡ true) × Fits (written_told w l)
-  writing_told (Written.Bytes count) l good = (good.0, written_fits (Written.Bytes count) l good.1)
-  writing_told (Written.Refused refusal) l good = (good.0, written_fits (Written.Refused refusal) l good.1)
+  writing_told (Ok count) l good = (good.0, written_fits (Ok count) l good.1)
+  writing_told (Err refusal) l good = (good.0, written_fits (Err refusal) l good.1)
 
   abbrev WritingListed : Told (List ℕ) → Type 0
   WritingListed t = (is_listed thq_write_stereo.numbers (number_told t) ≡ true) × Fits t

@@ -1,6 +1,6 @@
 -- How the promise of a function for C is shown: by what it tells of a call of the library, whose promise is shown.
 -- Assumes nothing.
-use Rattle.std.specs.Prelude.{ℕ, ◌<◌, ◌^◌, Bool, true, false, cond, List, ◌↔◌, ◌≡◌, refl, eqb}
+use Rattle.std.specs.Prelude.{ℕ, ◌<◌, ◌^◌, Bool, true, false, cond, List, ◌↔◌, ◌≡◌, refl, eqb, None, Some}
 use Rattle.std.proofs.Math.Option.{Option, none, some}
 use Rattle.std.proofs.Common.{sym, ◌∙◌, ap, subst₂, arith, eqb-true}
 use Rattle.combinators.specs.Bools.{both_ways, either_way}
@@ -8,8 +8,7 @@ use Rattle.combinators.specs.Members.{member}
 use Rattle.vocabulary.specs.declared.stream_types.Reading.{Reading}
 use Rattle.vocabulary.specs.declared.stream_types.Reading.TheVariants.{Edition2009, Edition2015}
 use Rattle.vocabulary.specs.Refusals.{number_of, place_of}
-use Rattle.c_answers.specs.declared.Asked.{Asked}
-use Rattle.c_answers.specs.declared.Asked.TheVariants.{Known, Neither}
+use Rattle.c_answers.specs.Answer.{Asked}
 use Rattle.c_answers.specs.Answers.{accepted, refused, not_a_call as not_a_call_code, asked_for}
 use Rattle.c_answers.proofs.Macros.{refused_number, refused_place, accepted_number, accepted_count}
 use Rattle.promised.specs.Calls.{Call, is_listed, Promised}
@@ -138,11 +137,11 @@ by_year year t before answer after each =
     if_told (eqb year 2009) (t Edition2009) (cond (eqb year 2015) (t Edition2015) not_a_call) before answer after (each Edition2009)
     (if_told (eqb year 2015) (t Edition2015) not_a_call before answer after (each Edition2015) (λ s. s, λ s. s))
 
-pub asked : {B : Type 0} (P : Asked → Told B → Type 0) (t : Reading → Told B) (year : ℕ) → ((reading : Reading) → P (Known reading) (t reading))
-    → P Neither not_a_call → P (asked_for year) (told_by_year year t)
+pub asked : {B : Type 0} (P : Asked → Told B → Type 0) (t : Reading → Told B) (year : ℕ) → ((reading : Reading) → P (Some reading) (t reading))
+    → P None not_a_call → P (asked_for year) (told_by_year year t)
 asked {B} P t year each neither = by (eqb year 2009) (eqb year 2015)
   where
-    by : (a b : Bool) → P (cond a (Known Edition2009) (cond b (Known Edition2015) Neither)) (cond a (t Edition2009) (cond b (t Edition2015) not_a_call))
+    by : (a b : Bool) → P (cond a (Some Edition2009) (cond b (Some Edition2015) None)) (cond a (t Edition2009) (cond b (t Edition2015) not_a_call))
     by true b = each Edition2009
     by false true = each Edition2015
     by false false = neither

@@ -5,7 +5,7 @@
 -- Four statements: `TenNever`, `kept`, `refused_before`, `RoundTrips63`; the first and the last hold by `ten_never` and `lists_of_63` of proofs/Embedding.antt. What the reading and the writing before were is said by
 -- `embedding/specs/ReadingBefore.antt` and `WritingBefore.antt`, the words of the request by `embedding/specs/Changed.antt`.
 -- Assumes nothing.
-use Rattle.std.specs.Prelude.{ℕ, List, ◌++◌, ◌≡◌, take}
+use Rattle.std.specs.Prelude.{ℕ, List, ◌++◌, ◌≡◌, take, Ok}
 use Rattle.std.proofs.Math.Option.{some}
 use Rattle.combinators.specs.Lists.{Nth}
 use Rattle.text.specs.Text.{ascii}
@@ -17,7 +17,6 @@ use Rattle.extension.specs.declared.ExtensionRecord.{ExtensionRecord}
 use Rattle.records.specs.declared.Record.TheVariants.{Extension}
 use Rattle.loop_entries.specs.declared.Entry.{Entry}
 use Rattle.loop_layers.specs.Closures.{entries_read}
-use Rattle.loop_writer.specs.declared.writer.Written.TheVariants as Written
 use Rattle.loop_round_trip.specs.ReadBack.{Typed}
 use Rattle.listing.specs.Lines.{loop_text}
 use Rattle.embedding.specs.Changed.{AnswersKept, LongLists}
@@ -99,7 +98,7 @@ pub record Lists63 (e : Entry) : Type 0 where
 
 pub record RoundTrips63 : Type 0 where
   -- What is read back of an entry that was written with 63 layers is that entry: all 63 in their order, and every other field.
-  pub read_back : (wrote : write_loop.Ran) → write_loop.Ensures wrote → (n : ℕ) → write_loop.answer wrote ≡ Written.Bytes n
+  pub read_back : (wrote : write_loop.Ran) → write_loop.Ensures wrote → (n : ℕ) → write_loop.answer wrote ≡ Ok n
       → Typed (entries_of (write_loop.given wrote)) → (read : read_loop.Ran) → read_loop.Ensures read
       → read_loop.given read ≡ record { reading = Edition2015; bytes = take n (write_loop.after wrote) }
       → {k : ℕ} {e : Entry} → Nth (entries_of (write_loop.given wrote)) k e → Lists63 e → Nth (entries_read (read_loop.answer read)) k e

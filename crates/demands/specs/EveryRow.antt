@@ -1,6 +1,7 @@
 -- W-204, beside the three demands: in every accepted answer each row of the closure stands in exactly one unit, so that the sizes sum to how many such rows there are; the units stand in
 -- a total order; and where every unclaimed row is a row of the target, they come in the order of the target's rows, each of the closure's size, as they did before W-204.
 -- Assumes nothing.
+use Rattle.join_answers.specs.Answer.{joined_units}
 use Rattle.std.specs.Prelude.{ℕ, List, ◌≡◌, length, replicate}
 use Rattle.combinators.specs.Ascending.{Ascending}
 use Rattle.closure.specs.declared.Layers.{Layers}
@@ -13,7 +14,6 @@ use Rattle.heads.specs.Meaning.{SharesRow}
 use Rattle.unit_lists.specs.Sequence.{Lists, unit_rows, unit_sizes}
 use Rattle.every_row.specs.Statements.{EachOnce, total, TotalOrder, TargetRow}
 use Rattle.every_row.proofs.Order as order
-use Rattle.join_answers.specs.declared.answer.Joined.TheVariants.{Units}
 use Rattle.join_answers.specs.Joining.{frame_of, joined_of, room_of}
 use Rattle.join_answers.specs.Meaning.{Accepted}
 use Rattle.join_answers.proofs.EveryRow as shown
@@ -25,7 +25,7 @@ pub record EveryRow : Type 0 where
       → EachOnce layers target t a.numbers × (total a.sizes ≡ rows)
   -- and as it is computed
   pub in_one_unit_computed : (most : ℕ) (layers : Layers) (target : ℕ) (t : Table) (before : Lists) (closure units rows : ℕ)
-      → joined_of most layers target t (room_of before) ≡ Units closure units rows
+      → joined_of most layers target t (room_of before) ≡ joined_units closure units rows
       → EachOnce layers target t (unit_rows t (frame_of layers closure t)) × (total (unit_sizes t (frame_of layers closure t)) ≡ rows)
   -- 'The order is a total one'
   pub total_order : (layers : Layers) (target closure : ℕ) → WholeClosure layers target closure → (t : Table) → TotalOrder layers target t

@@ -1,21 +1,16 @@
 -- THE SEVEN FUNCTIONS FOR C, each as a call: what include/thoquenry.h says that it tells of a call of the library.
 -- Assumes nothing.
-use Rattle.std.specs.Prelude.{ℕ, ◌*◌, cond, List, [], ◌∷◌, ◌++◌, eqb, ltb, length, take}
+use Rattle.std.specs.Prelude.{ℕ, ◌*◌, cond, List, [], ◌∷◌, ◌++◌, eqb, ltb, length, take, Err, Ok}
 use Rattle.buffers.specs.Buffers.{over}
 use Rattle.sets.specs.Sets.{size}
 use Rattle.vocabulary.specs.declared.refusal.Refusal.TheVariants.{NoRoom, TooWide}
 use Rattle.loop_entries.specs.declared.Entry.{Entry}
-use Rattle.es_loop.specs.declared.reader.Outcome.{Outcome}
-use Rattle.es_loop.specs.declared.reader.Outcome.TheVariants as Outcome
+use Rattle.es_loop.specs.Answer.{Outcome}
 use Rattle.es_loop.specs.declared.reader.LoopRead.{LoopRead}
-use Rattle.closure.specs.declared.Closure.{Closure}
-use Rattle.closure.specs.declared.Closure.TheVariants as Closure
-use Rattle.loop_writer.specs.declared.writer.Written.{Written}
-use Rattle.loop_writer.specs.declared.writer.Written.TheVariants as Written
-use Rattle.pes_reader.specs.declared.Answer.{Answer}
-use Rattle.pes_reader.specs.declared.Answer.TheVariants as Answer
-use Rattle.pes_writer.specs.declared.Written.{Written as TimesWritten}
-use Rattle.pes_writer.specs.declared.Written.TheVariants as TimesWritten
+use Rattle.closure.specs.Answer.{Closure}
+use Rattle.loop_writer.specs.Answer.{Written}
+use Rattle.pes_reader.specs.Answer.{Answer}
+use Rattle.pes_writer.specs.Answer.{Written as TimesWritten}
 use Rattle.entry_rows.specs.Rows.{rows_of, some_too_wide, row_count, entries_in}
 use Rattle.thoquenry.proofs.thq_read_loop.Kinds as read-loop-kinds
 use Rattle.thoquenry.proofs.thq_read_loop.Reads as read-loop
@@ -42,8 +37,8 @@ pub record ReadLoopGiven : Type 0 where
 -- '`entries` receives 80 numbers for each entry, in loop order. Counts the entries. Refusals: 1 to 9, at an entry; 17 where `entries_length` is
 -- below 80 numbers for each entry.'
 abbrev pub loop_told : Outcome → ℕ → List Entry → List ℕ → Told (List ℕ)
-loop_told (Outcome.Refused refusal) count entries room = refuses refusal
-loop_told Outcome.Accepted count entries room = cond (ltb (length room) (length entries * 80)) (refuses NoRoom) (counts count (over (rows_of entries) room))
+loop_told (Err refusal) count entries room = refuses refusal
+loop_told (Ok tt) count entries room = cond (ltb (length room) (length entries * 80)) (refuses NoRoom) (counts count (over (rows_of entries) room))
 
 abbrev pub loop_read_told : LoopRead → List ℕ → Told (List ℕ)
 loop_read_told read room = loop_told read.outcome read.count (take read.count read.entries) room
@@ -75,8 +70,8 @@ pub record WriteLoopGiven : Type 0 where
 
 -- 'Counts the bytes written to `out`.'
 abbrev pub written_told : Written → List ℕ → Told (List ℕ)
-written_told (Written.Bytes count) left = counts count left
-written_told (Written.Refused refusal) left = refuses refusal
+written_told (Ok count) left = counts count left
+written_told (Err refusal) left = refuses refusal
 
 -- 'one entry for each 80 numbers of `entries`'; 'Refusals: 25 first, where a value is too wide for its field, a `record` above 2 and a flag above 1
 -- among them; then 1, which more than 201 entries give too; then 3 and 6 to 9, at an entry; then 17.'
@@ -108,8 +103,8 @@ pub record ClosureGiven : Type 0 where
 -- '`set` receives one number, whose bit i is 1 when layer index i is one of them. Counts the layers. Refusals: 1 to 9, 11, 12; then 17 where `set_length`
 -- is 0.'
 abbrev pub closure_told : Closure → List ℕ → Told (List ℕ)
-closure_told (Closure.Refused refusal) room = refuses refusal
-closure_told (Closure.Complete members) room = cond (ltb (length room) 1) (refuses NoRoom) (counts (size members) (over (members ∷ []) room))
+closure_told (Err refusal) room = refuses refusal
+closure_told (Ok members) room = cond (ltb (length room) 1) (refuses NoRoom) (counts (size members) (over (members ∷ []) room))
 
 abbrev pub thq_closure : ForC
 thq_closure =
@@ -139,10 +134,10 @@ pub record ReadTimesGiven : Type 0 where
 -- '`times` receives five numbers: PTS, decoding time and match time; 1 where a TREF stood in the header, and else 0; and the offset at which the
 -- header ends. Counts them, 5.'
 abbrev pub times_told : Answer → List ℕ → Told (List ℕ)
-times_told (Answer.Read header) room =
+times_told (Ok header) room =
     counts 5
     (over (header.times.pts ∷ header.times.decoding ∷ header.times.matching ∷ cond header.tref_sent 1 0 ∷ header.end ∷ []) room)
-times_told (Answer.Refused refusal) room = refuses refusal
+times_told (Err refusal) room = refuses refusal
 
 -- 'Refusals: 17 where `times_length` is below 5; then 20 to 24.'
 abbrev pub thq_read_times : ForC
@@ -181,8 +176,8 @@ times_given given =
 
 -- 'Counts the bytes written to `out`.'
 abbrev pub times_written_told : TimesWritten → List ℕ → Told (List ℕ)
-times_written_told (TimesWritten.Bytes count) left = counts count left
-times_written_told (TimesWritten.Refused refusal) left = refuses refusal
+times_written_told (Ok count) left = counts count left
+times_written_told (Err refusal) left = refuses refusal
 
 -- 'Refusals: 25 where a time is 2^33 or more, where `with_tref` is above 1, and where it is 0 although the match time is not the decoding time; then
 -- 17, 24.'

@@ -1,13 +1,12 @@
 -- THE FUNCTIONS FOR C THAT JOIN ROWS as calls, each in the words of include/thoquenry.h over the call of the library that it tells of: thq_join, thq_join_long, thq_import.
 -- Assumes nothing.
-use Rattle.std.specs.Prelude.{ℕ, ◌≤◌, cond, List, [], ◌∷◌, ◌++◌, ltb, length}
+use Rattle.std.specs.Prelude.{ℕ, ◌≤◌, cond, List, [], ◌∷◌, ◌++◌, ltb, length, Err, Ok}
 use Rattle.std.proofs.Common.{arith}
 use Rattle.buffers.specs.Buffers.{over}
 use Rattle.vocabulary.specs.declared.refusal.Refusal.TheVariants.{NoRoom}
 use Rattle.rows.specs.Table.{Table, table, most_rows}
 use Rattle.unit_lists.specs.Sequence.{Lists, lists}
-use Rattle.join_answers.specs.declared.answer.Joined.{Joined}
-use Rattle.join_answers.specs.declared.answer.Joined.TheVariants as Joined
+use Rattle.join_answers.specs.Answer.{Joined}
 use Rattle.join_answers.specs.Joining.{most_long, longest_table}
 use Rattle.join_answers.specs.Steps.{spaces}
 use Rattle.thoquenry_joins.specs.Joins.{layers_given}
@@ -33,9 +32,9 @@ filled after summary = record { after = after; summary = summary }
 -- '`summary` receives two numbers: the set of the layer indices that the target rests on, and the number of units. Counts the rows of such layers'. '17 where one of
 -- `numbers`, `lags` and `sizes` has fewer places .., or `summary` fewer than two.'
 abbrev pub joined_told : List ℕ → Joined → Lists → Told Filled
-joined_told summary (Joined.Refused refusal) after = refuses refusal
-joined_told summary (Joined.Units set units rows) after =
-    cond (ltb (length summary) 2) (refuses NoRoom) (counts rows (filled after (over (set ∷ units ∷ []) summary)))
+joined_told summary (Err refusal) after = refuses refusal
+joined_told summary (Ok joined) after =
+    cond (ltb (length summary) 2) (refuses NoRoom) (counts joined.rows (filled after (over (joined.closure ∷ joined.units ∷ []) summary)))
 
 -- of a table of at most `most` rows, 2^48 at the most
 pub record JoinGiven : Type 0 where

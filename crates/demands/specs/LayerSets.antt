@@ -1,11 +1,10 @@
 -- W-207. 'After reading and after any sequence of the two, each stored value equals the one worked out afresh.' One statement: what holds of a layer set wherever it
 -- comes from, and of what is left in a caller's buffers. The promises of the calls are among those of demand 1.
 -- Assumes nothing.
-use Rattle.std.specs.Prelude.{ℕ, List, [], ◌↔◌, ◌≡◌}
+use Rattle.std.specs.Prelude.{ℕ, List, [], ◌↔◌, ◌≡◌, Ok}
 use Rattle.vocabulary.specs.declared.stream_types.Reading.{Reading}
 use Rattle.records.specs.Records.{index_of}
 use Rattle.loop_entries.specs.declared.Entry.{Entry}
-use Rattle.es_loop.specs.declared.reader.Outcome.TheVariants.{Accepted}
 use Rattle.es_loop.specs.Reading.{loop_read}
 use Rattle.closure.specs.Closures.{closure_of}
 use Rattle.kept_closures.specs.Kept.{fresh_columns}
@@ -23,7 +22,7 @@ use Rattle.held_sets.proofs.Left as left
 
 pub record LayerSets : Type 0 where
   -- after reading a loop, in either edition, or from the empty set, and after any sequence of additions and removals: a layer set, whose stored values mean what a layer rests on
-  pub from_a_loop : (reading : Reading) (bytes : List ℕ) → (loop_read reading bytes).outcome ≡ Accepted → (changes : List Change)
+  pub from_a_loop : (reading : Reading) (bytes : List ℕ) → (loop_read reading bytes).outcome ≡ Ok tt → (changes : List Change)
       → IsSet (after_all (loop_set reading bytes).«set» changes)
   pub from_nothing : (changes : List Change) → IsSet (after_all (set_of []) changes)
   -- each stored value is the one that would be worked out afresh
@@ -34,7 +33,7 @@ pub record LayerSets : Type 0 where
   pub removed_again : (s : LayerSet) → IsSet s → (e : Entry) (more : LayerSet) → added_to s e ≡ changed more
       → removed_from more (index_of e.stream_type e.«record») ≡ changed s
   -- a set that came to have the layers of a loop, by whatever changes, is what a fresh reading of that loop gives
-  pub as_read : (reading : Reading) (bytes : List ℕ) → (loop_read reading bytes).outcome ≡ Accepted → (s : LayerSet) → IsSet s
+  pub as_read : (reading : Reading) (bytes : List ℕ) → (loop_read reading bytes).outcome ≡ Ok tt → (s : LayerSet) → IsSet s
       → ((i : ℕ) (e : Entry) → Layer s i e ↔ LayerOf (entries_read (loop_read reading bytes)) i e) → s ≡ (loop_set reading bytes).«set»
   -- a call leaves in a caller's buffers what was there, or a set
   pub left_by_reading : (layers stored : List ℕ) (reading : ℕ) (bytes : List ℕ) → Leaves layers stored (read_set reading bytes layers stored)

@@ -1,8 +1,7 @@
 -- THE FUNCTION FOR C THAT WRITES AN OPERATION POINT DESCRIPTOR (document 02, W-205), as a call: what include/thoquenry.h says that it tells.
 -- Assumes nothing.
-use Rattle.std.specs.Prelude.{ℕ, List, [], ◌∷◌}
-use Rattle.point_weights.specs.declared.Written.{Written}
-use Rattle.point_weights.specs.declared.Written.TheVariants as Written
+use Rattle.std.specs.Prelude.{ℕ, List, [], ◌∷◌, Err, Ok}
+use Rattle.point_weights.specs.Answer.{Written}
 use Rattle.point_writer.specs.Meaning as Writing
 use Rattle.thoquenry_points_written.proofs.thq_write_points.Kinds as write-points-kinds
 use Rattle.thoquenry_points_written.proofs.thq_write_points.Reads as write-points
@@ -18,8 +17,8 @@ pub record WritePointsGiven : Type 0 where
 
 -- 'Counts the bytes written to `out`.'
 abbrev pub descriptor_told : Written → List ℕ → Told (List ℕ)
-descriptor_told (Written.Bytes count) left = counts count left
-descriptor_told (Written.Refused refusal) left = refuses refusal
+descriptor_told (Ok count) left = counts count left
+descriptor_told (Err refusal) left = refuses refusal
 
 -- it tells the right answer of writing the descriptor of which the lists are the rows
 pub record TellsDescriptor (given : WritePointsGiven) (answer : ℕ) (after : List ℕ) : Type 0 where

@@ -2,17 +2,17 @@
 -- refusal of joining does not leave as they were. Demand 2 speaks of joining: here of joining over the rows that the packets give, in the layers that the loop has under the 2015
 -- reading, where nothing that comes before joining is refused. Demand 3 is over the same rows. Which PIDs are layer PIDs stands beside them.
 -- Assumes nothing.
-use Rattle.std.specs.Prelude.{ℕ, List, ◌↔◌, ◌≡◌}
+use Rattle.recording_imports.specs.Answer.{imported_units, Imported}
+use Rattle.std.specs.Prelude.{ℕ, List, ◌↔◌, ◌≡◌, Err}
 use Rattle.vocabulary.specs.declared.refusal.Refusal.TheVariants.{Unpaired, UsedTwice}
 use Rattle.closure.specs.declared.Layers.{Layers}
 use Rattle.unit_lists.specs.Sequence.{Lists}
 use Rattle.every_row.specs.Statements.{EachOnce, total}
-use Rattle.join_answers.specs.declared.answer.Joined.{Joined}
+use Rattle.join_answers.specs.Answer.{Joined}
 use Rattle.unit_starts.specs.Finding.{rows_in}
 use Rattle.recording_layers.specs.Meaning.{OfEveryLoop}
 use Rattle.recording_layers.specs.Predecessors.{ByPidOrByLayer}
-use Rattle.recording_imports.specs.declared.Imported.{Imported}
-use Rattle.recording_imports.specs.declared.Imported.TheVariants.{Units, Refused}
+use Rattle.recording_imports.specs.declared.Unread.TheVariants.{Refused}
 use Rattle.recording_imports.specs.Imports.{table_of}
 use Rattle.recording_demands.specs.Filled.{Fills}
 use Rattle.recording_demands.specs.Agreement.{filled, Of512Rows, OfEveryRecording}
@@ -44,9 +44,9 @@ pub record OfRecording (given : ImportGiven) (P : RowsGiven → Type 0) : Type 0
 -- DEMAND 2. 'Each unclaimed row yields one unit .. paired by TREF or else by decoding time'; 15 and 16 each exactly when.
 pub record SaysOfRecording (given : ImportGiven) (answer : Imported) (left : Lists) : Type 0 where
   pub units : (closure units rows : ℕ) (after : Lists)
-      → ((answer ≡ Units closure units rows) × (left ≡ after)) ↔ OfRecording given (λ g. OneUnitEach g closure units rows after)
-  pub unpaired : (row : ℕ) → (answer ≡ Refused (Unpaired row)) ↔ OfRecording given (λ g. FirstUnpaired g row)
-  pub used_twice : (row : ℕ) → (answer ≡ Refused (UsedTwice row)) ↔ OfRecording given (λ g. FirstSharing g row)
+      → ((answer ≡ imported_units closure units rows) × (left ≡ after)) ↔ OfRecording given (λ g. OneUnitEach g closure units rows after)
+  pub unpaired : (row : ℕ) → (answer ≡ Err (Refused (Unpaired row))) ↔ OfRecording given (λ g. FirstUnpaired g row)
+  pub used_twice : (row : ℕ) → (answer ≡ Err (Refused (UsedTwice row))) ↔ OfRecording given (λ g. FirstSharing g row)
 
 -- 'In every accepted answer each closure row stands in exactly one unit': of the rows of the recording
 abbrev pub EachRowOnce : Type 0

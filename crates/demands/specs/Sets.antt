@@ -1,13 +1,12 @@
 -- LAYER SETS (document 02, W-207): reading one, adding a layer and removing one as calls of the library, and the four functions for C on sets.
 -- Assumes nothing.
-use Rattle.std.specs.Prelude.{ℕ, true, false, List, [], ◌∷◌, ◌++◌, ◌≡◌, length}
+use Rattle.std.specs.Prelude.{ℕ, true, false, List, [], ◌∷◌, ◌++◌, ◌≡◌, length, Err, Ok}
 use Rattle.sets.specs.Sets.{size}
 use Rattle.vocabulary.specs.declared.stream_types.Reading.{Reading}
 use Rattle.vocabulary.specs.declared.refusal.Refusal.TheVariants.{TooWide}
 use Rattle.loop_entries.specs.declared.Entry.{Entry}
-use Rattle.es_loop.specs.declared.reader.Outcome.{Outcome}
-use Rattle.es_loop.specs.declared.reader.Outcome.TheVariants as Outcome
-use Rattle.closure.specs.declared.Closure.{Closure}
+use Rattle.es_loop.specs.Answer.{Outcome}
+use Rattle.closure.specs.Answer.{Closure}
 use Rattle.closure.specs.Meaning as Target
 use Rattle.entry_rows.specs.Rows.{some_too_wide, rows_of, entry_in}
 use Rattle.layer_set.specs.declared.«set».LayerSet.{LayerSet}
@@ -131,8 +130,8 @@ abbrev pub buffers_of : LayerSet → SetBuffers
 buffers_of s = record { layers = rows_of s.entries; stored = stored_numbers (stored_in s) }
 
 abbrev pub set_told : Outcome → LayerSet → Told SetBuffers
-set_told Outcome.Accepted s = counts (size s.layers.present) (buffers_of s)
-set_told (Outcome.Refused refusal) s = refuses refusal
+set_told (Ok tt) s = counts (size s.layers.present) (buffers_of s)
+set_told (Err refusal) s = refuses refusal
 
 abbrev pub HoldsIn : SetBuffers → LayerSet → Type 0
 HoldsIn b s = Holds b.layers b.stored s

@@ -1,11 +1,10 @@
 -- THE TWO FUNCTIONS FOR C OF THE STEREO SET (document 02, W-211), each as a call: what include/thoquenry.h says that it tells.
 -- Assumes nothing.
-use Rattle.std.specs.Prelude.{ℕ, cond, List, [], ◌∷◌, ◌++◌, ltb, length}
+use Rattle.std.specs.Prelude.{ℕ, cond, List, [], ◌∷◌, ◌++◌, ltb, length, Err, Ok}
 use Rattle.buffers.specs.Buffers.{over}
 use Rattle.vocabulary.specs.declared.refusal.Refusal.TheVariants.{NoRoom, TooWide}
-use Rattle.es_loop.specs.declared.reader.Outcome.{Outcome}
-use Rattle.es_loop.specs.declared.reader.Outcome.TheVariants as Outcome
-use Rattle.loop_writer.specs.declared.writer.Written.{Written}
+use Rattle.es_loop.specs.Answer.{Outcome}
+use Rattle.loop_writer.specs.Answer.{Written}
 use Rattle.entry_rows.specs.Rows.{row_of}
 use Rattle.mvc_extension.specs.MvcExtension.{mvc_extension_fields}
 use Rattle.stereo_set.specs.declared.set.StereoRead.{StereoRead}
@@ -36,8 +35,8 @@ pub record ReadStereoGiven : Type 0 where
 -- '`entries` receives 160 numbers: the entry of layer 0, then that of layer 1. `extensions` receives 16 numbers: the descriptor of layer 0, then that of layer 1. Counts the
 -- layers, 2.' '17 where `entries_length` is below 160 or `extensions_length` below 16.'
 abbrev pub stereo_told : Outcome → StereoRead → BothLists → Told BothLists
-stereo_told (Outcome.Refused refusal) read room = refuses refusal
-stereo_told Outcome.Accepted read room =
+stereo_told (Err refusal) read room = refuses refusal
+stereo_told (Ok tt) read room =
     cond (ltb (length room.entries) 160) (refuses NoRoom)
     (cond (ltb (length room.extensions) 16) (refuses NoRoom)
     (counts 2

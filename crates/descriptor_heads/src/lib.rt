@@ -8,35 +8,28 @@ ghost use Rattle.std.specs.Prelude.{◌≡◌};
 ghost use Rattle.syntax.specs.Filled.{bit_of, bytes_in};
 ghost use Rattle.descriptor_heads.specs.Head.{framed_of, head_table};
 
-// The descriptor at the front of some bytes: whether it fits in them and, where it does, its tag and where it ends.
+// A descriptor at the front of some bytes that fits in them: its tag and where it ends.
 #[derive(Clone, Copy)]
 pub struct Framed {
-    pub fits: bool,
     pub tag: u8,
     pub end: usize,
 }
 
-// The descriptors of some bytes, in order: this finds the first, and the others stand behind its end.
-pub fn first_descriptor(left: &[u8]) -> Framed
+// The descriptors of some bytes, in order: this finds the first, where it fits in them, and the others stand behind its end.
+pub fn first_descriptor(left: &[u8]) -> Option<Framed>
     ensures { result ≡ framed_of left.now }
 {
-    let none = Framed {
-        fits: false,
-        tag: 0,
-        end: 0,
-    };
     if left.len() < 2 {
-        return none;
+        return None;
     }
-    let length = left[1] as usize;
+    let length = usize::from(left[1]);
     if left.len() - 2 < length {
-        return none;
+        return None;
     }
-    Framed {
-        fits: true,
+    Some(Framed {
         tag: left[0],
         end: 2 + length,
-    }
+    })
 }
 
 // The head of a descriptor that is written.
@@ -44,10 +37,4 @@ pub fn descriptor_head(tag: u8, length: u8) -> [u8; 2]
     ensures { result ≡ bytes_in (head_table tag length) }
 {
     [tag, length]
-}
-
-pub fn bit(flag: bool) -> u8
-    ensures { result ≡ bit_of flag }
-{
-    if flag { 1 } else { 0 }
 }

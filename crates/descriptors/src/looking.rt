@@ -88,7 +88,7 @@ fn look_at_extension(payload: &[u8]) -> Look
         return Look::WrongLength;
     }
     let extension = read_extension(payload);
-    if payload.len() != 7 + extension.num_embedded_layers as usize {
+    if payload.len() != 7 + usize::from(extension.num_embedded_layers) {
         return Look::WrongLength;
     }
     Look::Extension(extension)
@@ -116,25 +116,28 @@ fn look_at(reading: Reading, tag: u8, payload: &[u8]) -> Look
 fn unfit(found: Found) -> Found
     ensures { result ≡ unfit_found found }
 {
-    let mut after = found;
-    after.fits = false;
-    after
+    Found {
+        fits: false,
+        ..found
+    }
 }
 
 fn with_second(found: Found) -> Found
     ensures { result ≡ second_found found }
 {
-    let mut after = found;
-    after.second_record = true;
-    after
+    Found {
+        second_record: true,
+        ..found
+    }
 }
 
 fn with_wrong_length(found: Found) -> Found
     ensures { result ≡ wrong_length_found found }
 {
-    let mut after = found;
-    after.wrong_length = true;
-    after
+    Found {
+        wrong_length: true,
+        ..found
+    }
 }
 
 // A record more, and where its descriptor ends: the first is kept, another is the second.
@@ -144,15 +147,11 @@ fn with_record(found: Found, record: Record, end: usize) -> Found
     let first = found.record;
     match first {
         Record::NoRecord => Found {
-            fits: found.fits,
-            wrong_length: found.wrong_length,
-            second_record: found.second_record,
             record,
             end,
+            ..found
         },
-        Record::Hierarchy(_) => with_second(found),
-        Record::Extension(_) => with_second(found),
-        Record::Implied => with_second(found),
+        Record::Hierarchy(_) | Record::Extension(_) | Record::Implied => with_second(found),
     }
 }
 
@@ -175,10 +174,9 @@ pub fn find_records(reading: Reading, info: &[u8]) -> Found
     let mut at = 0;
     while at < info.len() {
         let left = &info[at..];
-        let first = first_descriptor(left);
-        if !first.fits {
+        let Some(first) = first_descriptor(left) else {
             return unfit(found);
-        }
+        };
         let end = first.end;
         let look = look_at(reading, first.tag, &left[2..end]);
         at += end;
@@ -193,13 +191,11 @@ fn layers_before(record: Record, end: usize, info: &[u8]) -> [LayerIndex; 63]
     ensures { result ≡ pad_to 63 no_layer (list_before info.now «record» end) }
 {
     match record {
-        Record::NoRecord => no_layers(),
-        Record::Hierarchy(_) => no_layers(),
+        Record::NoRecord | Record::Hierarchy(_) | Record::Implied => no_layers(),
         Record::Extension(extension) => {
-            let start = end - extension.num_embedded_layers as usize;
+            let start = end - usize::from(extension.num_embedded_layers);
             read_embedded(&info[start..end])
         }
-        Record::Implied => no_layers(),
     }
 }
 
@@ -233,8 +229,7 @@ fn named_at(reading: Reading, tag: u8, payload: &[u8]) -> Named
     ensures { NamedIn result (held_in (payload_kind reading tag payload.now)) }
 {
     match look_at(reading, tag, payload) {
-        Look::Skipped => nothing_named(),
-        Look::WrongLength => nothing_named(),
+        Look::Skipped | Look::WrongLength => nothing_named(),
         Look::Hierarchy(hierarchy) => Named {
             record: Record::Hierarchy(hierarchy),
             names: names_of_hierarchy(hierarchy),
@@ -254,10 +249,9 @@ pub fn name_layers(reading: Reading, info: &[u8]) -> Named
     let mut at = 0;
     while at < info.len() {
         let left = &info[at..];
-        let first = first_descriptor(left);
-        if !first.fits {
+        let Some(first) = first_descriptor(left) else {
             return nothing_named();
-        }
+        };
         let end = first.end;
         let named = named_at(reading, first.tag, &left[2..end]);
         let record = named.record;

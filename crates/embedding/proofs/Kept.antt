@@ -1,5 +1,6 @@
 -- Every loop that was accepted keeps its bytes and its answers: no number of now applies where none of before did.
 -- Assumes nothing.
+use Rattle.std.specs.Prelude.{Ok}
 use Prim.Native.Nat.{ℕ}
 use mathlib.Core.List.{List}
 use Rattle.vocabulary.specs.declared.stream_types.Reading.{Reading}
@@ -7,7 +8,6 @@ use Rattle.loop_entries.specs.declared.Entry.{Entry}
 use Rattle.loop_entries.specs.declared.Stream.{Stream}
 use Rattle.es_loop.specs.Reading.{accepted as acceptedNow}
 use Rattle.es_loop.specs.Meaning as Loop
-use Rattle.loop_writer.specs.declared.writer.Written.TheVariants.{Bytes}
 use Rattle.loop_writer.specs.Meaning as Writer
 use Rattle.loop_layers.specs.Meaning as LoopClosure
 use Rattle.rows.specs.Table.{Table}
@@ -33,7 +33,7 @@ given_still gave =
     }
 
 bytes_kept : {count n : ℕ} {array : List Entry} {old new : List ℕ} → Written.Answers count array old (accepted n) new
-    → Writer.Answers count array old (Bytes n) new
+    → Writer.Answers count array old (Ok n) new
 bytes_kept (Written.accepts each few bytes short none room) = Writer.accepts each few bytes short (λ n k now. none n k (Written.as_now now)) room
 
 pub answers_kept : AnswersKept

@@ -1,6 +1,7 @@
 -- A loop that the 2015 reading accepts and that lists more than 8 layers somewhere: the 2015 reading before W-206 refuses it with 10 alone, and the 2009
 -- reading before it accepts it.
 -- Assumes nothing.
+use Rattle.std.specs.Prelude.{Ok}
 use Prim.Native.Nat.{ℕ, ◌≤◌, ◌<◌}
 use mathlib.Core.Bool.{Bool, true, false, true≢false}
 use mathlib.Core.List.{List, ◌∷◌, map, nil≢cons, head-eq_of_cons-eq}
@@ -26,7 +27,6 @@ use Rattle.descriptors.specs.Meaning.{ShowEach, none, one_then, unfit, a_hierarc
 use Rattle.records.specs.Records.{is_layer}
 use Rattle.loop_entries.specs.declared.Entry.{Entry}
 use Rattle.loop_entries.specs.declared.Stream.{Stream}
-use Rattle.es_loop.specs.declared.reader.Outcome.TheVariants.{Accepted}
 use Rattle.es_loop.specs.declared.reader.LoopRead.{LoopRead}
 use Rattle.loop_entries.specs.Entries.{es_info_length, stream_of, no_stream, pair_of, marked_stream, marked_streams, entry_of, blank_entry}
 use Rattle.loop_faults.specs.Conditions.{record_at}
@@ -71,7 +71,7 @@ record Sound (reading : Reading) (bytes : List ℕ) (read : LoopRead) : Type 0 w
   nothing_applies : (n k : ℕ) → Loop.Condition reading items n k → ⊥
   is_read : read ≡ acceptedNow (marked_streams (map (stream_of reading) items))
 
-sound : {reading : Reading} {bytes : List ℕ} {read : LoopRead} → Loop.Answers reading bytes read → read.outcome ≡ Accepted → Sound reading bytes read
+sound : {reading : Reading} {bytes : List ℕ} {read : LoopRead} → Loop.Answers reading bytes read → read.outcome ≡ Ok tt → Sound reading bytes read
 sound (Loop.too_long_lem h) e = let z : ◌≡◌ {A = ℕ} 0 1 = cc in absurd (omega arith)
 sound (Loop.refuses short cuts at-k lower earlier) e = let z : ◌≡◌ {A = ℕ} 0 1 = cc in absurd (omega arith)
 sound (Loop.accepts {entries} short cuts no-condition) e =

@@ -2,7 +2,7 @@
 -- with 10 by 2015 readers that haven't been updated, and by no other number of the loop reading, where all else is sound.' proofs/Kept.antt and
 -- proofs/Long.antt have the proofs.
 -- Assumes nothing.
-use Rattle.std.specs.Prelude.{ℕ, ◌<◌, List, map, ◌≡◌}
+use Rattle.std.specs.Prelude.{ℕ, ◌<◌, List, map, ◌≡◌, Ok}
 use Rattle.combinators.specs.Lists.{Nth}
 use Rattle.vocabulary.specs.declared.stream_types.Reading.{Reading}
 use Rattle.vocabulary.specs.declared.stream_types.Reading.TheVariants.{Edition2009, Edition2015}
@@ -11,7 +11,6 @@ use Rattle.loop_entries.specs.declared.Stream.{Stream}
 use Rattle.loop_entries.specs.Entries.{entry_of}
 use Rattle.es_loop.specs.Reading.{accepted as acceptedNow}
 use Rattle.es_loop.specs.Meaning as Loop
-use Rattle.loop_writer.specs.declared.writer.Written.TheVariants.{Bytes}
 use Rattle.loop_writer.specs.Meaning as Writer
 use Rattle.closure.specs.declared.Layers.{Layers}
 use Rattle.closure.specs.Meaning as Target
@@ -44,7 +43,7 @@ pub record AnswersKept : Type 0 where
   pub closure_and_import : {reading : Reading} {bytes : List ℕ} {target : ℕ} {t : Table} {before : Lists} {a : Answer}
       → Gave reading bytes target t before a → Gives reading bytes target t before a
   pub bytes_written : {count n : ℕ} {array : List Entry} {old new : List ℕ} → Written.Answers count array old (accepted n) new
-      → Writer.Answers count array old (Bytes n) new
+      → Writer.Answers count array old (Ok n) new
 
 -- ---- 'A loop written with more than 8 will be refused with 10 by 2015 readers that haven't been updated'
 

@@ -44,12 +44,10 @@ fn list_too_wide(list: &[u16], count: usize) -> bool
     requires { count ≤ length list.now }
     ensures { result ≡ any layer_too_wide (take count list.now) }
 {
-    let mut i = 0;
-    while i < count {
-        if 63 < list[i] {
+    for number in &list[..count] {
+        if 63 < *number {
             return true;
         }
-        i += 1;
     }
     false
 }
@@ -76,7 +74,7 @@ fn row_too_wide(row: &[u16]) -> bool
         if extension_too_wide(row) {
             return true;
         }
-        return list_too_wide(&row[16..], row[15] as usize);
+        return list_too_wide(&row[16..], usize::from(row[15]));
     }
     false
 }
@@ -86,14 +84,12 @@ pub fn some_too_wide(numbers: &[u16]) -> bool
     ensures { result ≡ some_too_wide numbers.now }
 {
     let count = numbers.len() / 80;
-    let mut i = 0;
-    while i < count {
+    for i in 0..count {
         let start = i * 80;
         let end = start + 80;
         if row_too_wide(&numbers[start..end]) {
             return true;
         }
-        i += 1;
     }
     false
 }

@@ -1,4 +1,4 @@
 pub mod Pairs
-pub mod Judged
+pub mod Verdicts
 pub mod Walk
 pub mod Meant

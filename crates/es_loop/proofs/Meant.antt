@@ -1,5 +1,6 @@
 -- The law that joins the meaning of a loop's answer to what is computed, both ways.
 -- Assumes nothing.
+use Rattle.std.specs.Prelude.{Err}
 use Prim.Native.Nat.{ℕ, suc, ◌≤◌, ◌<◌}
 use mathlib.Core.Path.{◌≡◌, refl, sym, ◌∙◌, ap, ap₂, subst}
 use mathlib.Core.Bool.{Bool, true, false, cond, not, ◌&&◌}
@@ -45,11 +46,10 @@ use Rattle.judging.proofs.Meant.{refusal_6, refusal_7, refusal_9, implied_sound}
 use Rattle.loop_entries.specs.declared.Stream.{Stream}
 use Rattle.loop_entries.specs.Entries.{entry_head, stream_type, elementary_pid, es_info_length, no_stream, stream_of, shown_of, pair_of, marked_stream, marked_streams, streams_of}
 use Rattle.loop_faults.specs.Conditions.{stream_at, pid_at, type_at, record_at, repeated_pid, repeated_index, given_at, conditions, applies, refusal_of}
-use Rattle.es_loop.specs.declared.verdict.Verdict.TheVariants.{Refused as Refuses}
 use Rattle.es_loop.specs.declared.reader.LoopRead.{LoopRead}
 use Rattle.es_loop.specs.Reading.{refused_with, verdict_at, judged, answer_by, loop_read}
 use Rattle.es_loop.proofs.Pairs.{pair_marked, marked_at, marked_length}
-use Rattle.es_loop.proofs.Judged.{judged_refused, judged_accepted}
+use Rattle.es_loop.proofs.Verdicts.{judged_refused, judged_accepted}
 use Rattle.es_loop.specs.Meaning.{KnownAt, RecordAt, OnlyView, ImpliedViews, LayerAt, written, implied, Condition, entry_unfit, descriptor_unfit, pid_seen, length_wrong, two_records, type_wrong, flags_wrong, index_held, embedded_wrong, Answers, too_long_lem, refuses, accepts}
 
 pub by_head : (head rest : List ℕ) → length head ≡ 5 → es_info_length (head ++ rest) ≡ es_info_length head
@@ -683,7 +683,7 @@ module _ (reading : Reading) (bytes : List ℕ) (entries : List Item) (c : Cuts 
   cut_found : answer_by found (judged found) ≡ loop_read reading bytes
   cut_found =
       ap (λ (l : List Item). answer_by (marked_streams (map (stream_of reading) l)) (judged (marked_streams (map (stream_of reading) l)))) (cuts_unique 5 es_info_length (omega arith) by_head c)
-      ∙ sym (ap (λ (b : Bool). answer_by (streams_of reading bytes) (cond b (Refuses LoopTooLong) (judged (streams_of reading bytes)))) (le-ltb 1008 (length bytes) short))
+      ∙ sym (ap (λ (b : Bool). answer_by (streams_of reading bytes) (cond b (Err LoopTooLong) (judged (streams_of reading bytes)))) (le-ltb 1008 (length bytes) short))
 
   found_inside : {k : ℕ} → k < length found → k < length entries
   found_inside h = rw same_count at h
@@ -716,7 +716,7 @@ module _ (reading : Reading) (bytes : List ℕ) (entries : List Item) (c : Cuts 
 
 pub answer_only : (reading : Reading) (bytes : List ℕ) {answer : LoopRead} → Answers reading bytes answer → answer ≡ loop_read reading bytes
 answer_only reading bytes (too_long_lem h) =
-    sym (ap (λ (b : Bool). answer_by (streams_of reading bytes) (cond b (Refuses LoopTooLong) (judged (streams_of reading bytes)))) (lt-ltb 1008 (length bytes) h))
+    sym (ap (λ (b : Bool). answer_by (streams_of reading bytes) (cond b (Err LoopTooLong) (judged (streams_of reading bytes)))) (lt-ltb 1008 (length bytes) h))
 answer_only reading bytes (refuses {entries} {refusal} short c at-k lower earlier) =
     let all : List Stream = marked_streams (map (stream_of reading) entries) in
     let n : ℕ = number_of refusal in

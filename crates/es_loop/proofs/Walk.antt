@@ -1,5 +1,7 @@
 -- The walk through the bytes of a loop: where it stands after some of the entries, and the ways out of the pass that judges.
 -- Assumes nothing.
+use Rattle.std.specs.Prelude.{Err}
+use Rattle.es_loop.specs.Answer.{entries_judged}
 use Prim.Native.Nat.{ℕ, zero, suc, ◌+◌, ◌-◌, ◌*◌, ◌≤◌, ◌<◌}
 use mathlib.Core.Path.{◌≡◌, refl, sym, ◌∙◌, ap, subst}
 use mathlib.Core.Bool.{Bool, false, not}
@@ -16,17 +18,16 @@ use Rattle.vocabulary.specs.declared.stream_types.Reading.{Reading}
 use Rattle.vocabulary.specs.declared.refusal.Refusal.TheVariants.{DoesNotFit}
 use Rattle.loop_entries.specs.declared.Stream.{Stream}
 use Rattle.loop_faults.specs.declared.Fault.{Fault}
-use Rattle.es_loop.specs.declared.verdict.Verdict.TheVariants.{Entries, Refused as Refuses}
 use Rattle.loop_entries.specs.Entries.{no_stream, size_of, stream_of, pair_of, marked_stream, streams_alone, streams_of}
 use Rattle.loop_faults.specs.Conditions.{stream_at, given_at, applies, refusal_of}
 use Rattle.loop_entries.proofs.Front.{size_large, pid_below, front_broken, front_of, left_at, left_long}
 use Rattle.es_loop.specs.Reading.{judged}
 use Rattle.es_loop.proofs.Pairs.{pair_marked}
-use Rattle.es_loop.proofs.Judged.{judged_refused, judged_accepted, Sound}
+use Rattle.es_loop.proofs.Verdicts.{judged_refused, judged_accepted, Sound}
 
 -- The first entry that does not fit, where all before it have only higher numbers.
 pub does_not_fit : (streams : List Stream) (number place count : ℕ) → count < length streams → (stream_at streams count).fits ≡ false
-    → 3 ≤ number → Lowest (applies streams) 10 count number place → Refuses (DoesNotFit count) ≡ judged streams
+    → 3 ≤ number → Lowest (applies streams) 10 count number place → Err (DoesNotFit count) ≡ judged streams
 does_not_fit streams number place count inside unfit above b = judged_refused streams 2 count two (omega arith)
   where
     none : (n k : ℕ) → n < 2 → applies streams n k ≡ false
@@ -98,14 +99,14 @@ module _ (reading : Reading) (bytes : List ℕ) where
     over_all : Lowest (applies all) 10 (length all) fault.number fault.place
     over_all = subst (λ (n : ℕ). Lowest (applies all) 10 n fault.number fault.place) (counted_all count at cursor done) known
 
-    pub end_refused : fault.number < 10 → Refuses (refusal_of fault.number fault.place) ≡ judged all
+    pub end_refused : fault.number < 10 → Err (refusal_of fault.number fault.place) ≡ judged all
     end_refused h = judged_refused all fault.number fault.place over_all h
 
-    pub end_accepted : (held : Bool) → held ≡ pair → 10 ≤ fault.number → Entries count held ≡ judged all
+    pub end_accepted : (held : Bool) → held ≡ pair → 10 ≤ fault.number → entries_judged count held ≡ judged all
     end_accepted held is-pair h =
         let ten : fault.number ≡ 10 = omega (arith, known.within) in
-        ap (Entries count) (is-pair ∙ sym (pair_marked (streams_alone reading bytes)))
-        ∙ ap (λ (n : ℕ). Entries n (pair_of all)) (counted_all count at cursor done)
+        ap (entries_judged count) (is-pair ∙ sym (pair_marked (streams_alone reading bytes)))
+        ∙ ap (λ (n : ℕ). entries_judged n (pair_of all)) (counted_all count at cursor done)
         ∙ judged_accepted all fault.place (subst (λ (m : ℕ). Lowest (applies all) 10 (length all) m fault.place) ten over_all)
 
   -- What stands at the front of the bytes that are left, with its mark, where the entries before it were met.

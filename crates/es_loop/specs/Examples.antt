@@ -1,6 +1,6 @@
 -- Document 01's loop examples, and those of W-201, computed.
 -- Assumes nothing.
-use Rattle.std.specs.Prelude.{ℕ, ◌≡◌, refl, List, [], ◌∷◌, ◌++◌, length, get_or}
+use Rattle.std.specs.Prelude.{ℕ, ◌≡◌, refl, List, [], ◌∷◌, ◌++◌, length, get_or, Ok}
 use Rattle.vocabulary.specs.declared.stream_types.Reading.TheVariants.{Edition2009, Edition2015}
 use Rattle.vocabulary.specs.declared.refusal.Refusal.TheVariants.{DoesNotFit, TypeNotAllowed, RepeatedLayerIndex}
 use Rattle.records.specs.declared.Record.{Record}
@@ -8,7 +8,6 @@ use Rattle.records.specs.declared.Record.TheVariants.{NoRecord, Implied}
 use Rattle.extension.specs.Extension.{no_layer}
 use Rattle.combinators.specs.Padding.{pad_to}
 use Rattle.es_loop.specs.declared.reader.LoopRead.{LoopRead}
-use Rattle.es_loop.specs.declared.reader.Outcome.TheVariants.{Accepted}
 use Rattle.loop_entries.specs.declared.Entry.{Entry}
 use Rattle.loop_entries.specs.Entries.{blank_entry}
 use Rattle.es_loop.specs.Reading.{refused_with, loop_read}
@@ -20,7 +19,7 @@ loop_a =
     ++ (0x28 ∷ 0xE1 ∷ 0x02 ∷ 0xF0 ∷ 0x0A ∷ 0x3F ∷ 0x08 ∷ 0x06 ∷ 0x00 ∷ 0x02 ∷ 0x08 ∷ 0x03 ∷ 0xC1 ∷ 0xC2 ∷ 0xC0 ∷ [])
 
 -- the empty loop is accepted
-empty : loop_read Edition2015 [] ≡ record { outcome = Accepted; count = 0; entries = pad_to 201 blank_entry [] }
+empty : loop_read Edition2015 [] ≡ record { outcome = Ok tt; count = 0; entries = pad_to 201 blank_entry [] }
 empty = refl
 
 -- 4 bytes: 2 at entry 0
@@ -28,10 +27,10 @@ four_bytes : loop_read Edition2015 (0x1B ∷ 0xE1 ∷ 0x00 ∷ 0xF0 ∷ []) ≡ 
 four_bytes = refl
 
 -- loop A is accepted in both readings
-loop_a_2015 : (loop_read Edition2015 loop_a).outcome ≡ Accepted
+loop_a_2015 : (loop_read Edition2015 loop_a).outcome ≡ Ok tt
 loop_a_2015 = refl
 
-loop_a_2009 : (loop_read Edition2009 loop_a).outcome ≡ Accepted
+loop_a_2009 : (loop_read Edition2009 loop_a).outcome ≡ Ok tt
 loop_a_2009 = refl
 
 -- Two views and no hierarchy descriptor: an AVC stream on PID 256 and an MVC stream on PID 257, neither with a descriptor.
@@ -62,7 +61,7 @@ answered t pid r = record { stream_type = t; pid = pid; «record» = r; embedded
 
 -- accepted, with these entries
 abbrev with_entries : List Entry → LoopRead
-with_entries es = record { outcome = Accepted; count = length es; entries = pad_to 201 blank_entry es }
+with_entries es = record { outcome = Ok tt; count = length es; entries = pad_to 201 blank_entry es }
 
 -- each has the implied mark, in both readings and in either order
 pair_2009 : loop_read Edition2009 (avc ++ mvc) ≡ with_entries (answered 0x1B 256 Implied ∷ answered 0x20 257 Implied ∷ [])
@@ -106,5 +105,5 @@ base_before = refl
 base_between : loop_read Edition2015 (mvc ++ (hevc_base ++ avc)) ≡ refused_with (RepeatedLayerIndex 2)
 base_between = refl
 
-base_unknown : (loop_read Edition2009 (hevc_base ++ (avc ++ mvc))).outcome ≡ Accepted
+base_unknown : (loop_read Edition2009 (hevc_base ++ (avc ++ mvc))).outcome ≡ Ok tt
 base_unknown = refl

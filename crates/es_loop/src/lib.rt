@@ -15,5 +15,5 @@ pub use loop_faults::{
     slot_of,
 };
 pub use loop_views::implied_pair;
-pub use reader::{LoopRead, Outcome, read_loop};
-pub use verdict::{Verdict, judge};
+pub use reader::{LoopRead, read_loop};
+pub use verdict::{Judged, judge};

@@ -1,22 +1,17 @@
 // The loop with every entry by value: judged first, and laid out where it is accepted.
 ghost use Rattle.std.specs.Prelude.{◌≡◌, length};
+ghost use Rattle.es_loop.specs.Answer.{entries_judged};
 ghost use Rattle.loop_entries.specs.Entries.{streams_of, entries_of};
 ghost use Rattle.es_loop.specs.Reading.{refused_with, verdict_of, loop_read};
 
-use super::verdict::{Verdict, judge};
+use super::verdict::judge;
 use loop_entries::{Entry, MOST_ENTRIES, blank_entries, entry_of, entry_size, read_stream};
 use vocabulary::{Reading, Refusal};
-
-#[derive(Clone, Copy)]
-pub enum Outcome {
-    Accepted,
-    Refused(Refusal),
-}
 
 // What reading a loop answers: the outcome and, where it is accepted, the number of entries and each entry in loop order.
 #[derive(Clone, Copy)]
 pub struct LoopRead {
-    pub outcome: Outcome,
+    pub outcome: Result<(), Refusal>,
     pub count: usize,
     pub entries: [Entry; MOST_ENTRIES],
 }
@@ -25,7 +20,7 @@ fn refused(refusal: Refusal) -> LoopRead
     ensures { result ≡ refused_with refusal }
 {
     LoopRead {
-        outcome: Outcome::Refused(refusal),
+        outcome: Err(refusal),
         count: 0,
         entries: blank_entries(),
     }
@@ -33,7 +28,7 @@ fn refused(refusal: Refusal) -> LoopRead
 
 // The entries of a loop that was judged and accepted.
 fn entries_in(reading: Reading, pair: bool, bytes: &[u8]) -> [Entry; MOST_ENTRIES]
-    requires { verdict_of reading bytes.now ≡ Verdict.Entries (length (streams_of reading bytes.now)) pair }
+    requires { verdict_of reading bytes.now ≡ entries_judged (length (streams_of reading bytes.now)) pair }
     ensures { result ≡ entries_of (streams_of reading bytes.now) }
 {
     let mut entries = blank_entries();
@@ -54,11 +49,11 @@ pub fn read_loop(reading: Reading, bytes: &[u8]) -> LoopRead
     ensures { result ≡ loop_read reading bytes.now }
 {
     match judge(reading, bytes) {
-        Verdict::Refused(refusal) => refused(refusal),
-        Verdict::Entries { count, pair } => LoopRead {
-            outcome: Outcome::Accepted,
-            count,
-            entries: entries_in(reading, pair, bytes),
+        Err(refusal) => refused(refusal),
+        Ok(judged) => LoopRead {
+            outcome: Ok(()),
+            count: judged.count,
+            entries: entries_in(reading, judged.pair, bytes),
         },
     }
 }

@@ -14,13 +14,13 @@ const DOES_NOT_FIT: usize = 2;
 
 // How many entries an accepted loop has, and whether it has the two views without a hierarchy descriptor; or the refusal.
 #[derive(Clone, Copy)]
-pub enum Verdict {
-    Entries { count: usize, pair: bool },
-    Refused(Refusal),
+pub struct Judged {
+    pub count: usize,
+    pub pair: bool,
 }
 
 // A loop of at most 1,008 bytes, by whether it has the two views.
-fn judge_entries(reading: Reading, pair: bool, bytes: &[u8]) -> Verdict
+fn judge_entries(reading: Reading, pair: bool, bytes: &[u8]) -> Result<Judged, Refusal>
     requires { (length bytes.now ≤ 1008) × (pair ≡ pair_of (streams_alone reading bytes.now)) }
     ensures { result ≡ judged (streams_of reading bytes.now) }
 {
@@ -33,28 +33,28 @@ fn judge_entries(reading: Reading, pair: bool, bytes: &[u8]) -> Verdict
         let left = &bytes[at..];
         let size = entry_size(left);
         if left.len() < size {
-            return Verdict::Refused(Refusal::DoesNotFit(count));
+            return Err(Refusal::DoesNotFit(count));
         }
         let number = judge_entry(&mut pids, &mut indices, reading, pair, &left[..size]);
         if number == DOES_NOT_FIT {
-            return Verdict::Refused(Refusal::DoesNotFit(count));
+            return Err(Refusal::DoesNotFit(count));
         }
         fault = lower(fault, number, count);
         count += 1;
         at += size;
     }
     if fault.number < NO_FAULT {
-        return Verdict::Refused(refusal_of(fault.number, fault.place));
+        return Err(refusal_of(fault.number, fault.place));
     }
-    Verdict::Entries { count, pair }
+    Ok(Judged { count, pair })
 }
 
 // The loop of a program map section, any bytes at all.
-pub fn judge(reading: Reading, bytes: &[u8]) -> Verdict
+pub fn judge(reading: Reading, bytes: &[u8]) -> Result<Judged, Refusal>
     ensures { result ≡ verdict_of reading bytes.now }
 {
     if MOST_BYTES < bytes.len() {
-        return Verdict::Refused(Refusal::LoopTooLong);
+        return Err(Refusal::LoopTooLong);
     }
     judge_entries(reading, implied_pair(reading, bytes), bytes)
 }

@@ -12,7 +12,7 @@ ghost use Rattle.syntax.specs.Table.{Fit, fits, write_table};
 ghost use Rattle.syntax.specs.Filled.{values_in, bytes_in, too_wide_in};
 ghost use Rattle.extension.specs.Extension.{extension_head, embedded_layer, no_layer, extension_of, layers_of, extension_fields, layer_table, extension_tables};
 
-use descriptor_heads::{bit, descriptor_head};
+use descriptor_heads::descriptor_head;
 use vocabulary::{HierarchyChannel, LayerIndex, NuhLayerId, TemporalId};
 
 // Each field but the reserved bits and the list of embedded layers, which stands beside it.
@@ -39,8 +39,8 @@ pub fn read_extension(payload: &[u8]) -> ExtensionRecord
     requires { 7 ≤ length payload.now }
     ensures { result ≡ extension_of payload.now }
 {
-    let high = wide(payload[1]);
-    let low = wide(payload[2]);
+    let high = u16::from(payload[1]);
+    let low = u16::from(payload[2]);
     let index = payload[3];
     let identities = payload[4];
     let count = payload[5];
@@ -56,22 +56,14 @@ pub fn read_extension(payload: &[u8]) -> ExtensionRecord
     }
 }
 
-fn wide(byte: u8) -> u16
-    ensures { result ≡ byte }
-{
-    byte as u16
-}
-
 // The list of embedded layers, one byte each, in its order.
 pub fn read_embedded(list: &[u8]) -> [LayerIndex; 63]
     requires { length list.now ≤ 63 }
     ensures { result ≡ pad_to 63 no_layer (layers_of list.now) }
 {
     let mut layers = no_layers();
-    let mut i = 0;
-    while i < list.len() {
-        layers[i] = LayerIndex(list[i] % 64);
-        i += 1;
+    for (i, byte) in list.iter().enumerate() {
+        layers[i] = LayerIndex(byte % 64);
     }
     layers
 }
@@ -98,12 +90,10 @@ pub fn list_too_wide(count: usize, embedded: [LayerIndex; 63]) -> bool
     requires { count ≤ 63 }
     ensures { result ≡ any too_wide_in (map layer_table (take count embedded)) }
 {
-    let mut i = 0;
-    while i < count {
-        if layer_too_wide(embedded[i]) {
+    for index in &embedded[..count] {
+        if layer_too_wide(*index) {
             return true;
         }
-        i += 1;
     }
     false
 }
@@ -115,7 +105,7 @@ fn extension_payload(extension: ExtensionRecord) -> [u8; 7]
 {
     let dimension_bits = extension.dimension_bits;
     let temporal_id = extension.temporal_id.0;
-    let tref = bit(extension.tref_present_flag);
+    let tref = u8::from(extension.tref_present_flag);
     [
         0x06,
         (dimension_bits / 256) as u8,
@@ -134,17 +124,15 @@ fn embedded_layer(index: LayerIndex) -> [u8; 1]
     [192 + index.0]
 }
 
-// The first `count` embedded layers of the list, laid into `out` from place `at` on.
-fn put_list(out: &mut [u8], at: usize, count: usize, embedded: [LayerIndex; 63]) -> usize
-    requires { (count ≤ 63) × (any too_wide_in (map layer_table (take count embedded)) ≡ false) }
-    ensures { Laid out.old at (gather bytes_in (map layer_table (take count embedded))) result out.new }
+// The embedded layers of a list, laid into `out` from place `at` on.
+fn put_list(out: &mut [u8], at: usize, list: &[LayerIndex]) -> usize
+    requires { any too_wide_in (map layer_table list.now) ≡ false }
+    ensures { Laid out.old at (gather bytes_in (map layer_table list.now)) result out.new }
 {
     let mut place = buffers::put(out, at, b"");
-    let mut i = 0;
-    while i < count {
-        let layer = embedded_layer(embedded[i]);
+    for index in list {
+        let layer = embedded_layer(*index);
         place = buffers::put(out, place, &layer);
-        i += 1;
     }
     place
 }
@@ -161,8 +149,8 @@ pub fn put_extension(
 {
     let head = descriptor_head(63, 7 + extension.num_embedded_layers);
     let payload = extension_payload(extension);
-    let count = extension.num_embedded_layers as usize;
+    let count = usize::from(extension.num_embedded_layers);
     let mut place = buffers::put(out, at, &head);
     place = buffers::put(out, place, &payload);
-    put_list(out, place, count, embedded)
+    put_list(out, place, &embedded[..count])
 }

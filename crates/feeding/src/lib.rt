@@ -47,8 +47,7 @@ pub fn feed_front(
     if size < PACKET_BYTES {
         return Progress {
             part: size,
-            number: progress.number,
-            found: before,
+            ..progress
         };
     }
     let found = passing::pass(

@@ -1,5 +1,6 @@
 -- What is known of a whole closure, and of a table in range and in time order: its layers rise, so that an index of it is ready to be searched.
 -- Assumes nothing.
+use Rattle.std.specs.Prelude.{Ok}
 use Prim.Native.Nat.{ℕ}
 use mathlib.Core.Bool.{true, ◌||◌}
 use mathlib.Core.List.{List}
@@ -9,8 +10,7 @@ use borrow.Author.Tests.{ltb-false}
 use lib.Dec.{leb, ltb}
 use lib.ListN.{get_or}
 use Rattle.closure.specs.declared.Layers.{Layers}
-use Rattle.closure.specs.declared.Closure.{Closure}
-use Rattle.closure.specs.declared.Closure.TheVariants.{Complete}
+use Rattle.closure.specs.Answer.{Closure}
 use Rattle.closure.specs.Closures.{closure_of}
 use Rattle.closure.specs.Meaning.{by, WholeClosure, Answers, no_such_layer, absent, complete}
 use Rattle.closure.proofs.Meant.{closure_meant}
@@ -30,10 +30,10 @@ use Rattle.rows.proofs.Verdicts.{Sound, shape_decoded, shape_matched}
 use Rattle.claims.specs.Marks.{Claimable}
 use Rattle.claims.proofs.Meant.{rising_embedded}
 
-pub closed : (layers : Layers) (target closure : ℕ) → closure_of layers target ≡ Complete closure → Closed layers target closure
+pub closed : (layers : Layers) (target closure : ℕ) → closure_of layers target ≡ Ok closure → Closed layers target closure
 closed layers target closure e = go (closure_meant layers target) e
   where
-    go : {answer : Closure} → Answers layers target answer → answer ≡ Complete closure → Closed layers target closure
+    go : {answer : Closure} → Answers layers target answer → answer ≡ Ok closure → Closed layers target closure
     go (no_such_layer h) p = let z : ◌≡◌ {A = ℕ} 0 1 = cc in absurd (omega arith)
     go (absent h m) p = let z : ◌≡◌ {A = ℕ} 0 1 = cc in absurd (omega arith)
     go (complete {set = set} h w) p = let q : set ≡ closure = cc in record { here = h; whole = subst (WholeClosure layers target) q w }

@@ -29,7 +29,7 @@ fn any_used(rows: &[usize; 64], own: u64, used: &[bool]) -> bool
 {
     let mut left = own;
     while left != 0 {
-        let layer = sets::lowest(left) as usize;
+        let layer = usize::from(sets::lowest(left));
         if used[rows[layer]] {
             return true;
         }
@@ -56,7 +56,7 @@ fn keep(
     let mut left = own;
     let mut at = place;
     while left != 0 {
-        let layer = sets::lowest(left) as usize;
+        let layer = usize::from(sets::lowest(left));
         let row = rows[layer];
         rows[layer] = none;
         used[row] = true;
@@ -88,9 +88,8 @@ fn first_unpaired(
 {
     let none = indices.len();
     let mut next = [0usize; 64];
-    let mut row = from;
-    while row < none {
-        let layer = indices[row] as usize;
+    for row in from..none {
+        let layer = usize::from(indices[row]);
         if sets::member(closure, layer) & !claimed[row] {
             let mut rows = [none; 64];
             let complete = assemble(
@@ -100,7 +99,6 @@ fn first_unpaired(
                 return row;
             }
         }
-        row += 1;
     }
     none
 }
@@ -138,9 +136,8 @@ pub fn judge(
     let mut rows = [none; 64];
     let mut units = 0;
     let mut place = 0;
-    let mut row = 0;
-    while row < none {
-        let layer = indices[row] as usize;
+    for row in 0..none {
+        let layer = usize::from(indices[row]);
         if sets::member(closure, layer) & !claimed[row] {
             let complete = assemble(
                 indices, decodings, matches, starts, order, edges, layer, row, &mut next, &mut rows,
@@ -176,7 +173,6 @@ pub fn judge(
             place += sets::size(members);
             units += 1;
         }
-        row += 1;
     }
     Judged {
         unpaired: none,

@@ -1,5 +1,6 @@
 -- WHAT THE FUNCTIONS FOR C LEAVE BEHIND HOLDS A SET, or is what was there.
 -- Assumes nothing.
+use Rattle.std.specs.Prelude.{Err, None, Ok, Some}
 use Prim.Native.Nat.{ℕ, ◌<◌}
 use mathlib.Core.Bool.{Bool, true, false, not, cond}
 use mathlib.Core.List.{List}
@@ -16,12 +17,11 @@ use Rattle.vocabulary.specs.declared.stream_types.Reading.{Reading}
 use Rattle.vocabulary.specs.declared.refusal.Refusal.TheVariants.{TooWide}
 use Rattle.loop_entries.specs.declared.Entry.{Entry}
 use Rattle.loop_entries.specs.declared.Stream.{Stream}
-use Rattle.es_loop.specs.declared.reader.Outcome.{Outcome}
-use Rattle.es_loop.specs.declared.reader.Outcome.TheVariants.{Accepted, Refused}
+use Rattle.es_loop.specs.Answer.{Outcome}
 use Rattle.loop_entries.specs.Entries.{blank_entry, es_info_length, no_stream, stream_of, marked_stream, pair_of, streams_alone, streams_of, entry_of}
 use Rattle.loop_faults.specs.Conditions.{stream_at}
 use Rattle.es_loop.specs.Reading.{loop_read}
-use Rattle.es_loop.proofs.Judged.{Taken, taken}
+use Rattle.es_loop.proofs.Verdicts.{Taken, taken}
 use Rattle.entry_rows.specs.Rows.{rows_of, some_too_wide, entry_in}
 use Rattle.loop_layers.specs.Layers.{place_of}
 use Rattle.loop_layers.specs.Closures.{entries_read}
@@ -34,8 +34,7 @@ use Rattle.layer_set.proofs.Keeping.{Added, is_wide, is_refused, is_added, added
 use Rattle.layer_set.proofs.Meant.{in_set}
 use Rattle.layer_set.proofs.Read.{read_is_set, read_layers}
 use Rattle.layer_set_rows.specs.Buffers.{stored_numbers, set_in, holds_set}
-use Rattle.c_answers.specs.declared.Asked.{Asked}
-use Rattle.c_answers.specs.declared.Asked.TheVariants.{Known, Neither}
+use Rattle.c_answers.specs.Answer.{Asked}
 use Rattle.c_answers.specs.Answers.{not_a_call, asked_for, refused}
 use Rattle.thoquenry_sets.specs.Calls.{set_reply, set_laid, changed_laid, after_change, read_into, read_set, add_set, remove_set}
 use Rattle.thoquenry_sets.proofs.Replies.{one_row}
@@ -49,7 +48,7 @@ laid_holds s is laid = record { is_set = is; laid_out = laid; rows = refl; numbe
 
 -- ---- the set of an accepted loop
 
-module _ (reading : Reading) (bytes : List ℕ) (is_accepted : (loop_read reading bytes).outcome ≡ Accepted) where
+module _ (reading : Reading) (bytes : List ℕ) (is_accepted : (loop_read reading bytes).outcome ≡ Ok tt) where
   abbrev streams : List Stream
   streams = streams_of reading bytes
 
@@ -114,18 +113,18 @@ module _ (layers stored : List ℕ) where
   unfolding set_laid
   laid_leaves s is laid = a_set s (laid_holds s is laid)
 
-  changed_leaves : (o : Outcome) (s : LayerSet) → (o ≡ Accepted → IsSet s) → (o ≡ Accepted → LaidOut s) → Leaves layers stored (changed_laid o s layers stored)
-  changed_leaves Accepted s is laid = laid_leaves s (is refl) (laid refl)
-  changed_leaves (Refused r) s is laid = untouched refl refl
+  changed_leaves : (o : Outcome) (s : LayerSet) → (o ≡ Ok tt → IsSet s) → (o ≡ Ok tt → LaidOut s) → Leaves layers stored (changed_laid o s layers stored)
+  changed_leaves (Ok tt) s is laid = laid_leaves s (is refl) (laid refl)
+  changed_leaves (Err r) s is laid = untouched refl refl
 
   pub read_leaves : (reading : ℕ) (bytes : List ℕ) → Leaves layers stored (read_set reading bytes layers stored)
   unfolding read_set loop_set
   read_leaves reading bytes = by_length (eqb (length layers) 5120) (eqb (length stored) 192)
     where
       by_reading : (a : Asked) → Leaves layers stored (read_into a bytes layers stored)
-      by_reading (Known r) =
+      by_reading (Some r) =
           changed_leaves (loop_read r bytes).outcome (loop_set r bytes).«set» (λ e. read_is_set r bytes e) (λ e. read_laid r bytes e)
-      by_reading Neither = untouched refl refl
+      by_reading None = untouched refl refl
 
       by_length : (a b : Bool)
           → Leaves layers stored (cond a (cond b (read_into (asked_for reading) bytes layers stored) (set_reply not_a_call layers stored)) (set_reply not_a_call layers stored))

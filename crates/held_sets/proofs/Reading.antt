@@ -1,5 +1,6 @@
 -- The set that reading a loop answers has the meaning, and no other has it.
 -- Assumes nothing.
+use Rattle.std.specs.Prelude.{Ok}
 use Prim.Native.Nat.{ℕ}
 use mathlib.Core.List.{List, map}
 use mathlib.Core.Logic.{◌↔◌}
@@ -8,8 +9,7 @@ use Rattle.vocabulary.specs.declared.stream_types.Reading.{Reading}
 use Rattle.vocabulary.specs.declared.refusal.Refusal.{Refusal}
 use Rattle.loop_entries.specs.declared.Entry.{Entry}
 use Rattle.loop_entries.specs.declared.Stream.{Stream}
-use Rattle.es_loop.specs.declared.reader.Outcome.{Outcome}
-use Rattle.es_loop.specs.declared.reader.Outcome.TheVariants.{Accepted}
+use Rattle.es_loop.specs.Answer.{Outcome}
 use Rattle.es_loop.specs.declared.reader.LoopRead.{LoopRead}
 use Rattle.loop_entries.specs.Entries.{stream_of, marked_streams}
 use Rattle.es_loop.specs.Reading.{refused_with, accepted, loop_read}
@@ -47,7 +47,7 @@ module _ (reading : Reading) (bytes : List ℕ) where
           subst (λ (r : LoopRead). ReadsSet reading bytes (set_read r).outcome (set_read r).«set») (sym e)
           (loop_refused (subst (Loop.Answers reading bytes) e (answer_meant reading bytes)))
       go (is_accepted streams e) =
-          let ok : (loop_read reading bytes).outcome ≡ Accepted = ap (λ (r : LoopRead). r.outcome) e in
+          let ok : (loop_read reading bytes).outcome ≡ (Ok tt) = ap (λ (r : LoopRead). r.outcome) e in
           subst (λ (o : Outcome). ReadsSet reading bytes o (set_read (loop_read reading bytes)).«set») (sym ok)
           (loop_accepted streams (subst (Loop.Answers reading bytes) e (answer_meant reading bytes)) (read_is_set reading bytes ok)
           (λ i x. subst (λ (es : List Entry). Layer (loop_set reading bytes).«set» i x ↔ LayerOf es i x) (ap entries_read e ∙ entries_read_lem streams) (read_layers reading bytes ok i x)))
@@ -59,7 +59,7 @@ module _ (reading : Reading) (bytes : List ℕ) where
       (ap (λ (r : LoopRead). (set_read r).outcome) e, ap (λ (r : LoopRead). (set_read r).«set») e)
   read_only (loop_accepted streams {s} a is same) =
       let e = answer_only reading bytes a in
-      let ok : (loop_read reading bytes).outcome ≡ Accepted = ap (λ (r : LoopRead). r.outcome) (sym e) in (
+      let ok : (loop_read reading bytes).outcome ≡ (Ok tt) = ap (λ (r : LoopRead). r.outcome) (sym e) in (
         sym ok,
         as_read reading bytes ok s is
             (λ i x. subst (λ (es : List Entry). Layer s i x ↔ LayerOf es i x) (sym (entries_read_lem streams) ∙ ap entries_read e) (same i x)),

@@ -1,13 +1,12 @@
 -- BUFFERS THAT HOLD A LAYER SET, in the words of include/thoquenry.h: the set's entries as rows, laid out as thq_read_loop lays them, and what is stored with each layer.
 -- proofs/Held.antt has the law that joins this to the test that is computed, both ways; proofs/Left.antt that what the functions for C leave behind holds a set.
 -- Assumes nothing.
-use Rattle.std.specs.Prelude.{ℕ, ◌<◌, false, List, [], map, ◌↔◌, ◌≡◌}
+use Rattle.std.specs.Prelude.{ℕ, ◌<◌, false, List, [], map, ◌↔◌, ◌≡◌, Err, Ok}
 use Rattle.vocabulary.specs.declared.stream_types.Reading.{Reading}
 use Rattle.vocabulary.specs.declared.refusal.Refusal.{Refusal}
 use Rattle.loop_entries.specs.declared.Entry.{Entry}
 use Rattle.loop_entries.specs.declared.Stream.{Stream}
-use Rattle.es_loop.specs.declared.reader.Outcome.{Outcome}
-use Rattle.es_loop.specs.declared.reader.Outcome.TheVariants.{Accepted, Refused}
+use Rattle.es_loop.specs.Answer.{Outcome}
 use Rattle.loop_entries.specs.Entries.{entry_of}
 use Rattle.es_loop.specs.Reading.{refused_with, accepted}
 use Rattle.es_loop.specs.Meaning as Loop
@@ -36,9 +35,9 @@ pub record Holds (layers stored : List ℕ) (s : LayerSet) : Type 0 where
 
 -- THE SET OF A LOOP: a refused loop gives its refusal, and no layer; else it is the set whose layers are those of the loop's entries, implied ones included.
 pub data ReadsSet (reading : Reading) (bytes : List ℕ) : Outcome → LayerSet → Type 0 where
-  loop_refused : {refusal : Refusal} → Loop.Answers reading bytes (refused_with refusal) → ReadsSet reading bytes (Refused refusal) (set_of [])
+  loop_refused : {refusal : Refusal} → Loop.Answers reading bytes (refused_with refusal) → ReadsSet reading bytes (Err refusal) (set_of [])
   loop_accepted : (streams : List Stream) {s : LayerSet} → Loop.Answers reading bytes (accepted streams) → IsSet s
-      → ((i : ℕ) (e : Entry) → Layer s i e ↔ LayerOf (map entry_of streams) i e) → ReadsSet reading bytes Accepted s
+      → ((i : ℕ) (e : Entry) → Layer s i e ↔ LayerOf (map entry_of streams) i e) → ReadsSet reading bytes (Ok tt) s
 
 -- WHAT A CALL LEAVES in the two buffers: what was there, or a set.
 pub data Leaves (layers stored : List ℕ) (left : SetReply) : Type 0 where

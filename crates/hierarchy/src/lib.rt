@@ -11,7 +11,7 @@ ghost use Rattle.syntax.specs.Filled.{bytes_in, too_wide_in};
 ghost use Rattle.vocabulary.specs.declared.stream_types.Reading.TheVariants.{Edition2015};
 ghost use Rattle.hierarchy.specs.Hierarchy.{hierarchy_descriptor, hierarchy_of, first_bit, hierarchy_fields, hierarchy_tables};
 
-use descriptor_heads::{bit, descriptor_head};
+use descriptor_heads::descriptor_head;
 use vocabulary::{HierarchyChannel, LayerIndex, Reading};
 
 // Each field but the reserved bits. A flag at 0 (false) means "enhances".
@@ -74,11 +74,11 @@ fn hierarchy_payload(hierarchy: HierarchyRecord) -> [u8; 4]
     requires { Fit (hierarchy_descriptor Edition2015) (hierarchy_fields hierarchy) }
     ensures { result ≡ write_table (hierarchy_descriptor Edition2015) (hierarchy_fields hierarchy) }
 {
-    let no_view = bit(hierarchy.no_view);
-    let no_temporal = bit(hierarchy.no_temporal);
-    let no_spatial = bit(hierarchy.no_spatial);
-    let no_quality = bit(hierarchy.no_quality);
-    let tref = bit(hierarchy.tref_present_flag);
+    let no_view = u8::from(hierarchy.no_view);
+    let no_temporal = u8::from(hierarchy.no_temporal);
+    let no_spatial = u8::from(hierarchy.no_spatial);
+    let no_quality = u8::from(hierarchy.no_quality);
+    let tref = u8::from(hierarchy.tref_present_flag);
     [
         no_view * 128
             + no_temporal * 64

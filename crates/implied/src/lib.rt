@@ -41,8 +41,8 @@ fn avc_next(views: Views, described: bool) -> Views
 {
     Views {
         avc: true,
-        mvc: views.mvc,
         spoiled: views.spoiled | views.avc | described,
+        ..views
     }
 }
 
@@ -50,9 +50,9 @@ fn mvc_next(views: Views, described: bool) -> Views
     ensures { result ≡ mvc_next views described }
 {
     Views {
-        avc: views.avc,
         mvc: true,
         spoiled: views.spoiled | views.mvc | described,
+        ..views
     }
 }
 
@@ -80,12 +80,7 @@ pub fn is_pair(views: Views) -> bool
 pub fn is_described(record: Record) -> bool
     ensures { result ≡ is_described «record» }
 {
-    match record {
-        Record::NoRecord => false,
-        Record::Hierarchy(_) => true,
-        Record::Extension(_) => false,
-        Record::Implied => false,
-    }
+    matches!(record, Record::Hierarchy(_))
 }
 
 // Whether a stream of this type has the implied mark, given whether its loop has the pair.
@@ -99,10 +94,8 @@ fn with_mark(record: Record) -> Record
     ensures { result ≡ with_mark «record» }
 {
     match record {
-        Record::NoRecord => Record::Implied,
-        Record::Hierarchy(_) => record,
-        Record::Extension(_) => record,
-        Record::Implied => Record::Implied,
+        Record::NoRecord | Record::Implied => Record::Implied,
+        Record::Hierarchy(_) | Record::Extension(_) => record,
     }
 }
 
@@ -121,13 +114,9 @@ pub fn mark_seen(pair: bool, stream_type: u8, seen: Seen) -> Seen
     ensures { result ≡ marked_seen pair stream_type seen }
 {
     let record = seen.record;
-    let embedded = seen.embedded;
     Seen {
-        fits: seen.fits,
-        wrong_length: seen.wrong_length,
-        second_record: seen.second_record,
         record: mark(pair, stream_type, record),
-        embedded,
+        ..seen
     }
 }
 
@@ -140,9 +129,7 @@ fn with_names(stream_type: u8, named: Named) -> Named
             record: Record::Implied,
             names: descriptors::implied_names(stream_type),
         },
-        Record::Hierarchy(_) => named,
-        Record::Extension(_) => named,
-        Record::Implied => named,
+        Record::Hierarchy(_) | Record::Extension(_) | Record::Implied => named,
     }
 }
 

@@ -1,5 +1,6 @@
 -- What an import leaves, answer, lists and summary together: with room for the summary, and without, where how much room the three lists have makes no difference.
 -- Assumes nothing.
+use Rattle.std.specs.Prelude.{Err, Ok}
 use Prim.Native.Nat.{ℕ, ◌≤◌, ◌<◌}
 use mathlib.Core.Path.{◌≡◌, refl, sym, ◌∙◌, ap}
 use mathlib.Core.List.{List}
@@ -8,14 +9,11 @@ use lib.ListN.{length}
 use Rattle.closure.specs.declared.Layers.{Layers}
 use Rattle.rows.specs.Table.{Table}
 use Rattle.unit_lists.specs.Sequence.{Lists}
-use Rattle.join_answers.specs.declared.answer.Joined.{Joined}
-use Rattle.join_answers.specs.declared.answer.Joined.TheVariants.{Units as UnitsJoined, Refused as NotJoined}
+use Rattle.join_answers.specs.Answer.{Joined}
 use Rattle.join_answers.specs.Joining.{Room, joined_of}
 use Rattle.thoquenry_joins.proofs.Rooms.{barred as barredJoined, alike_joined}
-use Rattle.recording_imports.specs.declared.RowsRead.{RowsRead}
-use Rattle.recording_imports.specs.declared.RowsRead.TheVariants.{Rows, Refused as NoRows, NotRead as HeaderNotRead}
-use Rattle.recording_imports.specs.declared.Imported.{Imported}
-use Rattle.recording_imports.specs.declared.Imported.TheVariants.{Units, Refused, NotRead}
+use Rattle.recording_imports.specs.Answer.{RowsRead, Imported}
+use Rattle.recording_imports.specs.declared.Unread.TheVariants.{Refused, NotRead}
 use Rattle.recording_imports.specs.Imports.{imported_of, imported_by, lists_with}
 use Rattle.packet_answers.specs.Answers.{imported_answer}
 use Rattle.import_summaries.specs.Summaries.{with_summary, summary_after, ImportReply, import_reply}
@@ -25,38 +23,38 @@ abbrev pub barred : Imported → Imported
 barred imported = with_summary 0 imported
 
 short_summary : (room : ℕ) (imported : Imported) → room < 2 → with_summary room imported ≡ barred imported
-short_summary room (Units closure units rows) h = rw (lt-ltb room 2 h)
-short_summary room (Refused refusal) h = refl
-short_summary room (NotRead refusal packet) h = refl
+short_summary room (Ok joined) h = rw (lt-ltb room 2 h)
+short_summary room (Err (Refused refusal)) h = refl
+short_summary room (Err (NotRead refusal packet)) h = refl
 
 whole_summary : (room : ℕ) (imported : Imported) → 2 ≤ room → with_summary room imported ≡ imported
-whole_summary room (Units closure units rows) h = rw (le-ltb room 2 h)
-whole_summary room (Refused refusal) h = refl
-whole_summary room (NotRead refusal packet) h = refl
+whole_summary room (Ok joined) h = rw (le-ltb room 2 h)
+whole_summary room (Err (Refused refusal)) h = refl
+whole_summary room (Err (NotRead refusal packet)) h = refl
 
 barred_lists : (layers : Layers) (t : Table) (imported : Imported) (before : Lists) → lists_with layers t (barred imported) before ≡ before
-barred_lists layers t (Units closure units rows) before = refl
-barred_lists layers t (Refused refusal) before = refl
-barred_lists layers t (NotRead refusal packet) before = refl
+barred_lists layers t (Ok joined) before = refl
+barred_lists layers t (Err (Refused refusal)) before = refl
+barred_lists layers t (Err (NotRead refusal packet)) before = refl
 
 barred_summary : (imported : Imported) (before : List ℕ) → summary_after (barred imported) before ≡ before
-barred_summary (Units closure units rows) before = refl
-barred_summary (Refused refusal) before = refl
-barred_summary (NotRead refusal packet) before = refl
+barred_summary (Ok joined) before = refl
+barred_summary (Err (Refused refusal)) before = refl
+barred_summary (Err (NotRead refusal packet)) before = refl
 
 -- the same whatever the room of the three
 barred_of : (joined : Joined) → barred (imported_of joined) ≡ imported_of (barredJoined joined)
-barred_of (UnitsJoined closure units rows) = refl
-barred_of (NotJoined refusal) = refl
+barred_of (Ok joined) = refl
+barred_of (Err refusal) = refl
 
 pub alike_imported : (rows : RowsRead) (most : ℕ) (layers : Layers) (target : ℕ) (t : Table) (room other : Room)
     → barred (imported_by rows (joined_of most layers target t room)) ≡ barred (imported_by rows (joined_of most layers target t other))
-alike_imported (Rows count) most layers target t room other =
+alike_imported (Ok count) most layers target t room other =
     barred_of (joined_of most layers target t room)
     ∙ ap imported_of (alike_joined most layers target t room other)
     ∙ sym (barred_of (joined_of most layers target t other))
-alike_imported (NoRows refusal) most layers target t room other = refl
-alike_imported (HeaderNotRead refusal packet) most layers target t room other = refl
+alike_imported (Err (Refused refusal)) most layers target t room other = refl
+alike_imported (Err (NotRead refusal packet)) most layers target t room other = refl
 
 -- an answer, lists and a summary are those of a reply
 abbrev pub Left : ℕ → Lists → List ℕ → ImportReply → Type 0

@@ -7,42 +7,33 @@ ghost use Rattle.packet_answers.specs.Answers.{imported_answer};
 ghost use Rattle.import_summaries.specs.Summaries.{with_summary, summary_after};
 
 use c_answers::{accepted, refused};
+use join_answers::Units;
 use packet_answers::imported_answer;
-use recording_imports::Imported;
+use recording_imports::Unread;
 use vocabulary::Refusal;
 
 // The answer, and the summary where rows were joined.
-pub fn summarise(imported: Imported, summary: &mut [u64]) -> u64
+pub fn summarise(imported: Result<Units, Unread>, summary: &mut [u64]) -> u64
     requires { 2 ≤ length summary.old }
     ensures answer { result ≡ imported_answer imported }
     ensures content { summary.new ≡ summary_after imported summary.old }
 {
     match imported {
-        Imported::Units {
-            closure,
-            units,
-            rows,
-        } => {
-            summary[0] = closure;
-            summary[1] = units as u64;
-            accepted(rows)
+        Ok(joined) => {
+            summary[0] = joined.closure;
+            summary[1] = joined.units as u64;
+            accepted(joined.rows)
         }
-        Imported::Refused(_) => imported_answer(imported),
-        Imported::NotRead(_, _) => imported_answer(imported),
+        Err(_) => imported_answer(imported),
     }
 }
 
 // The answer where the summary has no room.
-pub fn without_summary(imported: Imported) -> u64
+pub fn without_summary(imported: Result<Units, Unread>) -> u64
     ensures { result ≡ imported_answer (with_summary 0 imported) }
 {
     match imported {
-        Imported::Units {
-            closure: _,
-            units: _,
-            rows: _,
-        } => refused(Refusal::NoRoom),
-        Imported::Refused(_) => imported_answer(imported),
-        Imported::NotRead(_, _) => imported_answer(imported),
+        Ok(_) => refused(Refusal::NoRoom),
+        Err(_) => imported_answer(imported),
     }
 }

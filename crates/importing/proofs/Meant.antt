@@ -16,7 +16,7 @@ use Rattle.closure.specs.declared.Layers.{Layers}
 use Rattle.loop_layers.specs.Layers.{layers_of}
 use Rattle.loop_layers.specs.Meaning.{LayersOf}
 use Rattle.loop_layers.proofs.Meant.{layers_meant, layers_only, entries_read_lem}
-use Rattle.join_answers.specs.declared.answer.Joined.{Joined}
+use Rattle.join_answers.specs.Answer.{Joined}
 use Rattle.rows.specs.Table.{Table, most_rows}
 use Rattle.unit_lists.specs.Sequence.{Lists}
 use Rattle.join_answers.specs.Joining.{room_of, joined_of, lists_after}

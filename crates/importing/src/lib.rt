@@ -9,9 +9,8 @@ ghost use Rattle.unit_lists.specs.Sequence.{lists};
 ghost use Rattle.join_answers.specs.Joining.{room_of};
 ghost use Rattle.importing.specs.Importing.{import_of, imported_lists};
 
-use es_loop::Outcome;
-use joining::Joined;
-use vocabulary::Reading;
+use joining::Units;
+use vocabulary::{Reading, Refusal};
 
 // THE CALL. A reading, the bytes of a loop, the index of a target layer, the three columns of the row table, and the three lists for the
 // answer, of any lengths: the row numbers of the units, the lag beside each, and the sizes. The answer is the closure with the answer of joining, or the
@@ -26,7 +25,7 @@ pub fn import(
     numbers: &mut [u64],
     lags: &mut [i64],
     sizes: &mut [u64],
-) -> Joined
+) -> Result<Units, Refusal>
     ensures answer { result
         ≡ import_of reading bytes.now target (table indices.now decodings.now matches.now)
         (room_of (lists numbers.old lags.old sizes.old)) }
@@ -35,14 +34,9 @@ pub fn import(
         (lists numbers.old lags.old sizes.old) }
 {
     let read = loop_layers::read_layers(reading, bytes);
-    let outcome = read.outcome;
     let layers = read.layers;
-    match outcome {
-        Outcome::Accepted => {
-            joining::join(
-                layers, target, indices, decodings, matches, numbers, lags, sizes,
-            )
-        }
-        Outcome::Refused(refusal) => Joined::Refused(refusal),
-    }
+    read.outcome?;
+    joining::join(
+        layers, target, indices, decodings, matches, numbers, lags, sizes,
+    )
 }

@@ -1,5 +1,7 @@
 -- The computed answer, case by case: which tests lead to each refusal, and which to the units.
 -- Assumes nothing.
+use Rattle.std.specs.Prelude.{Ok, Err}
+use Rattle.join_answers.specs.Answer.{joined_units, Joined}
 use Prim.Native.Nat.{ℕ, ◌≤◌, ◌<◌}
 use mathlib.Core.Bool.{Bool, true, false, cond, ◌||◌}
 use mathlib.Core.Path.{◌≡◌, refl, sym, ◌∙◌, ap, subst}
@@ -7,18 +9,14 @@ use borrow.Author.Tests.{lt-ltb, le-ltb, ltb-true}
 use lib.Dec.{ltb}
 use Rattle.closure.specs.declared.Layers.{Layers}
 use Rattle.combinators.specs.Bools.{either_left, either_right, either_way}
-use Rattle.rows.specs.declared.Verdict.{Verdict}
-use Rattle.rows.specs.declared.Verdict.TheVariants.{InOrder, OutOfRange as Outside, OrderBroken}
 use Rattle.rows.proofs.Verdicts as verdict
 use Rattle.rows.proofs.Verdicts.{Sound}
-use Rattle.rows.specs.Verdicts.{verdict_of}
+use Rattle.rows.specs.Verdicts.{Verdict, verdict_of}
 use Rattle.rows.specs.Table.{Table, rows_in, wrong_shape, first_out_of_range, first_broken}
 use Rattle.vocabulary.specs.declared.refusal.Refusal.{Refusal}
 use Rattle.vocabulary.specs.declared.refusal.Refusal.TheVariants.{OutOfRange, TimeOrderBroken, Unpaired, UsedTwice, SpanTooWide, NoRoom}
 use Rattle.spans.specs.Spans.{wide_span}
 use Rattle.heads.specs.Units.{Frame, first_unpaired, first_shared, units_in}
-use Rattle.join_answers.specs.declared.answer.Joined.{Joined}
-use Rattle.join_answers.specs.declared.answer.Joined.TheVariants.{Units, Refused}
 use Rattle.join_answers.specs.Joining.{frame_of, closure_rows, Room, too_small, units_joined, joined_by, table_joined}
 use Rattle.join_answers.specs.Meaning.{TooSmall, for_numbers, for_lags, for_sizes}
 
@@ -51,10 +49,10 @@ module _ (room : Room) (rows : ℕ) where
 -- ---- 15, 16, 18, 17 and the units
 
 module _ (t : Table) (f : Frame) (room : Room) where
-  pub is_unpaired : (k : ℕ) → k ≡ first_unpaired t f → k < rows_in t → Refused (Unpaired k) ≡ units_joined t f room
+  pub is_unpaired : (k : ℕ) → k ≡ first_unpaired t f → k < rows_in t → Err (Unpaired k) ≡ units_joined t f room
   is_unpaired k e h =
-      ap (λ (k : ℕ). Refused (Unpaired k)) e
-      ∙ taken (Refused (Unpaired (first_unpaired t f))) _ (ltb (first_unpaired t f) (rows_in t))
+      ap (λ (k : ℕ). Err (Unpaired k)) e
+      ∙ taken (Err (Unpaired (first_unpaired t f))) _ (ltb (first_unpaired t f) (rows_in t))
       (lt-ltb (first_unpaired t f) (rows_in t) (subst (λ (k : ℕ). k < rows_in t) e h))
 
   module _ (paired : rows_in t ≤ first_unpaired t f) where
@@ -62,10 +60,10 @@ module _ (t : Table) (f : Frame) (room : Room) where
     past_unpaired : (x y : Joined) → y ≡ cond (ltb (first_unpaired t f) (rows_in t)) x y
     past_unpaired x y = passed x y (ltb (first_unpaired t f) (rows_in t)) (le-ltb (first_unpaired t f) (rows_in t) paired)
 
-    pub is_shared : (k : ℕ) → k ≡ first_shared t f → k < rows_in t → Refused (UsedTwice k) ≡ units_joined t f room
+    pub is_shared : (k : ℕ) → k ≡ first_shared t f → k < rows_in t → Err (UsedTwice k) ≡ units_joined t f room
     is_shared k e h =
-        ap (λ (k : ℕ). Refused (UsedTwice k)) e
-        ∙ taken (Refused (UsedTwice (first_shared t f))) _ (ltb (first_shared t f) (rows_in t))
+        ap (λ (k : ℕ). Err (UsedTwice k)) e
+        ∙ taken (Err (UsedTwice (first_shared t f))) _ (ltb (first_shared t f) (rows_in t))
         (lt-ltb (first_shared t f) (rows_in t) (subst (λ (k : ℕ). k < rows_in t) e h))
         ∙ past_unpaired _ _
 
@@ -74,22 +72,22 @@ module _ (t : Table) (f : Frame) (room : Room) where
       past_shared : (x y : Joined) → y ≡ cond (ltb (first_shared t f) (rows_in t)) x y
       past_shared x y = passed x y (ltb (first_shared t f) (rows_in t)) (le-ltb (first_shared t f) (rows_in t) apart)
 
-      pub is_wide : wide_span t f.closure ≡ true → Refused SpanTooWide ≡ units_joined t f room
-      is_wide e = taken (Refused SpanTooWide) _ (wide_span t f.closure) e ∙ past_shared _ _ ∙ past_unpaired _ _
+      pub is_wide : wide_span t f.closure ≡ true → Err SpanTooWide ≡ units_joined t f room
+      is_wide e = taken (Err SpanTooWide) _ (wide_span t f.closure) e ∙ past_shared _ _ ∙ past_unpaired _ _
 
       module _ (narrow : wide_span t f.closure ≡ false) where
         -- past 18
         past_span : (x y : Joined) → y ≡ cond (wide_span t f.closure) x y
         past_span x y = passed x y (wide_span t f.closure) narrow
 
-        pub is_no_room : too_small room (closure_rows t f.closure) ≡ true → Refused NoRoom ≡ units_joined t f room
+        pub is_no_room : too_small room (closure_rows t f.closure) ≡ true → Err NoRoom ≡ units_joined t f room
         is_no_room e =
-            taken (Refused NoRoom) _ (too_small room (closure_rows t f.closure)) e ∙ past_span _ _ ∙ past_shared _ _ ∙ past_unpaired _ _
+            taken (Err NoRoom) _ (too_small room (closure_rows t f.closure)) e ∙ past_span _ _ ∙ past_shared _ _ ∙ past_unpaired _ _
 
         pub are_units : too_small room (closure_rows t f.closure) ≡ false
-            → Units f.closure (units_in t f) (closure_rows t f.closure) ≡ units_joined t f room
+            → joined_units f.closure (units_in t f) (closure_rows t f.closure) ≡ units_joined t f room
         are_units e =
-            passed _ (Units f.closure (units_in t f) (closure_rows t f.closure)) (too_small room (closure_rows t f.closure)) e
+            passed _ (joined_units f.closure (units_in t f) (closure_rows t f.closure)) (too_small room (closure_rows t f.closure)) e
             ∙ past_span _ _
             ∙ past_shared _ _
             ∙ past_unpaired _ _
@@ -100,15 +98,15 @@ module _ (most : ℕ) (layers : Layers) (t : Table) (closure : ℕ) (room : Room
   abbrev units_answer : Joined
   units_answer = units_joined t (frame_of layers closure t) room
 
-  pub bad_shape : wrong_shape most t ≡ true → Refused (OutOfRange 0) ≡ table_joined most layers t closure room
+  pub bad_shape : wrong_shape most t ≡ true → Err (OutOfRange 0) ≡ table_joined most layers t closure room
   bad_shape e = ap (joined_by units_answer) (verdict.is_misshapen most t closure e)
 
   module _ (shape : wrong_shape most t ≡ false) where
-    pub is_outside : (k : ℕ) → k ≡ first_out_of_range t → k < rows_in t → Refused (OutOfRange k) ≡ table_joined most layers t closure room
+    pub is_outside : (k : ℕ) → k ≡ first_out_of_range t → k < rows_in t → Err (OutOfRange k) ≡ table_joined most layers t closure room
     is_outside k e h = ap (joined_by units_answer) (verdict.is_outside most t closure shape k e h)
 
     module _ (in_range : rows_in t ≤ first_out_of_range t) where
-      pub is_broken : (k : ℕ) → k ≡ first_broken t closure → k < rows_in t → Refused (TimeOrderBroken k) ≡ table_joined most layers t closure room
+      pub is_broken : (k : ℕ) → k ≡ first_broken t closure → k < rows_in t → Err (TimeOrderBroken k) ≡ table_joined most layers t closure room
       is_broken k e h = ap (joined_by units_answer) (verdict.is_broken most t closure shape in_range k e h)
 
   pub after_order : Sound most t closure → units_joined t (frame_of layers closure t) room ≡ table_joined most layers t closure room
@@ -117,17 +115,16 @@ module _ (most : ℕ) (layers : Layers) (t : Table) (closure : ℕ) (room : Room
 -- ---- an answer with units is over the closure that was found
 
 pub data IsOver (closure : ℕ) : Joined → Type 0 where
-  units_over : {units rows : ℕ} → IsOver closure (Units closure units rows)
-  refused : {refusal : Refusal} → IsOver closure (Refused refusal)
+  units_over : {units rows : ℕ} → IsOver closure (joined_units closure units rows)
+  refused : {refusal : Refusal} → IsOver closure (Err refusal)
 
 pub is_over : (most : ℕ) (layers : Layers) (t : Table) (closure : ℕ) (room : Room) → IsOver closure (table_joined most layers t closure room)
 is_over most layers t closure room = by_verdict (verdict_of most t closure)
   where
     by_verdict : (v : Verdict) → IsOver closure (joined_by (units_joined t (frame_of layers closure t) room) v)
-    by_verdict InOrder =
+    by_verdict (Ok in_order) =
         either_way (IsOver closure) (ltb (first_unpaired t (frame_of layers closure t)) (rows_in t)) _ _ refused
         (either_way (IsOver closure) (ltb (first_shared t (frame_of layers closure t)) (rows_in t)) _ _ refused
         (either_way (IsOver closure) (wide_span t closure) _ _ refused
         (either_way (IsOver closure) (too_small room (closure_rows t closure)) _ _ refused units_over)))
-    by_verdict (Outside row) = refused
-    by_verdict (OrderBroken row) = refused
+    by_verdict (Err refusal) = refused

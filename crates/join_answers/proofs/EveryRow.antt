@@ -2,6 +2,7 @@
 -- `each_row_computed`); and where every head is a row of the target, the units come in the order of the target's rows, each of the closure's size
 -- (`in_target_order`).
 -- Assumes nothing.
+use Rattle.join_answers.specs.Answer.{joined_units}
 use Prim.Native.Nat.{ℕ, suc, ◌<◌}
 use mathlib.Core.List.{List, ◌∷◌}
 use mathlib.Core.Path.{◌≡◌, refl, sym, ◌∙◌, ap, ap₂, subst}
@@ -23,7 +24,6 @@ use Rattle.unit_lists.specs.Sequence.{unit_rows, unit_sizes, Lists}
 use Rattle.every_row.specs.Statements.{EachOnce, total, TargetRow}
 use Rattle.every_row.proofs.Sizes.{each_once, sizes_sum, target_size}
 use Rattle.every_row.proofs.Order.{target_order}
-use Rattle.join_answers.specs.declared.answer.Joined.TheVariants.{Units}
 use Rattle.join_answers.specs.Joining.{frame_of, joined_of, room_of}
 use Rattle.join_answers.specs.Meaning.{Accepted}
 use Rattle.join_answers.proofs.Framing.{framed}
@@ -60,7 +60,7 @@ module _ (most : ℕ) (layers : Layers) (target closure : ℕ) (whole : WholeClo
 
 -- the same of what is computed
 pub each_row_computed : (most : ℕ) (layers : Layers) (target : ℕ) (t : Table) (before : Lists) (closure units rows : ℕ)
-    → joined_of most layers target t (room_of before) ≡ Units closure units rows
+    → joined_of most layers target t (room_of before) ≡ joined_units closure units rows
     → EachOnce layers target t (unit_rows t (frame_of layers closure t)) × (total (unit_sizes t (frame_of layers closure t)) ≡ rows)
 each_row_computed most layers target t before closure units rows e =
     let w = (given_units most layers target t before closure units rows).0 e in

@@ -1,6 +1,8 @@
 -- What Joining computes is what Meaning says, and nothing else is: `table_meant` and `table_only` of the table over a closure, `joined_meant` and
 -- `joined_only` of joining; and number by number, `given_11` to `given_18`.
 -- Assumes nothing.
+use Rattle.std.specs.Prelude.{Err, Ok}
+use Rattle.join_answers.specs.Answer.{joined_units, Joined}
 use Prim.Native.Nat.{ℕ, ◌≤◌, ◌<◌}
 use mathlib.Core.Bool.{Bool, true, false, true≢false}
 use mathlib.Core.List.{List}
@@ -10,8 +12,7 @@ use native.Mathlib.Decide.{dec_lt}
 use native.Mathlib.Omega.{arith}
 use lib.ListN.{length}
 use Rattle.closure.specs.declared.Layers.{Layers}
-use Rattle.closure.specs.declared.Closure.{Closure}
-use Rattle.closure.specs.declared.Closure.TheVariants.{Complete, Refused as NoClosure}
+use Rattle.closure.specs.Answer.{Closure}
 use Rattle.closure.specs.Closures.{is_layer, closure_of}
 use Rattle.closure.specs.Meaning.{RestsOn, LowestMissing, no_such_layer, absent, Answers as ClosureAnswers}
 use Rattle.closure.proofs.Meant.{closure_meant, closure_only}
@@ -34,8 +35,6 @@ use Rattle.heads.specs.Meaning.{AssemblesOwn, NoAssembly, SharesRow}
 use Rattle.heads.proofs.Orderly.{closed, orderly_by, orderly_of}
 use Rattle.heads.proofs.Meant.{first_unpaired_meant, first_unpaired_only, none_unpaired_meant, none_unpaired_only, first_shared_meant, first_shared_only, none_shared_meant, none_shared_only, one_assembly}
 use Rattle.unit_lists.proofs.Meant.{assembly_of_lem}
-use Rattle.join_answers.specs.declared.answer.Joined.{Joined}
-use Rattle.join_answers.specs.declared.answer.Joined.TheVariants.{Units, Refused}
 use Rattle.unit_lists.specs.Sequence.{Lists}
 use Rattle.join_answers.specs.Joining.{frame_of, closure_rows, too_small, units_joined, table_joined, joined_in, joined_of, room_of, lists_after}
 use Rattle.join_answers.specs.Meaning.{TooSmall, Accepted, AnswersOver, wrong_shape_lem, out_of_range_lem, order_broken, no_assembly, in_two_units, too_far_apart, no_room, joined, Answers, no_closure, over_closure}
@@ -143,14 +142,14 @@ module _ (most : ℕ) (layers : Layers) (target closure : ℕ) (whole : Closed l
 
   -- the units
   joined_is : {units rows : ℕ} {after : Lists} → InOrder most layers target t → NoRow t (SharesRow layers target t) → (SpansTooFar layers target t → ⊥)
-      → Accepted layers target t before units rows after → TableComputed (Units closure units rows) after
+      → Accepted layers target t before units rows after → TableComputed (joined_units closure units rows) after
   joined_is {units} {rows} {after} o s n a =
       let ordered = orderly_of layers target closure whole most t o in
       let paired = none_unpaired_only layers target closure t ordered f over_frame has_assembly in
       let apart = none_shared_only layers target closure t ordered f over_frame paired s in
       let one = accepted_only layers target closure t ordered f over_frame before a in
       record {
-        is_answer = ap₂ (Units closure) one.0 one.1
+        is_answer = ap₂ (joined_units closure) one.0 one.1
             ∙ are_units t f (room_of before) paired apart (narrow_span n)
             (false_unless (too_small (room_of before) (closure_rows t closure))
             (λ e. a.enough_room (subst (λ (n : ℕ). TooSmall n (room_of before)) (sym one.1) (room_meant (room_of before) (closure_rows t closure) e))))
@@ -232,11 +231,11 @@ module _ (most : ℕ) (layers : Layers) (target : ℕ) (t : Table) (before : Lis
   joined_meant = go (closure_of layers target) refl
     where
       go : (c : Closure) → closure_of layers target ≡ c → Right answer_of
-      go (Complete closure) e =
+      go (Ok closure) e =
           subst Right (sym (ap (joined_in most layers t (room_of before)) e))
           (over_closure (subst (ClosureAnswers layers target) e (closure_meant layers target))
           (table_meant most layers target closure (closed layers target closure e) t before))
-      go (NoClosure refusal) e =
+      go (Err refusal) e =
           subst Right (sym (ap (joined_in most layers t (room_of before)) e))
           (no_closure (subst (ClosureAnswers layers target) e (closure_meant layers target)))
 
@@ -285,75 +284,75 @@ module _ (most : ℕ) (layers : Layers) (target : ℕ) (t : Table) (before : Lis
 
   abbrev pub Given13 : ℕ → Type 0
   Given13 row =
-      (closure : ℕ) × ClosureAnswers layers target (Complete closure)
+      (closure : ℕ) × ClosureAnswers layers target (Ok closure)
       × ((WrongShape most t × (row ≡ 0)) ⊎ ((WrongShape most t → ⊥) × FirstRow t (RowOutOfRange t) row))
 
   abbrev pub Given14 : ℕ → Type 0
   Given14 row =
-      (closure : ℕ) × ClosureAnswers layers target (Complete closure) × (WrongShape most t → ⊥) × NoRow t (RowOutOfRange t)
+      (closure : ℕ) × ClosureAnswers layers target (Ok closure) × (WrongShape most t → ⊥) × NoRow t (RowOutOfRange t)
       × FirstRow t (BreaksOrder layers target t) row
 
   abbrev pub Given15 : ℕ → Type 0
   Given15 row =
-      (closure : ℕ) × ClosureAnswers layers target (Complete closure) × InOrder most layers target t × FirstRow t (NoAssembly layers target t) row
+      (closure : ℕ) × ClosureAnswers layers target (Ok closure) × InOrder most layers target t × FirstRow t (NoAssembly layers target t) row
 
   abbrev pub Given16 : ℕ → Type 0
   Given16 row =
-      (closure : ℕ) × ClosureAnswers layers target (Complete closure) × InOrder most layers target t × NoRow t (NoAssembly layers target t)
+      (closure : ℕ) × ClosureAnswers layers target (Ok closure) × InOrder most layers target t × NoRow t (NoAssembly layers target t)
       × FirstRow t (SharesRow layers target t) row
 
   abbrev pub Given18 : Type 0
   Given18 =
-      (closure : ℕ) × ClosureAnswers layers target (Complete closure) × InOrder most layers target t × NoRow t (NoAssembly layers target t)
+      (closure : ℕ) × ClosureAnswers layers target (Ok closure) × InOrder most layers target t × NoRow t (NoAssembly layers target t)
       × NoRow t (SharesRow layers target t) × SpansTooFar layers target t
 
   abbrev pub Given17 : Type 0
   Given17 =
-      (closure : ℕ) × (rows : List ℕ) × ClosureAnswers layers target (Complete closure) × InOrder most layers target t
+      (closure : ℕ) × (rows : List ℕ) × ClosureAnswers layers target (Ok closure) × InOrder most layers target t
       × NoRow t (NoAssembly layers target t) × NoRow t (SharesRow layers target t) × (SpansTooFar layers target t → ⊥)
       × Ascending (ClosureRow layers target t) rows × TooSmall (length rows) (room_of before)
 
   abbrev pub GivenUnits : ℕ → ℕ → ℕ → Type 0
   GivenUnits closure units rows =
-      (after : Lists) × ClosureAnswers layers target (Complete closure) × InOrder most layers target t × NoRow t (SharesRow layers target t)
+      (after : Lists) × ClosureAnswers layers target (Ok closure) × InOrder most layers target t × NoRow t (SharesRow layers target t)
       × (SpansTooFar layers target t → ⊥) × Accepted layers target t before units rows after
 
   -- what each answer tells: and that no other number is given
   abbrev Given : Joined → Type 0
-  Given (Units closure units rows) = GivenUnits closure units rows
-  Given (Refused NoSuchLayer) = Given11
-  Given (Refused (EmbeddedLayerAbsent index)) = Given12 index.0
-  Given (Refused (OutOfRange row)) = Given13 row
-  Given (Refused (TimeOrderBroken row)) = Given14 row
-  Given (Refused (Unpaired row)) = Given15 row
-  Given (Refused (UsedTwice row)) = Given16 row
-  Given (Refused NoRoom) = Given17
-  Given (Refused SpanTooWide) = Given18
-  Given (Refused LoopTooLong) = ⊥
-  Given (Refused (DoesNotFit entry)) = ⊥
-  Given (Refused (RepeatedPid entry)) = ⊥
-  Given (Refused (WrongLength entry)) = ⊥
-  Given (Refused (SecondRecord entry)) = ⊥
-  Given (Refused (TypeNotAllowed entry)) = ⊥
-  Given (Refused (WrongFlags entry)) = ⊥
-  Given (Refused (RepeatedLayerIndex entry)) = ⊥
-  Given (Refused (WrongEmbeddedIndex entry)) = ⊥
-  Given (Refused NotVideoHeader) = ⊥
-  Given (Refused NoPts) = ⊥
-  Given (Refused FieldsDoNotFit) = ⊥
-  Given (Refused WrongMarker) = ⊥
-  Given (Refused PtsBeforeDts) = ⊥
-  Given (Refused TooWide) = ⊥
-  Given (Refused (LostSync packet)) = ⊥
-  Given (Refused (CounterGap packet)) = ⊥
-  Given (Refused (OutsidePacket packet)) = ⊥
-  Given (Refused (Scrambled packet)) = ⊥
-  Given (Refused PointsDoNotFit) = ⊥
-  Given (Refused ReservedEsCount) = ⊥
-  Given (Refused UnknownReference) = ⊥
-  Given (Refused NotStereoSet) = ⊥
-  Given (Refused WrongMvcExtension) = ⊥
-  Given (Refused RangesMeet) = ⊥
+  Given (Ok answered) = GivenUnits answered.closure answered.units answered.rows
+  Given (Err NoSuchLayer) = Given11
+  Given (Err (EmbeddedLayerAbsent index)) = Given12 index.0
+  Given (Err (OutOfRange row)) = Given13 row
+  Given (Err (TimeOrderBroken row)) = Given14 row
+  Given (Err (Unpaired row)) = Given15 row
+  Given (Err (UsedTwice row)) = Given16 row
+  Given (Err NoRoom) = Given17
+  Given (Err SpanTooWide) = Given18
+  Given (Err LoopTooLong) = ⊥
+  Given (Err (DoesNotFit entry)) = ⊥
+  Given (Err (RepeatedPid entry)) = ⊥
+  Given (Err (WrongLength entry)) = ⊥
+  Given (Err (SecondRecord entry)) = ⊥
+  Given (Err (TypeNotAllowed entry)) = ⊥
+  Given (Err (WrongFlags entry)) = ⊥
+  Given (Err (RepeatedLayerIndex entry)) = ⊥
+  Given (Err (WrongEmbeddedIndex entry)) = ⊥
+  Given (Err NotVideoHeader) = ⊥
+  Given (Err NoPts) = ⊥
+  Given (Err FieldsDoNotFit) = ⊥
+  Given (Err WrongMarker) = ⊥
+  Given (Err PtsBeforeDts) = ⊥
+  Given (Err TooWide) = ⊥
+  Given (Err (LostSync packet)) = ⊥
+  Given (Err (CounterGap packet)) = ⊥
+  Given (Err (OutsidePacket packet)) = ⊥
+  Given (Err (Scrambled packet)) = ⊥
+  Given (Err PointsDoNotFit) = ⊥
+  Given (Err ReservedEsCount) = ⊥
+  Given (Err UnknownReference) = ⊥
+  Given (Err NotStereoSet) = ⊥
+  Given (Err WrongMvcExtension) = ⊥
+  Given (Err RangesMeet) = ⊥
 
   given : {answer : Joined} {after : Lists} → Answers most layers target t before answer after → Given answer
   given (no_closure (no_such_layer h)) = h
@@ -374,43 +373,43 @@ module _ (most : ℕ) (layers : Layers) (target : ℕ) (t : Table) (before : Lis
       → joined_of most layers target t (room_of before) ≡ answer
   follows a = sym (joined_only a).is_answer
 
-  pub given_11 : (joined_of most layers target t (room_of before) ≡ Refused NoSuchLayer) ↔ Given11
+  pub given_11 : (joined_of most layers target t (room_of before) ≡ Err NoSuchLayer) ↔ Given11
   given_11 = (λ e. tells e, λ h. follows (no_closure (no_such_layer h)))
 
   pub given_12 : (index : LayerIndex)
-      → (joined_of most layers target t (room_of before) ≡ Refused (EmbeddedLayerAbsent index)) ↔ Given12 index.0
+      → (joined_of most layers target t (room_of before) ≡ Err (EmbeddedLayerAbsent index)) ↔ Given12 index.0
   given_12 index = (λ e. tells e, λ w. follows (no_closure (absent w.0 w.1)))
 
-  pub given_13 : (row : ℕ) → (joined_of most layers target t (room_of before) ≡ Refused (OutOfRange row)) ↔ Given13 row
+  pub given_13 : (row : ℕ) → (joined_of most layers target t (room_of before) ≡ Err (OutOfRange row)) ↔ Given13 row
   given_13 row = (λ e. tells e, λ w. back w.0 w.1 w.2)
     where
-      back : (closure : ℕ) → ClosureAnswers layers target (Complete closure)
+      back : (closure : ℕ) → ClosureAnswers layers target (Ok closure)
           → (WrongShape most t × (row ≡ 0)) ⊎ ((WrongShape most t → ⊥) × FirstRow t (RowOutOfRange t) row)
-          → joined_of most layers target t (room_of before) ≡ Refused (OutOfRange row)
-      back closure c (inl w) = follows (over_closure c (wrong_shape_lem w.0)) ∙ ap (λ (k : ℕ). Refused (OutOfRange k)) (sym w.1)
+          → joined_of most layers target t (room_of before) ≡ Err (OutOfRange row)
+      back closure c (inl w) = follows (over_closure c (wrong_shape_lem w.0)) ∙ ap (λ (k : ℕ). Err (OutOfRange k)) (sym w.1)
       back closure c (inr w) = follows (over_closure c (out_of_range_lem w.0 w.1))
 
-  pub given_14 : (row : ℕ) → (joined_of most layers target t (room_of before) ≡ Refused (TimeOrderBroken row)) ↔ Given14 row
+  pub given_14 : (row : ℕ) → (joined_of most layers target t (room_of before) ≡ Err (TimeOrderBroken row)) ↔ Given14 row
   given_14 row = (λ e. tells e, λ w. follows (over_closure w.1 (order_broken w.2 w.3 w.4)))
 
-  pub given_15 : (row : ℕ) → (joined_of most layers target t (room_of before) ≡ Refused (Unpaired row)) ↔ Given15 row
+  pub given_15 : (row : ℕ) → (joined_of most layers target t (room_of before) ≡ Err (Unpaired row)) ↔ Given15 row
   given_15 row = (λ e. tells e, λ w. follows (over_closure w.1 (no_assembly w.2 w.3)))
 
-  pub given_16 : (row : ℕ) → (joined_of most layers target t (room_of before) ≡ Refused (UsedTwice row)) ↔ Given16 row
+  pub given_16 : (row : ℕ) → (joined_of most layers target t (room_of before) ≡ Err (UsedTwice row)) ↔ Given16 row
   given_16 row = (λ e. tells e, λ w. follows (over_closure w.1 (in_two_units w.2 w.3 w.4)))
 
-  pub given_18 : (joined_of most layers target t (room_of before) ≡ Refused SpanTooWide) ↔ Given18
+  pub given_18 : (joined_of most layers target t (room_of before) ≡ Err SpanTooWide) ↔ Given18
   given_18 = (λ e. tells e, λ w. follows (over_closure w.1 (too_far_apart w.2 w.3 w.4 w.5)))
 
-  pub given_17 : (joined_of most layers target t (room_of before) ≡ Refused NoRoom) ↔ Given17
+  pub given_17 : (joined_of most layers target t (room_of before) ≡ Err NoRoom) ↔ Given17
   given_17 = (λ e. tells e, λ w. follows (over_closure w.2 (no_room w.3 w.4 w.5 w.6 w.7 w.8)))
 
   pub given_units : (closure units rows : ℕ)
-      → (joined_of most layers target t (room_of before) ≡ Units closure units rows) ↔ GivenUnits closure units rows
+      → (joined_of most layers target t (room_of before) ≡ joined_units closure units rows) ↔ GivenUnits closure units rows
   given_units closure units rows = (λ e. tells e, λ w. follows (over_closure w.1 (joined w.2 w.3 w.4 w.5)))
 
   -- At most one assembly of a head, where 11 to 14 are not given.
-  pub at_most_one_assembly : (closure : ℕ) → ClosureAnswers layers target (Complete closure) → InOrder most layers target t
+  pub at_most_one_assembly : (closure : ℕ) → ClosureAnswers layers target (Ok closure) → InOrder most layers target t
       → (head : ℕ) → Head layers target t head → (choice other : ℕ → ℕ) → AssemblesOwn layers t head choice → AssemblesOwn layers t head other
       → (layer : ℕ) → RestsOn layers (layer_of t head) layer → choice layer ≡ other layer
   at_most_one_assembly closure c o =

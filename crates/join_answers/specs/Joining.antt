@@ -1,25 +1,21 @@
 -- THE ANSWER of joining: the units of all heads, or the refusal, 11 to 18, with its place; and what the three lists then hold.
 -- Assumes nothing.
-use Rattle.std.specs.Prelude.{ℕ, min, Bool, cond, ◌||◌, List, [], ◌∷◌, ltb, length}
+use Rattle.std.specs.Prelude.{ℕ, min, Bool, cond, ◌||◌, List, [], ◌∷◌, ltb, length, Ok, Err}
 use Rattle.closure.specs.declared.Layers.{Layers}
-use Rattle.closure.specs.declared.Closure.{Closure}
-use Rattle.closure.specs.declared.Closure.TheVariants.{Complete, Refused as NoClosure}
+use Rattle.closure.specs.Answer.{Closure}
 use Rattle.closure.specs.Closures.{rested_on, closure_of}
 use Rattle.combinators.specs.Below.{count}
 use Rattle.combinators.specs.Each.{each_below}
 use Rattle.sets.specs.Sets.{has}
-use Rattle.vocabulary.specs.declared.refusal.Refusal.TheVariants.{OutOfRange, TimeOrderBroken, Unpaired, UsedTwice, SpanTooWide, NoRoom}
-use Rattle.rows.specs.declared.Verdict.{Verdict}
-use Rattle.rows.specs.declared.Verdict.TheVariants.{InOrder, OutOfRange as Outside, OrderBroken}
-use Rattle.rows.specs.Verdicts.{verdict_of}
+use Rattle.vocabulary.specs.declared.refusal.Refusal.TheVariants.{Unpaired, UsedTwice, SpanTooWide, NoRoom}
+use Rattle.rows.specs.Verdicts.{Verdict, verdict_of}
 use Rattle.rows.specs.Table.{Table, rows_in}
 use Rattle.assembling.specs.Assemblies.{edges_of}
 use Rattle.claims.specs.Claims.{claimed}
 use Rattle.spans.specs.Spans.{is_closure_row, wide_span}
 use Rattle.heads.specs.Units.{Frame, frame, first_unpaired, first_shared, units_in}
+use Rattle.join_answers.specs.Answer.{joined_units, Joined}
 pub use Rattle.unit_lists.specs.Sequence.{Lists, lists, lists_over}
-use Rattle.join_answers.specs.declared.answer.Joined.{Joined}
-use Rattle.join_answers.specs.declared.answer.Joined.TheVariants.{Units, Refused}
 
 -- what a layer of the closure rests on, itself included
 abbrev pub own_set : Layers → ℕ → ℕ → ℕ
@@ -46,17 +42,16 @@ too_small room rows = ltb room.numbers rows || (ltb room.lags rows || ltb room.s
 -- 15 for all heads, then 16, then 18, and 17 last; else the units
 abbrev pub units_joined : Table → Frame → Room → Joined
 units_joined t f room =
-    cond (ltb (first_unpaired t f) (rows_in t)) (Refused (Unpaired (first_unpaired t f)))
-    (cond (ltb (first_shared t f) (rows_in t)) (Refused (UsedTwice (first_shared t f)))
-    (cond (wide_span t f.closure) (Refused SpanTooWide)
-    (cond (too_small room (closure_rows t f.closure)) (Refused NoRoom)
-    (Units f.closure (units_in t f) (closure_rows t f.closure)))))
+    cond (ltb (first_unpaired t f) (rows_in t)) (Err (Unpaired (first_unpaired t f)))
+    (cond (ltb (first_shared t f) (rows_in t)) (Err (UsedTwice (first_shared t f)))
+    (cond (wide_span t f.closure) (Err SpanTooWide)
+    (cond (too_small room (closure_rows t f.closure)) (Err NoRoom)
+    (joined_units f.closure (units_in t f) (closure_rows t f.closure)))))
 
 -- before these 13 and 14, the verdict on the table itself
 abbrev pub joined_by : Joined → Verdict → Joined
-joined_by units InOrder = units
-joined_by units (Outside row) = Refused (OutOfRange row)
-joined_by units (OrderBroken row) = Refused (TimeOrderBroken row)
+joined_by units (Ok in_order) = units
+joined_by units (Err refusal) = Err refusal
 
 -- `most` is how many rows a table may have
 abbrev pub table_joined : ℕ → Layers → Table → ℕ → Room → Joined
@@ -64,8 +59,8 @@ table_joined most layers t closure room = joined_by (units_joined t (frame_of la
 
 -- and before all of them 11 and 12, of the target
 abbrev pub joined_in : ℕ → Layers → Table → Room → Closure → Joined
-joined_in most layers t room (Complete closure) = table_joined most layers t closure room
-joined_in most layers t room (NoClosure refusal) = Refused refusal
+joined_in most layers t room (Ok closure) = table_joined most layers t closure room
+joined_in most layers t room (Err refusal) = Err refusal
 
 abbrev pub joined_of : ℕ → Layers → ℕ → Table → Room → Joined
 joined_of most layers target t room = joined_in most layers t room (closure_of layers target)
@@ -76,8 +71,8 @@ room_of before = record { numbers = length before.numbers; lags = length before.
 
 -- What the lists hold: the units, and after them what stood there; after a refusal all is as it was.
 abbrev pub lists_after : Layers → Table → Joined → Lists → Lists
-lists_after layers t (Units closure units rows) before = lists_over t (frame_of layers closure t) before
-lists_after layers t (Refused refusal) before = before
+lists_after layers t (Ok joined) before = lists_over t (frame_of layers joined.closure t) before
+lists_after layers t (Err refusal) before = before
 
 -- How many rows a table may have where a caller lends the work space: as many as the shortest of its lists has places, and no more than can be told as a place.
 abbrev pub longest_table : ℕ

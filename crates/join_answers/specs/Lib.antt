@@ -1,3 +1,4 @@
 pub mod Joining
 pub mod Steps
 pub mod Meaning
+pub mod Answer

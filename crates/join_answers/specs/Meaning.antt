@@ -3,10 +3,10 @@
 -- and `unit_lists` (the order of units). `most` is how many rows a table may have: 512, where nobody says more.
 -- proofs/Meant.antt has the laws that join this to what is computed: the computed answer has this meaning, and no other answer has it.
 -- Assumes nothing.
-use Rattle.std.specs.Prelude.{ℕ, ◌<◌, List, ◌≡◌, ℤ, length}
+use Rattle.join_answers.specs.Answer.{joined_units, Joined}
+use Rattle.std.specs.Prelude.{ℕ, ◌<◌, List, ◌≡◌, ℤ, length, Err, Ok}
 use Rattle.buffers.specs.Buffers.{over}
 use Rattle.closure.specs.declared.Layers.{Layers}
-use Rattle.closure.specs.declared.Closure.TheVariants.{Complete, Refused as NoClosure}
 use Rattle.closure.specs.Meaning.{Answers as ClosureAnswers}
 use Rattle.combinators.specs.Ascending.{Ascending}
 use Rattle.vocabulary.specs.declared.refusal.Refusal.{Refusal}
@@ -17,8 +17,6 @@ use Rattle.spans.specs.Meaning.{ClosureRow, SpansTooFar}
 use Rattle.heads.specs.Meaning.{NoAssembly, SharesRow}
 use Rattle.unit_lists.specs.Meaning.{HeadsInOrder, UnitsOf}
 use Rattle.unit_lists.specs.Sequence.{Lists, lists}
-use Rattle.join_answers.specs.declared.answer.Joined.{Joined}
-use Rattle.join_answers.specs.declared.answer.Joined.TheVariants.{Units, Refused}
 use Rattle.join_answers.specs.Joining.{Room, room_of}
 
 -- 17: 'output room too small', where 'each output list, the sizes too, needs one place per closure row'
@@ -48,33 +46,33 @@ pub record Accepted (layers : Layers) (target : ℕ) (t : Table) (before : Lists
 -- comes before it applies.
 pub data AnswersOver (most : ℕ) (layers : Layers) (target closure : ℕ) (t : Table) (before : Lists) : Joined → Lists → Type 0 where
   -- 13: 'row columns of unequal length, more than 512 rows (place 0), or a row out of range'
-  wrong_shape_lem : WrongShape most t → AnswersOver most layers target closure t before (Refused (OutOfRange 0)) before
+  wrong_shape_lem : WrongShape most t → AnswersOver most layers target closure t before (Err (OutOfRange 0)) before
   out_of_range_lem : {row : ℕ} → (WrongShape most t → ⊥) → FirstRow t (RowOutOfRange t) row
-      → AnswersOver most layers target closure t before (Refused (OutOfRange row)) before
+      → AnswersOver most layers target closure t before (Err (OutOfRange row)) before
   -- 14: 'time order broken in a closure layer'
   order_broken : {row : ℕ} → (WrongShape most t → ⊥) → NoRow t (RowOutOfRange t) → FirstRow t (BreaksOrder layers target t) row
-      → AnswersOver most layers target closure t before (Refused (TimeOrderBroken row)) before
+      → AnswersOver most layers target closure t before (Err (TimeOrderBroken row)) before
   -- 15: a head has no assembly
   no_assembly : {row : ℕ} → InOrder most layers target t → FirstRow t (NoAssembly layers target t) row
-      → AnswersOver most layers target closure t before (Refused (Unpaired row)) before
+      → AnswersOver most layers target closure t before (Err (Unpaired row)) before
   -- 16: 'the earliest head in the table that shares a row with a head before it'
   in_two_units : {row : ℕ} → InOrder most layers target t → NoRow t (NoAssembly layers target t) → FirstRow t (SharesRow layers target t) row
-      → AnswersOver most layers target closure t before (Refused (UsedTwice row)) before
+      → AnswersOver most layers target closure t before (Err (UsedTwice row)) before
   -- 18: 'when the distances of closure rows from that first row span 2^32 or more'
   too_far_apart : InOrder most layers target t → NoRow t (NoAssembly layers target t) → NoRow t (SharesRow layers target t)
-      → SpansTooFar layers target t → AnswersOver most layers target closure t before (Refused SpanTooWide) before
+      → SpansTooFar layers target t → AnswersOver most layers target closure t before (Err SpanTooWide) before
   -- 17: 'output room too small'
   no_room : {rows : List ℕ} → InOrder most layers target t → NoRow t (NoAssembly layers target t) → NoRow t (SharesRow layers target t)
       → (SpansTooFar layers target t → ⊥) → Ascending (ClosureRow layers target t) rows → TooSmall (length rows) (room_of before)
-      → AnswersOver most layers target closure t before (Refused NoRoom) before
+      → AnswersOver most layers target closure t before (Err NoRoom) before
   -- accepted: the closure, 'the number of units', and how many places of the lists they fill
   joined : {units rows : ℕ} {after : Lists} → InOrder most layers target t → NoRow t (SharesRow layers target t) → (SpansTooFar layers target t → ⊥)
-      → Accepted layers target t before units rows after → AnswersOver most layers target closure t before (Units closure units rows) after
+      → Accepted layers target t before units rows after → AnswersOver most layers target closure t before (joined_units closure units rows) after
 
 -- THE ANSWER OF JOINING, in two steps: 'the target 11 and 12, joining 13 to 17 after these', and 18.
 pub data Answers (most : ℕ) (layers : Layers) (target : ℕ) (t : Table) (before : Lists) : Joined → Lists → Type 0 where
   -- 11 and 12: as the closure has them
-  no_closure : {refusal : Refusal} → ClosureAnswers layers target (NoClosure refusal) → Answers most layers target t before (Refused refusal) before
+  no_closure : {refusal : Refusal} → ClosureAnswers layers target (Err refusal) → Answers most layers target t before (Err refusal) before
   -- 13 to 18, or the units: the table over the closure
-  over_closure : {closure : ℕ} {answer : Joined} {after : Lists} → ClosureAnswers layers target (Complete closure)
+  over_closure : {closure : ℕ} {answer : Joined} {after : Lists} → ClosureAnswers layers target (Ok closure)
       → AnswersOver most layers target closure t before answer after → Answers most layers target t before answer after

@@ -1,13 +1,12 @@
 -- What the steps of joining ask and answer: a work space that holds the rows, and the units over a frame.
 -- Assumes nothing.
-use Rattle.std.specs.Prelude.{ℕ, ◌≤◌, List, [], ◌∷◌}
+use Rattle.std.specs.Prelude.{ℕ, ◌≤◌, List, [], ◌∷◌, Err, Ok}
 use Rattle.closure.specs.declared.Layers.{Layers}
 use Rattle.rows.specs.Table.{Table}
 use Rattle.heads.specs.Units.{Frame}
 use Rattle.heads.specs.Orderly.{Orderly, Framed}
 use Rattle.unit_lists.specs.Sequence.{Lists, lists_over}
-use Rattle.join_answers.specs.declared.answer.Joined.{Joined}
-use Rattle.join_answers.specs.declared.answer.Joined.TheVariants.{Units, Refused}
+use Rattle.join_answers.specs.Answer.{Joined}
 
 -- how many places the seven lists of the work space have
 abbrev pub spaces : ℕ → ℕ → ℕ → ℕ → ℕ → ℕ → ℕ → List ℕ
@@ -32,5 +31,5 @@ pub record Joinable (closure : ℕ) (t : Table) (f : Frame) : Type 0 where
 
 -- what the lists hold after the units over a frame, or after a refusal
 abbrev pub framed_lists : Table → Frame → Joined → Lists → Lists
-framed_lists t f (Units closure units rows) before = lists_over t f before
-framed_lists t f (Refused refusal) before = before
+framed_lists t f (Ok joined) before = lists_over t f before
+framed_lists t f (Err refusal) before = before

@@ -7,6 +7,6 @@ mod answer;
 mod frame;
 mod room;
 
-pub use answer::Joined;
+pub use answer::Units;
 pub use frame::own_sets;
 pub use room::{LONGEST_TABLE, closure_rows, most_long, too_small};

@@ -13,7 +13,7 @@ pub fn closure_rows(closure: u64, indices: &[u8], starts: &[usize; 65]) -> usize
     let mut rows = 0;
     let mut left = closure;
     while left != 0 {
-        let layer = sets::lowest(left) as usize;
+        let layer = usize::from(sets::lowest(left));
         rows += starts[layer + 1] - starts[layer];
         left = sets::rest(left);
     }
@@ -30,15 +30,6 @@ pub fn too_small(rows: usize, numbers: usize, lags: usize, sizes: usize) -> bool
 // How many rows a table may have at the most, whatever the work space holds: a row's number is told as a place of 56 bits.
 pub const LONGEST_TABLE: usize = 281474976710656;
 
-fn lesser(one: usize, other: usize) -> usize
-    ensures { result ≡ min one other }
-{
-    if one < other {
-        return one;
-    }
-    other
-}
-
 // How many rows a table may have, given how many places each list of the work space has.
 pub fn most_long(
     order: usize,
@@ -51,7 +42,7 @@ pub fn most_long(
 ) -> usize
     ensures { result ≡ most_long (spaces order keys kept places heads claimed used) }
 {
-    let flags = lesser(claimed, lesser(used, LONGEST_TABLE));
-    let numbers = lesser(kept, lesser(places, lesser(heads, flags)));
-    lesser(order, lesser(keys, numbers))
+    let flags = claimed.min(used.min(LONGEST_TABLE));
+    let numbers = kept.min(places.min(heads.min(flags)));
+    order.min(keys.min(numbers))
 }

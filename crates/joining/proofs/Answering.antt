@@ -1,5 +1,7 @@
 -- The answer, way by way: each return of the code is a case of the definition, given what its calls answer; and the lists that are lent are those of the frame.
 -- Assumes nothing.
+use Rattle.std.specs.Prelude.{Err}
+use Rattle.join_answers.specs.Answer.{joined_units, Joined}
 use Prim.Native.Nat.{ℕ, ◌-◌, ◌≤◌, ◌<◌}
 use mathlib.Core.Bool.{Bool, true, false, ◌||◌}
 use mathlib.Core.List.{List}
@@ -29,8 +31,6 @@ use Rattle.heads.specs.Orderly.{Orderly, Framed}
 use Rattle.heads.proofs.Orderly.{ready}
 use Rattle.heads.proofs.Wholeness.{frame_whole}
 use Rattle.unit_lists.specs.Sequence.{Lists}
-use Rattle.join_answers.specs.declared.answer.Joined.{Joined}
-use Rattle.join_answers.specs.declared.answer.Joined.TheVariants.{Units, Refused}
 use Rattle.join_answers.specs.Joining.{own_set, frame_of, closure_rows, Room, too_small, units_joined, table_joined, lists_after}
 use Rattle.join_answers.specs.Steps.{Joinable, framed_lists}
 use Rattle.join_answers.proofs.Framing.{framed}
@@ -49,7 +49,7 @@ module _ (closure : ℕ) (t : Table) (f : Frame) (known : Joinable closure t f) 
 -- ---- 15, 16, 18, 17 and the units
 
 module _ (t : Table) (f : Frame) (room : Room) (judged : Judged) (kept places : List ℕ) (found : Judges t f judged kept places) where
-  pub unpaired_answer : judged.unpaired < rows_in t → Refused (Unpaired judged.unpaired) ≡ units_joined t f room
+  pub unpaired_answer : judged.unpaired < rows_in t → Err (Unpaired judged.unpaired) ≡ units_joined t f room
   unpaired_answer h = is_unpaired t f room judged.unpaired found.no_assembly h
 
   module _ (paired : rows_in t ≤ judged.unpaired) where
@@ -59,7 +59,7 @@ module _ (t : Table) (f : Frame) (room : Room) (judged : Judged) (kept places : 
     pub paired_first : rows_in t ≤ first_unpaired t f
     paired_first = subst (λ (k : ℕ). rows_in t ≤ k) found.no_assembly paired
 
-    pub shared_answer : judged.shared < rows_in t → Refused (UsedTwice judged.shared) ≡ units_joined t f room
+    pub shared_answer : judged.shared < rows_in t → Err (UsedTwice judged.shared) ≡ units_joined t f room
     shared_answer h = is_shared t f room paired_first judged.shared (found.two_units none_unpaired) h
 
     module _ (apart : rows_in t ≤ judged.shared) where
@@ -72,19 +72,19 @@ module _ (t : Table) (f : Frame) (room : Room) (judged : Judged) (kept places : 
       pub held : Kept t f kept places
       held = found.units_kept none_unpaired none_shared
 
-      pub wide_answer : (wide : Bool) → wide ≡ wide_span t f.closure → wide ≡ true → Refused SpanTooWide ≡ units_joined t f room
+      pub wide_answer : (wide : Bool) → wide ≡ wide_span t f.closure → wide ≡ true → Err SpanTooWide ≡ units_joined t f room
       wide_answer wide e h = is_wide t f room paired_first apart_first (sym e ∙ h)
 
       module _ (narrow : wide_span t f.closure ≡ false) (rows : ℕ) (is_rows : rows ≡ closure_rows t f.closure) (small : Bool) (is-small : small ≡ too_small room rows) where
         tested : small ≡ too_small room (closure_rows t f.closure)
         tested = is-small ∙ ap (too_small room) is_rows
 
-        pub room_answer : small ≡ true → Refused NoRoom ≡ units_joined t f room
+        pub room_answer : small ≡ true → Err NoRoom ≡ units_joined t f room
         room_answer h = is_no_room t f room paired_first apart_first narrow (sym tested ∙ h)
 
-        pub units_answer : small ≡ false → Units f.closure judged.units rows ≡ units_joined t f room
+        pub units_answer : small ≡ false → joined_units f.closure judged.units rows ≡ units_joined t f room
         units_answer h =
-            ap₂ (Units f.closure) (found.counted none_unpaired none_shared) is_rows ∙ are_units t f room paired_first apart_first narrow (sym tested ∙ h)
+            ap₂ (joined_units f.closure) (found.counted none_unpaired none_shared) is_rows ∙ are_units t f room paired_first apart_first narrow (sym tested ∙ h)
 
 -- the room that a list has where none is too small
 pub record Enough (room : Room) (rows : ℕ) : Type 0 where

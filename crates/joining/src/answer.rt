@@ -9,10 +9,10 @@ ghost use Rattle.join_answers.specs.Joining.{frame_of, units_joined, table_joine
 ghost use Rattle.join_answers.specs.Steps.{spaces, Holds, Joinable, framed_lists};
 
 use assembling::edges_of;
-use closure::{Closure, Layers};
-use join_answers::{Joined, closure_rows, most_long, own_sets, too_small};
+use closure::Layers;
+use join_answers::{Units, closure_rows, most_long, own_sets, too_small};
 use row_index::{lay_order, starts_of};
-use rows::{MOST_ROWS, Verdict};
+use rows::MOST_ROWS;
 use unit_lists::write_units;
 use vocabulary::Refusal;
 
@@ -35,7 +35,7 @@ fn join_framed(
     numbers: &mut [u64],
     lags: &mut [i64],
     sizes: &mut [u64],
-) -> Joined
+) -> Result<Units, Refusal>
     requires { Joinable closure (table indices.now decodings.now matches.now) (frame closure claimed.now own.now edges.now)
         × Starts indices.now starts.now
         × Order indices.now order.old
@@ -56,27 +56,27 @@ fn join_framed(
         places,
     );
     if judged.unpaired < none {
-        return Joined::Refused(Refusal::Unpaired(judged.unpaired));
+        return Err(Refusal::Unpaired(judged.unpaired));
     }
     if judged.shared < none {
-        return Joined::Refused(Refusal::UsedTwice(judged.shared));
+        return Err(Refusal::UsedTwice(judged.shared));
     }
     if spans::measure(closure, indices, decodings, keys) {
-        return Joined::Refused(Refusal::SpanTooWide);
+        return Err(Refusal::SpanTooWide);
     }
     let rows = closure_rows(closure, indices, starts);
     if too_small(rows, numbers.len(), lags.len(), sizes.len()) {
-        return Joined::Refused(Refusal::NoRoom);
+        return Err(Refusal::NoRoom);
     }
     write_units(
         closure, indices, decodings, starts, order, keys, own, claimed, kept, places, heads,
         numbers, lags, sizes,
     );
-    Joined::Units {
+    Ok(Units {
         closure,
         units: judged.units,
         rows,
-    }
+    })
 }
 
 // The units over a whole closure, of a table in range and in order.
@@ -96,7 +96,7 @@ fn join_ordered(
     numbers: &mut [u64],
     lags: &mut [i64],
     sizes: &mut [u64],
-) -> Joined
+) -> Result<Units, Refusal>
     requires { ((target : ℕ) × Orderly layers target closure (table indices.now decodings.now matches.now))
         × Holds (length indices.now)
         (length order.old) (length keys.old) (length kept.old) (length places.old) (length heads.old) (length claimed.old) (length used.old) }
@@ -160,7 +160,7 @@ pub fn join_table(
     numbers: &mut [u64],
     lags: &mut [i64],
     sizes: &mut [u64],
-) -> Joined
+) -> Result<Units, Refusal>
     requires { Closed layers target closure
         × Holds most
         (length order.old) (length keys.old) (length kept.old) (length places.old) (length heads.old) (length claimed.old) (length used.old) }
@@ -172,15 +172,11 @@ pub fn join_table(
         (frame_of layers closure (table indices.now decodings.now matches.now)) result
         (lists numbers.old lags.old sizes.old) }
 {
-    let verdict = rows::judge(most, closure, indices, decodings, matches);
-    match verdict {
-        Verdict::InOrder => join_ordered(
-            layers, closure, indices, decodings, matches, order, keys, kept, places, heads,
-            claimed, used, numbers, lags, sizes,
-        ),
-        Verdict::OutOfRange(row) => Joined::Refused(Refusal::OutOfRange(row)),
-        Verdict::OrderBroken(row) => Joined::Refused(Refusal::TimeOrderBroken(row)),
-    }
+    rows::judge(most, closure, indices, decodings, matches)?;
+    join_ordered(
+        layers, closure, indices, decodings, matches, order, keys, kept, places, heads, claimed,
+        used, numbers, lags, sizes,
+    )
 }
 
 // THE CALL FOR TABLES OF ANY LENGTH: the closure, then the table over it. The layers of a loop, a target, the three columns of the row table, seven lists for the work, and the three lists
@@ -202,7 +198,7 @@ pub fn join_long(
     numbers: &mut [u64],
     lags: &mut [i64],
     sizes: &mut [u64],
-) -> Joined
+) -> Result<Units, Refusal>
     ensures answer { result
         ≡ joined_of (most_long (spaces (length order.old) (length keys.old) (length kept.old) (length places.old)
         (length heads.old) (length claimed.old) (length used.old))) layers target
@@ -221,14 +217,11 @@ pub fn join_long(
         claimed.len(),
         used.len(),
     );
-    let found = closure::closure_of(layers, target);
-    match found {
-        Closure::Complete(set) => join_table(
-            most, layers, set, target, indices, decodings, matches, order, keys, kept, places,
-            heads, claimed, used, numbers, lags, sizes,
-        ),
-        Closure::Refused(refusal) => Joined::Refused(refusal),
-    }
+    let set = closure::closure_of(layers, target)?;
+    join_table(
+        most, layers, set, target, indices, decodings, matches, order, keys, kept, places, heads,
+        claimed, used, numbers, lags, sizes,
+    )
 }
 
 // THE CALL, for tables of 512 rows at the most, with a work space of its own: the layers of a loop, a target, the three columns of the row table, and the three lists for the answer,
@@ -242,7 +235,7 @@ pub fn join(
     numbers: &mut [u64],
     lags: &mut [i64],
     sizes: &mut [u64],
-) -> Joined
+) -> Result<Units, Refusal>
     ensures answer { result
         ≡ joined_of most_rows layers target (table indices.now decodings.now matches.now)
         (room_of (lists numbers.old lags.old sizes.old)) }

@@ -5,4 +5,4 @@
 mod answer;
 
 pub use answer::{join, join_long, join_table};
-pub use join_answers::{Joined, LONGEST_TABLE};
+pub use join_answers::{LONGEST_TABLE, Units};

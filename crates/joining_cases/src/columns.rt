@@ -1,52 +1,31 @@
-// A column of the row table.
+// The columns of the row table.
+use arrayvec::ArrayVec;
 
-// The values of a column, as many as `count`, in `list`.
-#[derive(Clone, Copy)]
-pub struct Column {
-    pub count: u64,
-    pub list: [u64; 600],
-}
+// As many rows and places as a case may have.
+pub const ROOM: usize = 600;
 
-pub fn empty() -> Column {
-    Column {
-        count: 0,
-        list: [0; 600],
-    }
-}
+pub type Column = ArrayVec<u64, 600>;
 
-// The column with more values, so many: the first, and each later one by `step` more than the one before.
-pub fn extended(column: Column, first: u64, times: u64, step: u64) -> Column {
-    let mut count = column.count;
-    let mut list = column.list;
+// Puts so many values more into a column: the first, and each later one by `step` more than the one before. What goes beyond the room is
+// not kept.
+pub fn extend(column: &mut Column, first: u64, times: u64, step: u64) {
     let mut value = first;
-    let mut left = times;
-    while 0 < left {
-        if 600 <= count {
-            return Column { count, list };
+    for _ in 0..times {
+        if ROOM <= column.len() {
+            return;
         }
-        list[count as usize] = value;
-        count += 1;
-        value = std::num::wrapping_add_u64(value, step);
-        left -= 1;
+        column.push(value);
+        value = value.wrapping_add(step);
     }
-    Column { count, list }
-}
-
-fn byte(value: u64) -> u8 {
-    if value < 255 {
-        return value as u8;
-    }
-    255
 }
 
 // The values as bytes, 255 for each that is larger.
-pub fn bytes_of(column: Column) -> [u8; 600] {
-    let mut bytes = [0u8; 600];
-    let list = column.list;
-    let mut i = 0;
-    while i < 600 {
-        bytes[i] = byte(list[i]);
-        i += 1;
+pub fn bytes_of(column: &Column) -> ArrayVec<u8, 600> {
+    let mut bytes = ArrayVec::new();
+    for value in column.as_slice() {
+        let byte = u8::try_from(*value).unwrap_or(u8::MAX);
+        // There is room for each, as the columns are of one size.
+        let _ = bytes.try_push(byte);
     }
     bytes
 }

@@ -27,129 +27,49 @@
 // answered by 'unreadable', and an input of more than 65,535 bytes, which is not read to its end, by 'too long'.
 #![tactic(auto)]
 
-ghost use Rattle.std.specs.Prelude.{◌≤◌};
-
 mod answers;
 mod columns;
 mod tables;
 
-use closure::Layers;
+use columns::ROOM;
 use std::io::{self, Result, Write};
 use tables::Case;
 
 // Lends the columns and the lists to the call, and prints what it answers and what it leaves in the lists.
-fn answer_table<W: Write>(
-    out: &mut W,
-    layers: Layers,
-    target: u64,
-    indices: &[u8],
-    decodings: &[u64],
-    matches: &[u64],
-    numbers: &mut [u64],
-    lags: &mut [i64],
-    sizes: &mut [u64],
-) -> Result<()> {
-    answers::print(
-        out,
-        joining::join(
-            layers, target, indices, decodings, matches, numbers, lags, sizes,
-        ),
-    )?;
-    answers::print_numbers(out, numbers)?;
-    answers::print_lags(out, lags)?;
-    answers::print_sizes(out, sizes)
-}
-
-// How many rows or places of so many are kept.
-fn kept(count: u64) -> usize
-    ensures { result ≤ 600 }
-{
-    if count < 600 {
-        return count as usize;
-    }
-    600
-}
-
-// Cuts the lists to their lengths.
-fn answer_lists<W: Write>(
-    out: &mut W,
-    layers: Layers,
-    case: Case,
-    indices: [u8; 600],
-    decodings: [u64; 600],
-    matches: [u64; 600],
-) -> Result<()> {
-    let index_count = kept(case.indices.count);
-    let decoding_count = kept(case.decodings.count);
-    let match_count = kept(case.matches.count);
-    let number_places = kept(case.number_places);
-    let lag_places = kept(case.lag_places);
-    let size_places = kept(case.size_places);
+fn answer_case<W: Write>(out: &mut W, case: &Case) -> Result<()> {
+    let indices = columns::bytes_of(&case.indices);
     let mut numbers = answers::no_numbers();
     let mut lags = answers::no_lags();
     let mut sizes = answers::no_numbers();
-    answer_table(
-        out,
-        layers,
+    let numbers = &mut numbers[..case.number_places.min(ROOM)];
+    let lags = &mut lags[..case.lag_places.min(ROOM)];
+    let sizes = &mut sizes[..case.size_places.min(ROOM)];
+    let joined = joining::join(
+        case.layers,
         case.target,
-        &indices[..index_count],
-        &decodings[..decoding_count],
-        &matches[..match_count],
-        &mut numbers[..number_places],
-        &mut lags[..lag_places],
-        &mut sizes[..size_places],
-    )
-}
-
-fn answer_case<W: Write>(out: &mut W, case: Case) -> Result<()> {
-    let embedded = case.embedded;
-    let layers = Layers {
-        present: case.present,
-        embedded,
-    };
-    let indices = case.indices;
-    let decodings = case.decodings;
-    let matches = case.matches;
-    let decoding_list = decodings.list;
-    let match_list = matches.list;
-    answer_lists(
-        out,
-        layers,
-        case,
-        columns::bytes_of(indices),
-        decoding_list,
-        match_list,
-    )
+        indices.as_slice(),
+        case.decodings.as_slice(),
+        case.matches.as_slice(),
+        numbers,
+        lags,
+        sizes,
+    );
+    answers::print(out, joined)?;
+    answers::print_numbers(out, numbers)?;
+    answers::print_lags(out, lags)?;
+    answers::print_sizes(out, sizes)
 }
 
 fn answer_line<W: Write>(out: &mut W, line: &[u8]) -> Result<()> {
     if cases::is_comment(line) {
         return cases::copy(out, line);
     }
-    let case = tables::read(line);
-    if case.readable {
-        answer_case(out, case)?;
-    } else {
-        cases::unreadable(out)?;
+    match tables::read(line) {
+        Some(case) => answer_case(out, &case),
+        None => cases::unreadable(out),
     }
-    Ok(())
-}
-
-fn answer_lines<W: Write>(out: &mut W, text: &[u8]) -> Result<()> {
-    let mut at = 0;
-    while at < text.len() {
-        let rest = &text[at..];
-        let line = cases::first_part(b'\n', rest);
-        let size = line.size;
-        answer_line(out, &rest[..size])?;
-        at += line.step;
-    }
-    Ok(())
 }
 
 fn main(rt: HostRuntime) -> Result<()> {
-    let mut buffer = [0u8; 65536];
-    let mut out = io::writer(&rt);
-    let count = cases::read_cases(&mut rt.reader(), &mut out, &mut buffer)?;
-    answer_lines(&mut out, &buffer[..count])
+    cases::answer_cases(&mut rt.reader(), &mut io::writer(&rt), answer_line)
 }

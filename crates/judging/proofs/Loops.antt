@@ -20,15 +20,7 @@ use Rattle.extension.proofs.Bytes.{layer_byte}
 use Rattle.records.specs.Records.{plain}
 use Rattle.judging.specs.Judging.{wrong_at, wrong_list}
 
--- THE LIST. The first `count` layers of the array as numbers: how many, and what stands at each place.
-module _ (embedded : List LayerIndex) (count : ℕ) (room : count ≤ length embedded) where
-  pub count_length : length (map plain (take count embedded)) ≡ count
-  count_length = length-map (take count embedded) plain ∙ length-take-le count embedded room
-
-  pub count_at : (i : ℕ) → i < count → get_or (map plain (take count embedded)) i 0 ≡ plain (get_or embedded i no_layer)
-  count_at i h = get_or-map plain (take count embedded) i no_layer ∙ ap plain (get_or-take count embedded i no_layer h)
-
--- The same of the bytes of a list.
+-- THE LIST. The layers of its bytes as numbers: how many, and what stands at each place.
 pub bytes_length : (list : List ℕ) → length (map plain (layers_of list)) ≡ length list
 bytes_length list = length-map (layers_of list) plain ∙ length-map list layer_index_of
 

@@ -19,11 +19,7 @@ use vocabulary::{LayerIndex, may_stand_on};
 fn extension_on(stream_type: u8) -> bool
     ensures { result ≡ member stream_type extension_on }
 {
-    match stream_type {
-        0x24 | 0x25 => true,
-        0x28..=0x2B => true,
-        _ => false,
-    }
+    matches!(stream_type, 0x24 | 0x25 | 0x28..=0x2B)
 }
 
 // Refusal 6. `given` is whether the rule gives this entry the implied mark.
@@ -65,13 +61,11 @@ pub fn wrong_flags(record: Record) -> bool
     ensures { result ≡ wrong_flags «record» }
 {
     match record {
-        Record::NoRecord => false,
         Record::Hierarchy(hierarchy) => flags_wrong_for(
             hierarchy.hierarchy_type,
             flags_at_0(hierarchy),
         ),
-        Record::Extension(_) => false,
-        Record::Implied => false,
+        Record::NoRecord | Record::Extension(_) | Record::Implied => false,
     }
 }
 
@@ -86,18 +80,16 @@ fn no_marks() -> [bool; 256]
 fn mark_of(index: LayerIndex) -> usize
     ensures { (result ≡ plain index) × (result < 256) }
 {
-    index.0 as usize
+    usize::from(index.0)
 }
 
-// Whether an index among the first `count` is not below `own`, or stands there twice.
-fn wrong_list(own: LayerIndex, count: usize, embedded: [LayerIndex; 63]) -> bool
-    requires { count ≤ 63 }
-    ensures { result ≡ wrong_list (plain own) (map plain (take count embedded)) }
+// Whether an index of the list is not below `own`, or stands there twice.
+fn wrong_list(own: LayerIndex, list: &[LayerIndex]) -> bool
+    ensures { result ≡ wrong_list (plain own) (map plain list.now) }
 {
     let mut marks = no_marks();
-    let mut i = 0;
-    while i < count {
-        let index = mark_of(embedded[i]);
+    for layer in list {
+        let index = mark_of(*layer);
         if mark_of(own) <= index {
             return true;
         }
@@ -105,19 +97,17 @@ fn wrong_list(own: LayerIndex, count: usize, embedded: [LayerIndex; 63]) -> bool
             return true;
         }
         marks[index] = true;
-        i += 1;
     }
     false
 }
 
-// The same of the bytes of an extension's list, where it stands in a descriptor.
+// The same of the bytes of an extension's list, where it stands in a descriptor. (No list of indices is made of them: it would be a copy.)
 pub fn wrong_listed(own: LayerIndex, list: &[u8]) -> bool
     ensures { result ≡ wrong_list (plain own) (map plain (layers_of list.now)) }
 {
     let mut marks = no_marks();
-    let mut i = 0;
-    while i < list.len() {
-        let index = mark_of(LayerIndex(list[i] % 64));
+    for byte in list {
+        let index = mark_of(LayerIndex(byte % 64));
         if mark_of(own) <= index {
             return true;
         }
@@ -125,7 +115,6 @@ pub fn wrong_listed(own: LayerIndex, list: &[u8]) -> bool
             return true;
         }
         marks[index] = true;
-        i += 1;
     }
     false
 }
@@ -144,15 +133,11 @@ pub fn wrong_embedded(record: Record, embedded: [LayerIndex; 63]) -> bool
     ensures { TellsEmbedded result «record» embedded }
 {
     match record {
-        Record::NoRecord => false,
+        Record::NoRecord | Record::Implied => false,
         Record::Hierarchy(hierarchy) => wrong_hierarchy_index(hierarchy),
         Record::Extension(extension) => {
-            wrong_list(
-                extension.layer_index,
-                descriptors::listed_count(extension.num_embedded_layers),
-                embedded,
-            )
+            let count = descriptors::listed_count(extension.num_embedded_layers);
+            wrong_list(extension.layer_index, &embedded[..count])
         }
-        Record::Implied => false,
     }
 }

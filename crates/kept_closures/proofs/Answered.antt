@@ -1,5 +1,6 @@
 -- The answer from what is kept is the answer of `closure`.
 -- Assumes nothing.
+use Rattle.std.specs.Prelude.{Err, Ok}
 use Prim.Native.Nat.{ℕ, ◌^◌, ◌≤◌, ◌<◌}
 use mathlib.Core.Bool.{Bool, true, false, cond, ◌&&◌}
 use mathlib.Core.List.{List}
@@ -14,11 +15,11 @@ use Rattle.sets.specs.Sets.{has, without, below, lowest}
 use Rattle.sets.proofs.Laws.{has_below, below_within, same_members}
 use Rattle.vocabulary.specs.declared.refusal.Refusal.TheVariants.{NoSuchLayer, EmbeddedLayerAbsent}
 use Rattle.closure.specs.declared.Layers.{Layers}
-use Rattle.closure.specs.declared.Closure.TheVariants.{Complete, Refused}
 use Rattle.closure.specs.Closures.{is_layer, rested_on, closure_of}
 use Rattle.closure.proofs.Reached.{member_rests_on, rests_on_at_most}
 use Rattle.closure.proofs.Scan.{no_layer_lem, none_missing, one_missing, empty_none_missing, some_missing, lowest_missing}
-use Rattle.kept_closures.specs.Kept.{Columns, FreshAt, Kept, answer_kept}
+use Rattle.kept_closures.specs.declared.Columns.{Columns}
+use Rattle.kept_closures.specs.Kept.{FreshAt, Kept, answer_kept}
 
 -- a closure is a set of 64 indices
 pub closure_small : (layers : Layers) (target : ℕ) → target < 64 → rested_on layers target < 2 ^ 64
@@ -34,26 +35,26 @@ closure_small layers target h =
 -- ---- the answer's cases
 
 module _ (present : ℕ) (closures : List ℕ) (absents : List Bool) (target : ℕ) where
-  pub not_there : ltb target 64 && has present target ≡ false → Refused NoSuchLayer ≡ answer_kept present closures absents target
+  pub not_there : ltb target 64 && has present target ≡ false → Err NoSuchLayer ≡ answer_kept present closures absents target
   not_there e =
       ap (λ (b : Bool). cond b
-      (cond (get_or absents target false) (Refused (EmbeddedLayerAbsent (record { 0 = lowest (without (get_or closures target 0) present) }))) (Complete (get_or closures target 0)))
-      (Refused NoSuchLayer)) (sym e)
+      (cond (get_or absents target false) (Err (EmbeddedLayerAbsent (record { 0 = lowest (without (get_or closures target 0) present) }))) (Ok (get_or closures target 0)))
+      (Err NoSuchLayer)) (sym e)
 
   module _ (inside : target < 64) (there : has present target ≡ true) where
     given : (b : Bool) → get_or absents target false ≡ b
-        → cond b (Refused (EmbeddedLayerAbsent (record { 0 = lowest (without (get_or closures target 0) present) }))) (Complete (get_or closures target 0))
+        → cond b (Err (EmbeddedLayerAbsent (record { 0 = lowest (without (get_or closures target 0) present) }))) (Ok (get_or closures target 0))
         ≡ answer_kept present closures absents target
     given b e =
         ap₂ (λ (x y : Bool). cond x
-        (cond y (Refused (EmbeddedLayerAbsent (record { 0 = lowest (without (get_or closures target 0) present) }))) (Complete (get_or closures target 0)))
-        (Refused NoSuchLayer)) (sym (ap₂ ◌&&◌ (lt-ltb target 64 inside) there)) (sym e)
+        (cond y (Err (EmbeddedLayerAbsent (record { 0 = lowest (without (get_or closures target 0) present) }))) (Ok (get_or closures target 0)))
+        (Err NoSuchLayer)) (sym (ap₂ ◌&&◌ (lt-ltb target 64 inside) there)) (sym e)
 
     pub one_absent_there : (index : ℕ) → index ≡ lowest (without (get_or closures target 0) present) → get_or absents target false ≡ true
-        → Refused (EmbeddedLayerAbsent (record { 0 = index })) ≡ answer_kept present closures absents target
-    one_absent_there index same e = ap (λ (i : ℕ). Refused (EmbeddedLayerAbsent (record { 0 = i }))) same ∙ given true e
+        → Err (EmbeddedLayerAbsent (record { 0 = index })) ≡ answer_kept present closures absents target
+    one_absent_there index same e = ap (λ (i : ℕ). Err (EmbeddedLayerAbsent (record { 0 = i }))) same ∙ given true e
 
-    pub all_there : get_or absents target false ≡ false → Complete (get_or closures target 0) ≡ answer_kept present closures absents target
+    pub all_there : get_or absents target false ≡ false → Ok (get_or closures target 0) ≡ answer_kept present closures absents target
     all_there e = given false e
 
 -- ---- and that it is the one of `closure`
@@ -64,9 +65,9 @@ answer_kept_lem layers kept k target = go (is_layer layers target) refl
   where
     go : (b : Bool) → is_layer layers target ≡ b
         → cond b
-        (cond (get_or kept.absents target false) (Refused (EmbeddedLayerAbsent (record { 0 = lowest (without (get_or kept.closures target 0) layers.present) })))
-        (Complete (get_or kept.closures target 0)))
-        (Refused NoSuchLayer)
+        (cond (get_or kept.absents target false) (Err (EmbeddedLayerAbsent (record { 0 = lowest (without (get_or kept.closures target 0) layers.present) })))
+        (Ok (get_or kept.closures target 0)))
+        (Err NoSuchLayer)
         ≡ closure_of layers target
     go false e = no_layer_lem layers target e
     go true e = by_flag (get_or kept.absents target false) refl
@@ -81,7 +82,7 @@ answer_kept_lem layers kept k target = go (is_layer layers target) refl
         rests = f.closure ∙ ap (λ (b : Bool). cond b (rested_on layers target) 0) e
 
         by_flag : (b : Bool) → get_or kept.absents target false ≡ b
-            → cond b (Refused (EmbeddedLayerAbsent (record { 0 = lowest (without (get_or kept.closures target 0) layers.present) }))) (Complete (get_or kept.closures target 0))
+            → cond b (Err (EmbeddedLayerAbsent (record { 0 = lowest (without (get_or kept.closures target 0) layers.present) }))) (Ok (get_or kept.closures target 0))
             ≡ closure_of layers target
         by_flag true t =
             one_missing layers target (get_or kept.closures target 0) e rests _

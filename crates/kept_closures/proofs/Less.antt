@@ -18,7 +18,8 @@ use Rattle.closure.specs.declared.Layers.{Layers}
 use Rattle.closure.specs.Closures.{is_layer, rested_on}
 use Rattle.closure.specs.Meaning.{itself}
 use Rattle.closure.proofs.Reached.{rests_on_member}
-use Rattle.kept_closures.specs.Kept.{Columns, fresh_of, lacks_one, stored_at, FreshAt, Kept, with_layer, without_layer, closure_over, shrunk_at, shrunk_by, columns_removed}
+use Rattle.kept_closures.specs.declared.Columns.{Columns}
+use Rattle.kept_closures.specs.Kept.{fresh_of, lacks_one, stored_at, FreshAt, Kept, with_layer, without_layer, closure_over, shrunk_at, shrunk_by, columns_removed}
 use Rattle.kept_closures.proofs.Resting.{was_layer}
 use Rattle.kept_closures.proofs.Fresh.{put_together, fresh_same, fresh_more, same_absent, not_above}
 use Rattle.kept_closures.proofs.Steps.{Halfway, by_storing, by_leaving, at_first, stepped}

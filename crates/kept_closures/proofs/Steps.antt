@@ -14,7 +14,8 @@ use Rattle.sets.specs.Sets.{has, joined, size}
 use Rattle.sets.proofs.Laws.{has_none}
 use Rattle.closure.specs.declared.Layers.{Layers}
 use Rattle.closure.specs.Closures.{is_layer, rested_on}
-use Rattle.kept_closures.specs.Kept.{Columns, fresh_of, lacks_one, stored_at, FreshAt, Places, Kept, with_layer, closure_over, grown_at, steps_from, columns_added}
+use Rattle.kept_closures.specs.declared.Columns.{Columns}
+use Rattle.kept_closures.specs.Kept.{fresh_of, lacks_one, stored_at, FreshAt, Places, Kept, with_layer, closure_over, grown_at, steps_from, columns_added}
 use Rattle.kept_closures.proofs.Fresh.{fresh_same, fresh_more, fresh_own, rested_own, same_absent, not_above}
 
 -- ---- what is kept

@@ -16,7 +16,8 @@ use Rattle.sets.specs.Sets.{has, without, size}
 use Rattle.sets.proofs.Laws.{has_none, has_without, same_members}
 use Rattle.closure.specs.declared.Layers.{Layers}
 use Rattle.closure.specs.Closures.{is_layer, rested_on}
-use Rattle.kept_closures.specs.Kept.{Columns, columns, layers_by, fresh_of, lacks_one, stored_at, FreshAt, Kept, closure_over, steps_from, fresh_columns, worked_by, no_columns}
+use Rattle.kept_closures.specs.declared.Columns.{Columns}
+use Rattle.kept_closures.specs.Kept.{columns, layers_by, fresh_of, lacks_one, stored_at, FreshAt, Kept, closure_over, steps_from, fresh_columns, worked_by, no_columns}
 use Rattle.kept_closures.proofs.Fresh.{put_together}
 use Rattle.kept_closures.proofs.Steps.{Halfway, by_storing, by_leaving, all_stepped}
 

@@ -2,13 +2,13 @@
 -- number of layers in it, and whether one is absent.' An absent index is in the closure as it is named; what lies below it is unknown and adds nothing
 -- until that layer is there.
 -- Assumes nothing.
-use Rattle.std.specs.Prelude.{ℕ, zero, suc, ◌+◌, ◌-◌, ◌<◌, Bool, false, not, cond, ◌&&◌, List, ◌≡◌, eqb, ltb, length, get_or, set, replicate}
+use Rattle.std.specs.Prelude.{ℕ, zero, suc, ◌+◌, ◌-◌, ◌<◌, Bool, false, not, cond, ◌&&◌, List, ◌≡◌, eqb, ltb, length, get_or, set, replicate, Err, Ok}
 use Rattle.combinators.specs.Each.{each_below}
 use Rattle.sets.specs.Sets.{has, joined, only, added, without, size, lowest}
 use Rattle.closure.specs.declared.Layers.{Layers}
+use Rattle.kept_closures.specs.declared.Columns.{Columns}
 use Rattle.vocabulary.specs.declared.refusal.Refusal.TheVariants.{NoSuchLayer, EmbeddedLayerAbsent}
-use Rattle.closure.specs.declared.Closure.{Closure}
-use Rattle.closure.specs.declared.Closure.TheVariants.{Complete, Refused}
+use Rattle.closure.specs.Answer.{Closure}
 use Rattle.closure.specs.Closures.{is_layer, rested_on}
 
 -- layers by their two parts
@@ -23,12 +23,7 @@ fresh_of layers i = cond (is_layer layers i) (rested_on layers i) 0
 abbrev pub lacks_one : ℕ → ℕ → Bool
 lacks_one present closure = not (eqb (without closure present) 0)
 
--- WHAT IS KEPT, by index: the closures; of each how many layers are in it; and whether one is absent
-pub record Columns : Type 0 where
-  pub closures : List ℕ
-  pub sizes : List ℕ
-  pub absents : List Bool
-
+-- WHAT IS KEPT, by index, by its three columns: the closures; of each how many layers are in it; and whether one is absent
 abbrev pub columns : List ℕ → List ℕ → List Bool → Columns
 columns closures sizes absents = record { closures = closures; sizes = sizes; absents = absents }
 
@@ -136,6 +131,6 @@ no_columns = columns (replicate 64 0) (replicate 64 0) (replicate 64 false)
 abbrev pub answer_kept : ℕ → List ℕ → List Bool → ℕ → Closure
 answer_kept present closures absents target =
     cond (ltb target 64 && has present target)
-    (cond (get_or absents target false) (Refused (EmbeddedLayerAbsent (record { 0 = lowest (without (get_or closures target 0) present) })))
-    (Complete (get_or closures target 0)))
-    (Refused NoSuchLayer)
+    (cond (get_or absents target false) (Err (EmbeddedLayerAbsent (record { 0 = lowest (without (get_or closures target 0) present) })))
+    (Ok (get_or closures target 0)))
+    (Err NoSuchLayer)

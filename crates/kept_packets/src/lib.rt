@@ -31,10 +31,8 @@ pub fn settle(kept: &mut [u8], bytes: &[u8], ends: &mut [usize; 64])
     requires { (packet_bytes * layers ≤ length kept.old) × (length ends.old ≡ layers) × EndsWithin kept.old bytes.now ends.old }
     ensures { Kept kept.old bytes.now ends.old kept.new ends.new }
 {
-    let mut slot = 0;
-    while slot < 64 {
+    for slot in 0..64 {
         let end = settle_one(kept, bytes, slot, ends[slot]);
         ends[slot] = end;
-        slot += 1;
     }
 }

@@ -30,7 +30,7 @@ use Rattle.loop_faults.specs.Conditions.{refusal_of}
 use Rattle.es_loop.proofs.Meant.{named_refusal}
 use Rattle.loop_writer.specs.Layout.{too_wide}
 use Rattle.closure.specs.declared.Layers.{Layers}
-use Rattle.closure.specs.declared.Closure.{Closure}
+use Rattle.closure.specs.Answer.{Closure}
 use Rattle.closure.specs.Closures.{is_layer as in_layers, closure_of}
 use Rattle.closure.specs.Meaning as Target
 use Rattle.closure.proofs.Reached.{layer_below_64}

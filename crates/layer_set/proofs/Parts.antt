@@ -14,7 +14,8 @@ use Rattle.loop_entries.specs.declared.Entry.{Entry}
 use Rattle.loop_entries.specs.Entries.{blank_entry}
 use Rattle.loop_faults.specs.Conditions.{refusal_of}
 use Rattle.loop_writer.specs.Layout.{too_wide}
-use Rattle.kept_closures.specs.Kept.{Columns, layers_by, columns_added, columns_removed}
+use Rattle.kept_closures.specs.declared.Columns.{Columns}
+use Rattle.kept_closures.specs.Kept.{layers_by, columns_added, columns_removed}
 use Rattle.loop_layers.specs.Layers.{place_of, embedded_in}
 use Rattle.layer_set.specs.declared.«set».LayerSet.{LayerSet}
 use Rattle.layer_set.specs.Sets.{set_with, stored_in, fault_of, with_layer_of, judged_add, added_to, without_layer_at, removed_from, unchanged, changed}

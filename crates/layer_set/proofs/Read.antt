@@ -1,5 +1,6 @@
 -- A SET FROM ENTRIES: of those of an accepted loop, in either reading, and of none; and what a fresh reading gives is the set with those layers.
 -- Assumes nothing.
+use Rattle.std.specs.Prelude.{Ok}
 use Prim.Native.Nat.{ℕ, ◌<◌}
 use mathlib.Core.Bool.{Bool, true, false, not}
 use mathlib.Core.List.{List, [], map}
@@ -25,11 +26,10 @@ use Rattle.judging.specs.Judging.{type_not_allowed, wrong_flags, wrong_embedded}
 use Rattle.judging.proofs.Sets.{indices_within}
 use Rattle.loop_entries.specs.declared.Entry.{Entry}
 use Rattle.loop_entries.specs.declared.Stream.{Stream}
-use Rattle.es_loop.specs.declared.reader.Outcome.TheVariants.{Accepted}
 use Rattle.loop_entries.specs.Entries.{blank_entry, no_stream, streams_of, entry_of, pair_of}
 use Rattle.loop_faults.specs.Conditions.{stream_at, pid_at}
 use Rattle.es_loop.specs.Reading.{loop_read}
-use Rattle.es_loop.proofs.Judged.{Taken, taken}
+use Rattle.es_loop.proofs.Verdicts.{Taken, taken}
 use Rattle.closure.proofs.Reached.{layer_below_64}
 use Rattle.kept_closures.proofs.Worked.{fresh_kept}
 use Rattle.loop_layers.specs.Layers.{place_of, embedded_in}
@@ -138,7 +138,7 @@ empty_set =
 
 -- ---- the entries of an accepted loop
 
-module _ (reading : Reading) (bytes : List ℕ) (is_accepted : (loop_read reading bytes).outcome ≡ Accepted) where
+module _ (reading : Reading) (bytes : List ℕ) (is_accepted : (loop_read reading bytes).outcome ≡ Ok tt) where
   abbrev entries : List Entry
   entries = entries_read (loop_read reading bytes)
 

@@ -65,7 +65,7 @@ module _ (layers : Layers) (i closure : ℕ) (inside : i < 64) (rests : closure 
 
 module _ (s : LayerSet) (i : ℕ) (inside : i < 64) where
   abbrev closure : ℕ
-  closure = get_or s.closures i 0
+  closure = get_or s.stored.closures i 0
 
   -- what is kept means what it should,
   pub fresh_stored : FreshAt s.layers (stored_in s) i → Stored s i
@@ -92,7 +92,7 @@ module _ (s : LayerSet) (i : ℕ) (inside : i < 64) where
         closure = rests ∙ ap (λ (b : Bool). cond b (rested_on s.layers i) 0) (sym e);
         layers_in_it = count;
         one_absent =
-            same_test (get_or s.absents i false) (lacks_one s.layers.present closure)
+            same_test (get_or s.stored.absents i false) (lacks_one s.layers.present closure)
             (λ t. let m = absent.0 t in lacked s.layers i closure inside rests m.0 m.1)
             (λ t. absent.1 (lacking s.layers i closure inside rests t));
       }

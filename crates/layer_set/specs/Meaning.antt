@@ -41,18 +41,18 @@ pub data At (s : LayerSet) (i : ℕ) : Type 0 where
 -- index belongs to the set as named and counts, but what lies below it is unknown and adds nothing until that layer is added': so `RestsOn` has it.
 pub data Stored (s : LayerSet) (i : ℕ) : Type 0 where
   of_layer_lem : in_layers s.layers i ≡ true
-      → ((j : ℕ) → (has (get_or s.closures i 0) j ≡ true) ↔ RestsOn s.layers i j)
-      → get_or s.sizes i 0 ≡ size (get_or s.closures i 0)
-      → (get_or s.absents i false ≡ true) ↔ ((j : ℕ) × Missing s.layers i j)
+      → ((j : ℕ) → (has (get_or s.stored.closures i 0) j ≡ true) ↔ RestsOn s.layers i j)
+      → get_or s.stored.sizes i 0 ≡ size (get_or s.stored.closures i 0)
+      → (get_or s.stored.absents i false ≡ true) ↔ ((j : ℕ) × Missing s.layers i j)
       → Stored s i
-  of_none : in_layers s.layers i ≡ false → get_or s.closures i 0 ≡ 0 → get_or s.sizes i 0 ≡ 0 → get_or s.absents i false ≡ false → Stored s i
+  of_none : in_layers s.layers i ≡ false → get_or s.stored.closures i 0 ≡ 0 → get_or s.stored.sizes i 0 ≡ 0 → get_or s.stored.absents i false ≡ false → Stored s i
 
 pub record Places (s : LayerSet) : Type 0 where
   pub of_entries : length s.entries ≡ 64
   pub of_embedded : length s.layers.embedded ≡ 64
-  pub of_closures : length s.closures ≡ 64
-  pub of_sizes : length s.sizes ≡ 64
-  pub of_absents : length s.absents ≡ 64
+  pub of_closures : length s.stored.closures ≡ 64
+  pub of_sizes : length s.stored.sizes ≡ 64
+  pub of_absents : length s.stored.absents ≡ 64
 
 -- THE INVARIANT, which every call keeps.
 pub record IsSet (s : LayerSet) : Type 0 where

@@ -1,6 +1,6 @@
 -- LAYER SETS: the set of some entries, worked out afresh; a layer more, a layer less, and the answer to a target.
 -- Assumes nothing.
-use Rattle.std.specs.Prelude.{ℕ, Bool, not, cond, ◌&&◌, List, [], eqb, ltb, get_or, set}
+use Rattle.std.specs.Prelude.{ℕ, Bool, not, cond, ◌&&◌, List, [], eqb, ltb, get_or, set, Err, Ok}
 use Rattle.combinators.specs.Below.{some}
 use Rattle.combinators.specs.Lists.{first_true}
 use Rattle.sets.specs.Sets.{has, added}
@@ -10,7 +10,6 @@ use Rattle.vocabulary.specs.declared.refusal.Refusal.TheVariants.{TooWide, NoSuc
 use Rattle.records.specs.declared.Record.TheVariants.{NoRecord}
 use Rattle.records.specs.Records.{is_layer}
 use Rattle.loop_entries.specs.declared.Entry.{Entry}
-use Rattle.es_loop.specs.declared.reader.Outcome.TheVariants.{Accepted, Refused}
 use Rattle.es_loop.specs.declared.reader.LoopRead.{LoopRead}
 use Rattle.loop_entries.specs.Entries.{blank_entry}
 use Rattle.loop_faults.specs.Conditions.{conditions, refusal_of}
@@ -18,8 +17,9 @@ use Rattle.es_loop.specs.Reading.{loop_read}
 use Rattle.loop_writer.specs.Layout.{too_wide}
 use Rattle.loop_writer.specs.Verdict.{stream_for}
 use Rattle.closure.specs.declared.Layers.{Layers}
-use Rattle.closure.specs.declared.Closure.{Closure}
-use Rattle.kept_closures.specs.Kept.{Columns, columns, with_layer, without_layer, columns_added, columns_removed, fresh_columns, answer_kept}
+use Rattle.closure.specs.Answer.{Closure}
+use Rattle.kept_closures.specs.declared.Columns.{Columns}
+use Rattle.kept_closures.specs.Kept.{with_layer, without_layer, columns_added, columns_removed, fresh_columns, answer_kept}
 use Rattle.loop_layers.specs.Layers.{place_of, column_of, embedded_in, layers_of, put_at}
 use Rattle.loop_layers.specs.Closures.{entries_read}
 use Rattle.layer_set.specs.declared.«set».LayerSet.{LayerSet}
@@ -29,11 +29,11 @@ use Rattle.layer_set.specs.declared.changing.Changed.{Changed}
 
 -- the three stored values, by index
 abbrev pub stored_in : LayerSet → Columns
-stored_in s = columns s.closures s.sizes s.absents
+stored_in s = s.stored
 
 abbrev pub set_with : Layers → List Entry → Columns → LayerSet
 set_with layers entries stored =
-    record { layers = layers; entries = entries; closures = stored.closures; sizes = stored.sizes; absents = stored.absents }
+    record { layers = layers; entries = entries; stored = stored }
 
 -- ---- worked out afresh
 
@@ -75,10 +75,10 @@ loop_set reading bytes = set_read (loop_read reading bytes)
 -- ---- changes
 
 abbrev pub unchanged : LayerSet → Refusal → Changed
-unchanged s refusal = record { outcome = Refused refusal; «set» = s }
+unchanged s refusal = record { outcome = Err refusal; «set» = s }
 
 abbrev pub changed : LayerSet → Changed
-changed s = record { outcome = Accepted; «set» = s }
+changed s = record { outcome = Ok tt; «set» = s }
 
 -- what stands at a place of the entries
 abbrev pub no_entry : Entry
@@ -129,4 +129,4 @@ removed_from s i = cond (ltb i 64 && has s.layers.present i) (changed (without_l
 
 -- THE ANSWER TO A TARGET from what is stored
 abbrev pub closure_in : LayerSet → ℕ → Closure
-closure_in s target = answer_kept s.layers.present s.closures s.absents target
+closure_in s target = answer_kept s.layers.present s.stored.closures s.stored.absents target

@@ -4,14 +4,14 @@ ghost use Rattle.loop_faults.specs.Conditions.{slot_of};
 ghost use Rattle.layer_set.specs.Sets.{held_at, pid_held, fault_of, with_layer_of, added_to, without_layer_at, removed_from, closure_in};
 
 use super::set::{LayerSet, blank_entry};
-use closure::{Closure, Layers};
-use es_loop::{Entry, NO_FAULT, Outcome};
+use closure::Layers;
+use es_loop::{Entry, NO_FAULT};
 use vocabulary::Refusal;
 
 // What a change answers: whether it was made, and the set after it, which is the one before it where it was refused.
 #[derive(Clone, Copy)]
 pub struct Changed {
-    pub outcome: Outcome,
+    pub outcome: Result<(), Refusal>,
     pub set: LayerSet,
 }
 
@@ -29,12 +29,10 @@ fn held_at(present: u64, entry: Entry, index: usize, pid: u16) -> bool
 fn pid_held(present: u64, entries: [Entry; 64], pid: u16) -> bool
     ensures { result ≡ pid_held present entries pid }
 {
-    let mut index = 0;
-    while index < 64 {
-        if held_at(present, entries[index], index, pid) {
+    for (index, entry) in entries.iter().enumerate() {
+        if held_at(present, *entry, index, pid) {
             return true;
         }
-        index += 1;
     }
     false
 }
@@ -68,25 +66,13 @@ fn with_layer(set: LayerSet, entry: Entry) -> LayerSet
     let layers = set.layers;
     let mut embedded = layers.embedded;
     let mut entries = set.entries;
-    let mut closures = set.closures;
-    let mut sizes = set.sizes;
-    let mut absents = set.absents;
-    let present = kept_closures::add(
-        layers.present,
-        &mut embedded,
-        &mut closures,
-        &mut sizes,
-        &mut absents,
-        index,
-        names,
-    );
+    let mut stored = set.stored;
+    let present = stored.add(layers.present, &mut embedded, index, names);
     entries[index] = entry;
     LayerSet {
         layers: Layers { present, embedded },
         entries,
-        closures,
-        sizes,
-        absents,
+        stored,
     }
 }
 
@@ -96,7 +82,7 @@ pub fn add(set: LayerSet, entry: Entry) -> Changed
 {
     if loop_writer::too_wide(entry) {
         return Changed {
-            outcome: Outcome::Refused(Refusal::TooWide),
+            outcome: Err(Refusal::TooWide),
             set,
         };
     }
@@ -105,13 +91,13 @@ pub fn add(set: LayerSet, entry: Entry) -> Changed
     let fault = fault_of(layers.present, entries, entry);
     if fault < NO_FAULT {
         return Changed {
-            outcome: Outcome::Refused(es_loop::refusal_of(fault, 0)),
+            outcome: Err(es_loop::refusal_of(fault, 0)),
             set,
         };
     }
     let after = with_layer(set, entry);
     Changed {
-        outcome: Outcome::Accepted,
+        outcome: Ok(()),
         set: after,
     }
 }
@@ -124,24 +110,13 @@ fn without_layer(set: LayerSet, index: usize) -> LayerSet
     let layers = set.layers;
     let mut embedded = layers.embedded;
     let mut entries = set.entries;
-    let mut closures = set.closures;
-    let mut sizes = set.sizes;
-    let mut absents = set.absents;
-    let present = kept_closures::remove(
-        layers.present,
-        &mut embedded,
-        &mut closures,
-        &mut sizes,
-        &mut absents,
-        index,
-    );
+    let mut stored = set.stored;
+    let present = stored.remove(layers.present, &mut embedded, index);
     entries[index] = blank_entry();
     LayerSet {
         layers: Layers { present, embedded },
         entries,
-        closures,
-        sizes,
-        absents,
+        stored,
     }
 }
 
@@ -152,30 +127,29 @@ pub fn remove(set: LayerSet, index: u64) -> Changed
     let layers = set.layers;
     if 64 <= index {
         return Changed {
-            outcome: Outcome::Refused(Refusal::NoSuchLayer),
+            outcome: Err(Refusal::NoSuchLayer),
             set,
         };
     }
     let place = index as usize;
     if !sets::member(layers.present, place) {
         return Changed {
-            outcome: Outcome::Refused(Refusal::NoSuchLayer),
+            outcome: Err(Refusal::NoSuchLayer),
             set,
         };
     }
     let after = without_layer(set, place);
     Changed {
-        outcome: Outcome::Accepted,
+        outcome: Ok(()),
         set: after,
     }
 }
 
 // THE ANSWER TO A TARGET from what is stored, with nothing to be walked: its closure, or 11, or 12 with the lowest missing index.
-pub fn closure(set: LayerSet, target: u64) -> Closure
+pub fn closure(set: LayerSet, target: u64) -> Result<u64, Refusal>
     ensures { result ≡ closure_in set target }
 {
     let layers = set.layers;
-    let closures = set.closures;
-    let absents = set.absents;
-    kept_closures::answer_kept(layers.present, &closures, &absents, target)
+    let stored = set.stored;
+    kept_closures::answer_kept(layers.present, &stored.closures, &stored.absents, target)
 }

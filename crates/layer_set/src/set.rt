@@ -6,6 +6,7 @@ ghost use Rattle.layer_set.specs.Sets.{placed_of, placed_next, worked_set, set_o
 use closure::Layers;
 use descriptors::Record;
 use es_loop::Entry;
+use kept_closures::Columns;
 
 // A LAYER SET. By layer index: the layers as `closure` asks for them, each layer's entry, and the three stored values: its closure, how many indices are in it, and
 // whether one of them is absent. Where there is no layer of an index the entry is blank and the values are 0.
@@ -13,9 +14,7 @@ use es_loop::Entry;
 pub struct LayerSet {
     pub layers: Layers,
     pub entries: [Entry; 64],
-    pub closures: [u64; 64],
-    pub sizes: [u8; 64],
-    pub absents: [bool; 64],
+    pub stored: Columns,
 }
 
 // The same before what is stored was worked out.
@@ -80,24 +79,12 @@ pub fn work(placed: Placed) -> LayerSet
     ensures { result ≡ worked_set placed }
 {
     let layers = placed.layers;
-    let embedded = layers.embedded;
     let entries = placed.entries;
-    let mut closures = [0u64; 64];
-    let mut sizes = [0u8; 64];
-    let mut absents = [false; 64];
-    kept_closures::work_out(
-        layers.present,
-        &embedded,
-        &mut closures,
-        &mut sizes,
-        &mut absents,
-    );
+    let stored = Columns::work_out(layers.present, &layers.embedded);
     LayerSet {
         layers,
         entries,
-        closures,
-        sizes,
-        absents,
+        stored,
     }
 }
 

@@ -10,7 +10,7 @@ use Rattle.judging.specs.Judging.{type_not_allowed, wrong_flags, wrong_embedded}
 use Rattle.loop_entries.specs.declared.Entry.{Entry}
 use Rattle.loop_faults.specs.Conditions.{slot_of}
 use Rattle.combinators.specs.Each.{each_below}
-use Rattle.kept_closures.specs.Kept.{Columns}
+use Rattle.kept_closures.specs.declared.Columns.{Columns}
 use Rattle.entry_rows.specs.Rows.{row_at, some_too_wide, row_of, entry_in, entries_below}
 use Rattle.layer_set.specs.declared.«set».LayerSet.{LayerSet}
 use Rattle.layer_set.specs.declared.«set».Placed.{Placed}

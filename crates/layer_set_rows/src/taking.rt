@@ -10,13 +10,11 @@ fn placed_in(rows: &[u16]) -> Placed
     ensures { result ≡ placed_in rows.now }
 {
     let mut placed = layer_set::nothing_placed();
-    let mut i = 0;
-    while i < 64 {
+    for i in 0..64 {
         let start = i * 80;
         let end = start + 80;
         let entry = row_taking::entry_in(&rows[start..end]);
         placed = layer_set::place(placed, entry);
-        i += 1;
     }
     placed
 }

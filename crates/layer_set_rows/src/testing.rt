@@ -2,11 +2,11 @@
 // what would be worked out afresh.
 ghost use Rattle.std.specs.Prelude.{◌≡◌, false, ◌<◌, ◌≤◌, length};
 ghost use Rattle.entry_rows.specs.Rows.{row_too_wide, some_too_wide, row_of};
-ghost use Rattle.kept_closures.specs.Kept.{columns};
 ghost use Rattle.layer_set_rows.specs.Buffers.{wrong_at, right_at, same_numbers, row_right, layer_with, pid_again, row_fine, rows_right, rows_hold, stored_holds};
 
 use super::laying::stored_number;
 use es_loop::Entry;
+use kept_closures::Columns;
 
 // Whether a layer may not stand at an index: it is one of another index, or 6, 7 or 9 applies to it. The mark of two views is right on either.
 fn wrong_at(index: usize, entry: Entry) -> bool
@@ -43,12 +43,10 @@ fn same_numbers(row: &[u16], other: &[u16; 80]) -> bool
     requires { 80 ≤ length row.now }
     ensures { result ≡ same_numbers row.now other.now }
 {
-    let mut i = 0;
-    while i < 80 {
+    for i in 0..80 {
         if row[i] != other[i] {
             return false;
         }
-        i += 1;
     }
     true
 }
@@ -88,12 +86,10 @@ fn pid_again(rows: &[u16], index: usize) -> bool
     ensures { result ≡ pid_again rows.now index }
 {
     let pid = rows[index * 80 + 1];
-    let mut lower = 0;
-    while lower < index {
+    for lower in 0..index {
         if layer_with(rows[lower * 80 + 2], rows[lower * 80 + 1], pid) {
             return true;
         }
-        lower += 1;
     }
     false
 }
@@ -119,12 +115,10 @@ fn rows_right(rows: &[u16]) -> bool
     requires { (length rows.now ≡ 5120) × (some_too_wide rows.now ≡ false) }
     ensures { result ≡ rows_right rows.now }
 {
-    let mut index = 0;
-    while index < 64 {
+    for index in 0..64 {
         if !row_fine(rows, index) {
             return false;
         }
-        index += 1;
     }
     true
 }
@@ -143,23 +137,16 @@ pub fn rows_hold(rows: &[u16]) -> bool
 }
 
 // Whether every stored number is the one that was worked out.
-pub fn stored_holds(
-    closures: &[u64; 64],
-    sizes: &[u8; 64],
-    absents: &[bool; 64],
-    stored: &[u64],
-) -> bool
-    ensures { result ≡ stored_holds (columns closures.now sizes.now absents.now) stored.now }
+pub fn stored_holds(kept: &Columns, stored: &[u64]) -> bool
+    ensures { result ≡ stored_holds kept.now stored.now }
 {
     if stored.len() != 192 {
         return false;
     }
-    let mut place = 0;
-    while place < 192 {
-        if stored[place] != stored_number(closures, sizes, absents, place) {
+    for place in 0..192 {
+        if stored[place] != stored_number(kept, place) {
             return false;
         }
-        place += 1;
     }
     true
 }

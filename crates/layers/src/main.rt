@@ -11,46 +11,31 @@ use std::io;
 use std::io::Write;
 use vocabulary::Reading;
 
-// The reading that the arguments ask for.
-#[derive(Clone, Copy)]
-enum Asked {
-    Known(Reading),
-    Neither,
-}
-
-fn reading_of(word: &[u8]) -> Asked
+// The reading that a word asks for.
+fn reading_of(word: &[u8]) -> Option<Reading>
     ensures { Asks result word.now }
 {
-    if check::same(word, b"2009") {
-        return Asked::Known(Reading::Edition2009);
+    match word {
+        b"2009" => Some(Reading::Edition2009),
+        b"2015" => Some(Reading::Edition2015),
+        _ => None,
     }
-    if check::same(word, b"2015") {
-        return Asked::Known(Reading::Edition2015);
-    }
-    Asked::Neither
 }
 
 // Whether there is a second word, however long.
 fn has_second(rt: &HostRuntime) -> bool {
     let mut word = [0u8; 4];
-    match rt.arg(2, &mut word) {
-        Err(FillError::NotPresent) => false,
-        _ => true,
-    }
+    !matches!(rt.arg(2, &mut word), Err(FillError::NotPresent))
 }
 
-// A word that is longer than a year, and a second word, are no reading.
-fn reading_asked(rt: &HostRuntime) -> Asked {
+// The reading that the arguments ask for. A word that is longer than a year, and a second word, are no reading.
+fn reading_asked(rt: &HostRuntime) -> Option<Reading> {
     let mut word = [0u8; 4];
     match rt.arg(1, &mut word) {
-        Err(FillError::NotPresent) => Asked::Known(Reading::Edition2015),
-        Err(FillError::TooLong) => Asked::Neither,
-        Ok(length) => {
-            if has_second(rt) {
-                return Asked::Neither;
-            }
-            reading_of(&word[..length])
-        }
+        Err(FillError::NotPresent) => Some(Reading::Edition2015),
+        Err(FillError::TooLong) => None,
+        Ok(_) if has_second(rt) => None,
+        Ok(length) => reading_of(&word[..length]),
     }
 }
 
@@ -79,8 +64,7 @@ fn answer(rt: &HostRuntime, reading: Reading, bytes: &[u8]) {
 fn list(rt: &HostRuntime, reading: Reading) {
     // A loop has at most 1,008 bytes, so one byte more is enough to know that it is too long.
     let mut input = [0u8; 1009];
-    let read = console::read_input(&mut rt.reader(), &mut input);
-    match read {
+    match console::read_input(&mut rt.reader(), &mut input) {
         Ok(count) => answer(rt, reading, &input[..count]),
         Err(error) => {
             let _ = eprintln!(rt; "layers: standard input cannot be read: {error}");
@@ -89,10 +73,9 @@ fn list(rt: &HostRuntime, reading: Reading) {
 }
 
 fn main(rt: HostRuntime) {
-    let asked = reading_asked(&rt);
-    match asked {
-        Asked::Known(reading) => list(&rt, reading),
-        Asked::Neither => {
+    match reading_asked(&rt) {
+        Some(reading) => list(&rt, reading),
+        None => {
             let _ = eprintln!(rt; "layers: the only argument is the reading, 2009 or 2015");
         }
     }

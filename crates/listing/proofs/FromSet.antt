@@ -1,5 +1,6 @@
 -- THE TEXT FROM THE LAYER SET of a loop is the text from its table: each layer has in both the same PID, stream type and channel, and what is stored of it is its closure.
 -- Assumes nothing.
+use Rattle.std.specs.Prelude.{Err, Ok}
 use Prim.Native.Nat.{ℕ, zero, suc, ◌<◌}
 use mathlib.Core.Bool.{Bool, true, false, cond}
 use mathlib.Core.List.{List, [], ◌++◌}
@@ -12,10 +13,9 @@ use Rattle.vocabulary.specs.declared.refusal.Refusal.{Refusal}
 use Rattle.vocabulary.specs.declared.stream_types.Reading.{Reading}
 use Rattle.records.specs.Records.{channel_of}
 use Rattle.loop_entries.specs.declared.Entry.{Entry}
-use Rattle.es_loop.specs.declared.reader.Outcome.{Outcome}
-use Rattle.es_loop.specs.declared.reader.Outcome.TheVariants.{Accepted, Refused}
+use Rattle.es_loop.specs.Answer.{Outcome}
 use Rattle.es_loop.specs.Reading.{loop_read}
-use Rattle.closure.specs.declared.Closure.{Closure}
+use Rattle.closure.specs.Answer.{Closure}
 use Rattle.closure.specs.Closures.{closure_of}
 use Rattle.loop_layers.specs.declared.table.LayerTable.{LayerTable}
 use Rattle.loop_layers.specs.Layers.{table_of}
@@ -52,7 +52,7 @@ no_set_line s i gone = sym (rw gone)
 
 -- ---- the set of an accepted loop
 
-module _ (reading : Reading) (bytes : List ℕ) (is_accepted : (loop_read reading bytes).outcome ≡ Accepted) where
+module _ (reading : Reading) (bytes : List ℕ) (is_accepted : (loop_read reading bytes).outcome ≡ Ok tt) where
   abbrev es : List Entry
   es = entries_read (loop_read reading bytes)
 
@@ -94,14 +94,14 @@ module _ (reading : Reading) (bytes : List ℕ) (read : SetRead) (is_read : read
   unfolding loop_set
   outcome_read = ap (λ (r : SetRead). r.outcome) is_read
 
-  pub accepted_text_lem : read.outcome ≡ Accepted → set_text read.«set» ≡ loop_text reading bytes
+  pub accepted_text_lem : read.outcome ≡ Ok tt → set_text read.«set» ≡ loop_text reading bytes
   unfolding loop_text
   accepted_text_lem ok =
-      let is_accepted : (loop_read reading bytes).outcome ≡ Accepted = sym outcome_read ∙ ok in
+      let is_accepted : (loop_read reading bytes).outcome ≡ (Ok tt) = sym outcome_read ∙ ok in
       ap (λ (r : SetRead). set_text r.«set») is_read
       ∙ text_same reading bytes is_accepted
       ∙ ap (λ (o : Outcome). read_text o (table_of (entries_read (loop_read reading bytes)))) (sym is_accepted)
 
-  pub refused_text_lem : (refusal : Refusal) → read.outcome ≡ Refused refusal → refused_text refusal ≡ loop_text reading bytes
+  pub refused_text_lem : (refusal : Refusal) → read.outcome ≡ Err refusal → refused_text refusal ≡ loop_text reading bytes
   unfolding loop_text
   refused_text_lem refusal is_refused = ap (λ (o : Outcome). read_text o (table_of (entries_read (loop_read reading bytes)))) (sym is_refused ∙ outcome_read)

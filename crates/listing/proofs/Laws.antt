@@ -1,13 +1,13 @@
 -- The cases of the lines, each given what its test says; and the room that the text needs.
 -- Assumes nothing.
+use Rattle.std.specs.Prelude.{Err, Ok}
 use Prim.Native.Nat.{ℕ, ◌≤◌}
 use mathlib.Core.Bool.{Bool, true, false, cond}
 use mathlib.Core.List.{List, []}
 use mathlib.Core.Path.{◌≡◌, sym, ap, ◌∙◌}
 use native.Mathlib.Omega.{arith}
 use lib.ListN.{get_or, length, take, length-append}
-use Rattle.closure.specs.declared.Closure.{Closure}
-use Rattle.closure.specs.declared.Closure.TheVariants.{Complete, Refused}
+use Rattle.closure.specs.Answer.{Closure}
 use Rattle.closure.specs.Closures.{closure_of}
 use Rattle.sets.specs.Sets.{has, size}
 use Rattle.text.specs.Text.{Laid, ascii, texts}
@@ -16,8 +16,7 @@ use Rattle.vocabulary.specs.declared.HierarchyChannel.{HierarchyChannel}
 use Rattle.vocabulary.specs.declared.LayerIndex.{LayerIndex}
 use Rattle.vocabulary.specs.declared.refusal.Refusal.{Refusal}
 use Rattle.vocabulary.specs.Refusals.{number_of, place_of}
-use Rattle.es_loop.specs.declared.reader.Outcome.{Outcome}
-use Rattle.es_loop.specs.declared.reader.Outcome.TheVariants.{Accepted, Refused as RefusedWith}
+use Rattle.es_loop.specs.Answer.{Outcome}
 use Rattle.loop_layers.specs.declared.table.LayerTable.{LayerTable}
 use Rattle.loop_layers.specs.Closures.{loop_table}
 use Rattle.vocabulary.specs.declared.stream_types.Reading.{Reading}
@@ -57,8 +56,8 @@ member_length set i = go (has set i)
 
 closure_length : (closure : Closure) → length (closure_text closure) ≤ 1344
 unfolding members
-closure_length (Complete set) = texts_length (member set) 21 (member_length set) 64
-closure_length (Refused refusal) = omega arith
+closure_length (Ok set) = texts_length (member set) 21 (member_length set) 64
+closure_length (Err refusal) = omega arith
 
 layer_line_length : (index : LayerIndex) (pid type : ℕ) (channel : HierarchyChannel) (closure : Closure)
     → length (layer_line index pid type channel closure) ≤ 1459
@@ -92,8 +91,8 @@ unfolding loop_text
 loop_length reading bytes = let read = loop_table reading bytes in go read.outcome read.table
   where
     go : (outcome : Outcome) (table : LayerTable) → length (read_text outcome table) ≤ 93406
-    go Accepted table = accepted_length table
-    go (RefusedWith refusal) table = refused_length refusal
+    go (Ok tt) table = accepted_length table
+    go (Err refusal) table = refused_length refusal
 
 -- THE PROGRAM'S BUFFER: of 93,406 bytes, what was laid in from the front is the whole text, whatever the loop.
 pub whole_text : (reading : Reading) (bytes old : List ℕ) (next : ℕ) (new : List ℕ)

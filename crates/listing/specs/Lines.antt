@@ -1,8 +1,7 @@
 -- The lines that the program `layers` prints, as document 01 shows them.
 -- Assumes nothing.
-use Rattle.std.specs.Prelude.{ℕ, cond, List, [], ◌++◌, get_or}
-use Rattle.closure.specs.declared.Closure.{Closure}
-use Rattle.closure.specs.declared.Closure.TheVariants.{Complete, Refused}
+use Rattle.std.specs.Prelude.{ℕ, cond, List, [], ◌++◌, get_or, Err, Ok}
+use Rattle.closure.specs.Answer.{Closure}
 use Rattle.closure.specs.Closures.{closure_of}
 use Rattle.sets.specs.Sets.{has, size}
 use Rattle.vocabulary.specs.declared.HierarchyChannel.{HierarchyChannel}
@@ -10,8 +9,7 @@ use Rattle.vocabulary.specs.declared.LayerIndex.{LayerIndex}
 use Rattle.vocabulary.specs.declared.refusal.Refusal.{Refusal}
 use Rattle.vocabulary.specs.Refusals.{number_of, place_of}
 use Rattle.vocabulary.specs.declared.stream_types.Reading.{Reading}
-use Rattle.es_loop.specs.declared.reader.Outcome.{Outcome}
-use Rattle.es_loop.specs.declared.reader.Outcome.TheVariants.{Accepted, Refused as RefusedWith}
+use Rattle.es_loop.specs.Answer.{Outcome}
 use Rattle.loop_layers.specs.declared.table.LayerTable.{LayerTable}
 use Rattle.loop_layers.specs.declared.table.TableRead.{TableRead}
 use Rattle.loop_layers.specs.Closures.{loop_table}
@@ -33,8 +31,8 @@ members set = texts (member set) 64
 
 -- 'A closure with an absent layer prints `closure absent`.'
 abbrev pub closure_text : Closure → List ℕ
-closure_text (Complete set) = members set
-closure_text (Refused refusal) = ascii " absent"
+closure_text (Ok set) = members set
+closure_text (Err refusal) = ascii " absent"
 
 -- 'index, PID, stream type, channel (decimal), closure indices'
 unfoldable pub layer_line : LayerIndex → ℕ → ℕ → HierarchyChannel → Closure → List ℕ
@@ -91,8 +89,8 @@ refused_text refusal = labelled (ascii "refused ") (number_of refusal) ++ labell
 
 -- THE WHOLE TEXT for a loop under a reading; the program `layers` asks for 'the 2015 reading' where its caller names no other
 abbrev pub read_text : Outcome → LayerTable → List ℕ
-read_text Accepted table = accepted_text table
-read_text (RefusedWith refusal) table = refused_text refusal
+read_text (Ok tt) table = accepted_text table
+read_text (Err refusal) table = refused_text refusal
 
 abbrev pub answer_text : TableRead → List ℕ
 answer_text read = read_text read.outcome read.table

@@ -5,8 +5,6 @@ ghost use Rattle.std.specs.Prelude.{◌≡◌, ◌<◌};
 ghost use Rattle.text.specs.Text.{Laid};
 ghost use Rattle.listing.specs.Lines.{labelled, member as member_text, members, closure_text, layer_line, set_line, set_lines, set_text, refused_text, loop_text};
 
-use closure::Closure;
-use es_loop::Outcome;
 use layer_set::LayerSet;
 use vocabulary::{HierarchyChannel, LayerIndex, Reading, Refusal};
 
@@ -33,21 +31,19 @@ fn put_members(out: &mut [u8], at: usize, set: u64) -> usize
     ensures { Laid out.old at (members set) result out.new }
 {
     let mut place = text::put(out, at, b"");
-    let mut index = 0;
-    while index < 64 {
+    for index in 0..64 {
         place = put_member(out, place, set, index);
-        index += 1;
     }
     place
 }
 
 // A closure as the program shows it.
-fn put_closure(out: &mut [u8], at: usize, closure: Closure) -> usize
+fn put_closure(out: &mut [u8], at: usize, closure: Result<u64, Refusal>) -> usize
     ensures { Laid out.old at (closure_text closure) result out.new }
 {
     match closure {
-        Closure::Complete(set) => put_members(out, at, set),
-        Closure::Refused(_) => text::put(out, at, b" absent"),
+        Ok(set) => put_members(out, at, set),
+        Err(_) => text::put(out, at, b" absent"),
     }
 }
 
@@ -59,14 +55,14 @@ fn put_layer(
     pid: u16,
     stream_type: u8,
     channel: HierarchyChannel,
-    closure: Closure,
+    closure: Result<u64, Refusal>,
 ) -> usize
     ensures { Laid out.old at (layer_line index pid stream_type channel closure) result out.new }
 {
-    let mut place = put_labelled(out, at, b"layer ", index.0 as u64);
-    place = put_labelled(out, place, b" pid ", pid as u64);
-    place = put_labelled(out, place, b" type ", stream_type as u64);
-    place = put_labelled(out, place, b" channel ", channel.0 as u64);
+    let mut place = put_labelled(out, at, b"layer ", u64::from(index.0));
+    place = put_labelled(out, place, b" pid ", u64::from(pid));
+    place = put_labelled(out, place, b" type ", u64::from(stream_type));
+    place = put_labelled(out, place, b" channel ", u64::from(channel.0));
     place = text::put(out, place, b" closure");
     place = put_closure(out, place, closure);
     text::put(out, place, b"\n")
@@ -102,10 +98,8 @@ fn put_layers(out: &mut [u8], at: usize, kept: LayerSet) -> usize
     ensures { Laid out.old at (set_lines kept) result out.new }
 {
     let mut place = text::put(out, at, b"");
-    let mut index = 0;
-    while index < 64 {
+    for index in 0..64 {
         place = put_layer_at(out, place, kept, index);
-        index += 1;
     }
     place
 }
@@ -124,7 +118,7 @@ pub fn put_accepted(out: &mut [u8], at: usize, kept: LayerSet) -> usize
 pub fn put_refused(out: &mut [u8], at: usize, refusal: Refusal) -> usize
     ensures { Laid out.old at (refused_text refusal) result out.new }
 {
-    let mut place = put_labelled(out, at, b"refused ", vocabulary::number(refusal) as u64);
+    let mut place = put_labelled(out, at, b"refused ", u64::from(vocabulary::number(refusal)));
     place = put_labelled(out, place, b" entry ", vocabulary::place(refusal) as u64);
     text::put(out, place, b"\n")
 }
@@ -137,7 +131,7 @@ pub fn put_loop(out: &mut [u8], at: usize, reading: Reading, bytes: &[u8]) -> us
     let outcome = read.outcome;
     let kept = read.set;
     match outcome {
-        Outcome::Accepted => put_accepted(out, at, kept),
-        Outcome::Refused(refusal) => put_refused(out, at, refusal),
+        Ok(()) => put_accepted(out, at, kept),
+        Err(refusal) => put_refused(out, at, refusal),
     }
 }

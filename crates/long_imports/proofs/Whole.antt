@@ -1,5 +1,6 @@
 -- A recording in one piece: the rows that were laid into the columns are there to be joined, and they are those of the recording.
 -- Assumes nothing.
+use Rattle.std.specs.Prelude.{Err, Ok}
 use Prim.Native.Nat.{ℕ, ◌≤◌, min}
 use mathlib.Core.Path.{◌≡◌, refl, sym, ap, ◌∙◌}
 use mathlib.Core.Bool.{Bool, false, not, cond, ◌||◌}
@@ -11,29 +12,25 @@ use lib.ListN.{length, take, replicate, length-map, length-replicate}
 use lib.Seq.{take_at}
 use Rattle.buffers.specs.Buffers.{over}
 use Rattle.buffers.proofs.Laws.{over_length}
-use Rattle.closure.specs.declared.Closure.{Closure}
-use Rattle.closure.specs.declared.Closure.TheVariants.{Complete, Refused as NoClosure}
+use Rattle.closure.specs.Answer.{Closure}
 use Rattle.closure.specs.declared.Layers.{Layers}
 use Rattle.closure.specs.Closures.{closure_of}
-use Rattle.es_loop.specs.declared.reader.Outcome.{Outcome}
-use Rattle.es_loop.specs.declared.reader.Outcome.TheVariants.{Accepted, Refused as LoopRefused}
+use Rattle.es_loop.specs.Answer.{Outcome}
 use Rattle.rows.specs.Table.{Table, table, most_rows, rows_in as rowsOfTable, first_out_of_range, first_broken}
-use Rattle.rows.specs.declared.Verdict.TheVariants.{InOrder, OutOfRange as Outside, OrderBroken}
-use Rattle.vocabulary.specs.declared.refusal.Refusal.TheVariants.{OutOfRange}
+use Rattle.vocabulary.specs.declared.refusal.Refusal.TheVariants.{OutOfRange, TimeOrderBroken}
 use Rattle.unit_lists.specs.Sequence.{Lists}
-use Rattle.join_answers.specs.declared.answer.Joined.{Joined}
+use Rattle.join_answers.specs.Answer.{Joined}
 use Rattle.join_answers.specs.Joining.{Room, frame_of, units_joined, joined_by, joined_in, joined_of, most_long}
 use Rattle.join_answers.specs.Steps.{spaces}
 use Rattle.scanning.specs.declared.events.Row.{Row}
 use Rattle.unit_starts.specs.Finding.{found_in, rows_in}
 use Rattle.recording_rows.specs.Columns.{Columns, columns, index_in, decoding_in, match_in, room_in, over_all}
-use Rattle.recordings.specs.declared.Recording.{Recording}
-use Rattle.recordings.specs.declared.Recording.TheVariants.{Rows as RowsThere, Faulty, NotRead as HeaderNotRead, TooManyRows}
+use Rattle.recordings.specs.Answer.{Recording}
+use Rattle.recordings.specs.declared.RecordingFault.TheVariants.{Faulty, NotRead as HeaderNotRead, TooManyRows}
 use Rattle.recordings.specs.Reading.{answer_of, recording_of}
 use Rattle.recordings.proofs.Preparing.{prepared}
-use Rattle.recording_imports.specs.declared.RowsRead.{RowsRead}
-use Rattle.recording_imports.specs.declared.RowsRead.TheVariants.{Rows, Refused, NotRead}
-use Rattle.recording_imports.specs.declared.Imported.{Imported}
+use Rattle.recording_imports.specs.Answer.{RowsRead, Imported}
+use Rattle.recording_imports.specs.declared.Unread.TheVariants.{Refused, NotRead}
 use Rattle.recording_imports.specs.declared.LoopAsked.{LoopAsked}
 use Rattle.recording_imports.specs.Rows.{pid_table_of, pid_table, rows_told, rows_for, rows_of, columns_with}
 use Rattle.recording_imports.specs.Imports.{layers_of_loop, asked_of, imported_of, imported_by, table_of, import_rows, import_of, places_for, import_columns, lists_with, import_lists, columns_hold, first_rows, rows_held, join_held, lists_held, rows_asked, import_told, lists_told}
@@ -42,14 +39,14 @@ use Rattle.recording_imports.specs.Imports.{layers_of_loop, asked_of, imported_o
 
 module _ (layers : Layers) (t : Table) (room : Room) (m n : ℕ) (less : rowsOfTable t ≤ m) (fewer : rowsOfTable t ≤ n) where
   alike_in : (c : Closure) → joined_in m layers t room c ≡ joined_in n layers t room c
-  alike_in (Complete closure) =
+  alike_in (Ok closure) =
       ap
       (λ (b : Bool). joined_by (units_joined t (frame_of layers closure t) room)
-      (cond (not (eqb (length t.decodings) (rowsOfTable t)) || (not (eqb (length t.matches) (rowsOfTable t)) || b)) (Outside 0)
-      (cond (ltb (first_out_of_range t) (rowsOfTable t)) (Outside (first_out_of_range t))
-      (cond (ltb (first_broken t closure) (rowsOfTable t)) (OrderBroken (first_broken t closure)) InOrder))))
+      (cond (not (eqb (length t.decodings) (rowsOfTable t)) || (not (eqb (length t.matches) (rowsOfTable t)) || b)) (Err (OutOfRange 0))
+      (cond (ltb (first_out_of_range t) (rowsOfTable t)) (Err (OutOfRange (first_out_of_range t)))
+      (cond (ltb (first_broken t closure) (rowsOfTable t)) (Err (TimeOrderBroken (first_broken t closure))) (Ok tt)))))
       (le-ltb m (rowsOfTable t) less ∙ sym (le-ltb n (rowsOfTable t) fewer))
-  alike_in (NoClosure refusal) = refl
+  alike_in (Err refusal) = refl
 
   pub most_alike : (target : ℕ) → joined_of m layers target t room ≡ joined_of n layers target t room
   most_alike target = alike_in (closure_of layers target)
@@ -66,27 +63,27 @@ module _ (pids packets : List ℕ) (most : ℕ) (before : Columns) where
 
   -- rows that are answered are all of the recording's, and there is room for them
   abbrev pub Sound : RowsRead → Type 0
-  Sound (Rows count) = (count ≡ length there) × ((count ≤ most) × (count ≤ room_in before))
-  Sound (Refused refusal) = Unit {0}
-  Sound (NotRead refusal packet) = Unit {0}
+  Sound (Ok count) = (count ≡ length there) × ((count ≤ most) × (count ≤ room_in before))
+  Sound (Err (Refused refusal)) = Unit {0}
+  Sound (Err (NotRead refusal packet)) = Unit {0}
 
   told_sound : (recording : Recording) → recording ≡ answer_of (found_in pids packets) (places_for most before) → Sound (rows_told recording)
-  told_sound (RowsThere count) e =
+  told_sound (Ok count) e =
       let room = places_for most before in
       let zeros : List ℕ = replicate room 0 in
       let long : room ≤ length zeros = simp length-replicate (omega arith) in
-      let p = prepared pids packets {room = room} {count = count} zeros {answer = RowsThere count} long refl e refl in
+      let p = prepared pids packets {room = room} {count = count} zeros {answer = Ok count} long refl e refl in
       let short : count ≤ min most (room_in before) = p.short in
       (sym p.many, (omega arith, omega arith))
-  told_sound (Faulty fault) e = tt
-  told_sound (HeaderNotRead refusal packet) e = tt
-  told_sound TooManyRows e = tt
+  told_sound (Err (Faulty fault)) e = tt
+  told_sound (Err (HeaderNotRead refusal packet)) e = tt
+  told_sound (Err TooManyRows) e = tt
 
   pub rows_sound : (outcome : Outcome) → Sound (rows_for outcome (recording_of pids packets most before))
-  rows_sound Accepted = told_sound (recording_of pids packets most before) refl
-  rows_sound (LoopRefused refusal) = tt
+  rows_sound (Ok tt) = told_sound (recording_of pids packets most before) refl
+  rows_sound (Err refusal) = tt
 
-  module _ (count : ℕ) (sound : Sound (Rows count)) where
+  module _ (count : ℕ) (sound : Sound (Ok count)) where
     abbrev laid : Table
     laid = table_in (over_all there before)
 
@@ -101,13 +98,13 @@ module _ (pids packets : List ℕ) (most : ℕ) (before : Columns) where
         let fits : length (map f there) ≤ length column = rw (length-map there f) (omega (arith, sound.0)) in
         rw (over_length (map f there) column fits) h
 
-    all_there : rows_held most laid (Rows count) ≡ Rows count
+    all_there : rows_held most laid (Ok count) ≡ Ok count
     all_there =
         let one = column_long index_in before.indices (omega (arith, sound.1.1)) in
         let two = column_long decoding_in before.decodings (omega (arith, sound.1.1)) in
         let three = column_long match_in before.matches (omega (arith, sound.1.1)) in
         let short : count ≤ min most (columns_hold laid) = omega (arith, one, two, three, sound.1.0) in
-        ap (λ (b : Bool). cond b (Refused (OutOfRange 0)) (Rows count)) (le-ltb (min most (columns_hold laid)) count short)
+        ap (λ (b : Bool). cond b (Err (Refused (OutOfRange 0))) (Ok count)) (le-ltb (min most (columns_hold laid)) count short)
 
   module _ (layers : Layers) (target : ℕ) (room : Room) where
     abbrev joined_here : Joined
@@ -115,22 +112,22 @@ module _ (pids packets : List ℕ) (most : ℕ) (before : Columns) where
 
     same_import : (rows : RowsRead) → Sound rows
         → join_held most layers target (table_in (columns_with there rows before)) room (rows_held most (table_in (columns_with there rows before)) rows) ≡ imported_by rows joined_here
-    same_import (Rows count) sound =
+    same_import (Ok count) sound =
         let long : length (map index_in there) ≡ count = length-map there index_in ∙ sym sound.0 in
         ap (join_held most layers target (laid count sound) room) (all_there count sound)
         ∙ ap (λ (t : Table). imported_of (joined_of most layers target t room)) (table_shown count sound)
         ∙ ap imported_of (most_alike layers (table_of there) room most (places_for most before) (omega (arith, sound.1.0)) (omega (arith, sound.1.0, sound.1.1)) target)
-    same_import (Refused refusal) sound = refl
-    same_import (NotRead refusal packet) sound = refl
+    same_import (Err (Refused refusal)) sound = refl
+    same_import (Err (NotRead refusal packet)) sound = refl
 
     same_lists : (rows : RowsRead) → Sound rows → (joined : Joined) (old : Lists)
         → lists_held layers (table_in (columns_with there rows before)) (rows_held most (table_in (columns_with there rows before)) rows) (imported_by rows joined) old
         ≡ lists_with layers (table_of there) (imported_by rows joined) old
-    same_lists (Rows count) sound joined old =
+    same_lists (Ok count) sound joined old =
         ap (λ (h : RowsRead). lists_held layers (laid count sound) h (imported_of joined) old) (all_there count sound)
         ∙ ap (λ (t : Table). lists_with layers t (imported_of joined) old) (table_shown count sound)
-    same_lists (Refused refusal) sound joined old = refl
-    same_lists (NotRead refusal packet) sound joined old = refl
+    same_lists (Err (Refused refusal)) sound joined old = refl
+    same_lists (Err (NotRead refusal packet)) sound joined old = refl
 
 -- ---- the whole call, step after step
 

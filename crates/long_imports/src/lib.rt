@@ -11,33 +11,27 @@ ghost use Rattle.recording_rows.specs.Columns.{columns};
 ghost use Rattle.recording_imports.specs.Imports.{held_rows, rows_held, join_held, lists_held, import_told, lists_told, places_for, import_of, import_columns, import_lists};
 
 use closure::Layers;
-use combinators::lesser;
-use join_answers::most_long;
-use recording_imports::{
-    Imported, RowsRead, ask, held_rows, imported_of, pid_table, read_for, rows_for,
-};
-use recordings::Recording;
+use join_answers::{Units, most_long};
+use recording_imports::{Unread, ask, held_rows, imported_of, pid_table, read_for, rows_for};
+use recordings::RecordingFault;
 use rows::MOST_ROWS;
 
 // 13 where there are more rows than the work space or a column holds.
 fn held_in(
-    rows: RowsRead,
+    rows: Result<usize, Unread>,
     most: usize,
     indices: usize,
     decodings: usize,
     matches: usize,
-) -> RowsRead
+) -> Result<usize, Unread>
     ensures { result ≡ held_rows (min most (min indices (min decodings matches))) rows }
 {
-    held_rows(
-        lesser(most, lesser(indices, lesser(decodings, matches))),
-        rows,
-    )
+    held_rows(most.min(indices.min(decodings.min(matches))), rows)
 }
 
 // THE LAST STEP: the first rows of the columns, as many as were read, joined; or why there are none. What the work space holds afterwards says nothing.
 pub fn join_held(
-    rows: RowsRead,
+    rows: Result<usize, Unread>,
     layers: Layers,
     target: u64,
     indices: &[u8],
@@ -53,7 +47,7 @@ pub fn join_held(
     numbers: &mut [u64],
     lags: &mut [i64],
     sizes: &mut [u64],
-) -> Imported
+) -> Result<Units, Unread>
     ensures answer { result
         ≡ join_held (most_long (spaces (length order.old) (length keys.old) (length kept.old) (length places.old)
         (length heads.old) (length claimed.old) (length used.old))) layers target
@@ -79,27 +73,24 @@ pub fn join_held(
         used.len(),
     );
     let held = held_in(rows, most, indices.len(), decodings.len(), matches.len());
-    match held {
-        RowsRead::Rows(count) => imported_of(joining::join_long(
-            layers,
-            target,
-            &indices[..count],
-            &decodings[..count],
-            &matches[..count],
-            order,
-            keys,
-            kept,
-            places,
-            heads,
-            claimed,
-            used,
-            numbers,
-            lags,
-            sizes,
-        )),
-        RowsRead::Refused(refusal) => Imported::Refused(refusal),
-        RowsRead::NotRead(refusal, packet) => Imported::NotRead(refusal, packet),
-    }
+    let count = held?;
+    imported_of(joining::join_long(
+        layers,
+        target,
+        &indices[..count],
+        &decodings[..count],
+        &matches[..count],
+        order,
+        keys,
+        kept,
+        places,
+        heads,
+        claimed,
+        used,
+        numbers,
+        lags,
+        sizes,
+    ))
 }
 
 // THE SAME FOR A RECORDING THAT WAS READ ALREADY, of which its answer is known and its rows lie in the columns: the loop is read and its target asked, and then the rows are
@@ -107,7 +98,7 @@ pub fn join_held(
 pub fn import_told(
     bytes: &[u8],
     target: u64,
-    recording: Recording,
+    recording: Result<usize, RecordingFault>,
     indices: &[u8],
     decodings: &[u64],
     matches: &[u64],
@@ -121,7 +112,7 @@ pub fn import_told(
     numbers: &mut [u64],
     lags: &mut [i64],
     sizes: &mut [u64],
-) -> Imported
+) -> Result<Units, Unread>
     ensures answer { result
         ≡ import_told (most_long (spaces (length order.old) (length keys.old) (length kept.old) (length places.old)
         (length heads.old) (length claimed.old) (length used.old))) bytes.now target recording
@@ -166,7 +157,7 @@ pub fn import_long(
     numbers: &mut [u64],
     lags: &mut [i64],
     sizes: &mut [u64],
-) -> Imported
+) -> Result<Units, Unread>
     ensures answer { result
         ≡ import_of (places_for (most_long (spaces (length order.old) (length keys.old) (length kept.old) (length places.old)
         (length heads.old) (length claimed.old) (length used.old)))
@@ -220,7 +211,7 @@ pub fn import(
     numbers: &mut [u64],
     lags: &mut [i64],
     sizes: &mut [u64],
-) -> Imported
+) -> Result<Units, Unread>
     ensures answer { result
         ≡ import_of most_rows bytes.now target packets.now
         (room_of (lists numbers.old lags.old sizes.old)) }

@@ -45,12 +45,6 @@ pub fn blank_entries() -> [Entry; MOST_ENTRIES]
     [blank; MOST_ENTRIES]
 }
 
-pub fn wide(byte: u8) -> usize
-    ensures { result ≡ byte }
-{
-    byte as usize
-}
-
 // How many bytes the entry at the front takes: its head, and as many as ES_info_length says. All 12 bits of that count.
 pub fn entry_size(left: &[u8]) -> usize
     ensures { result ≡ size_of left.now }
@@ -58,7 +52,7 @@ pub fn entry_size(left: &[u8]) -> usize
     if left.len() < 5 {
         return 5;
     }
-    5 + (wide(left[3]) % 16 * 256 + wide(left[4]))
+    5 + (usize::from(left[3]) % 16 * 256 + usize::from(left[4]))
 }
 
 // The descriptors of a stream are looked into only where the reading knows its type.
@@ -74,7 +68,7 @@ fn look_into(reading: Reading, stream_type: u8, info: &[u8]) -> Seen
 pub fn elementary_pid(high: u8, low: u8) -> u16
     ensures { result ≡ high % 32 * 256 + low }
 {
-    (high as u16) % 32 * 256 + (low as u16)
+    u16::from(high) % 32 * 256 + u16::from(low)
 }
 
 // A whole entry, with its mark where the loop has the two views without a hierarchy descriptor and it is one of them.

@@ -10,7 +10,7 @@ ghost use Rattle.loop_faults.specs.Conditions.{lower_of, refusal_of, slot_of, fa
 ghost use Rattle.loop_faults.specs.Outlined.{record_tests, tests, fault_on, fault_without};
 
 use descriptors::Record;
-use loop_entries::{elementary_pid, wide};
+use loop_entries::elementary_pid;
 use loop_outlines::{Outline, read_outline};
 use vocabulary::{Reading, Refusal};
 
@@ -73,7 +73,7 @@ pub fn slot_of(stream_type: u8, record: Record) -> usize
 {
     let index = descriptors::layer_index(stream_type, record);
     if descriptors::is_layer(record) {
-        return wide(index.0);
+        return usize::from(index.0);
     }
     RECORDLESS
 }
@@ -142,7 +142,7 @@ pub fn mark_next(
     ensures pids_after { (pids.new ≡ set pids.old outline.pid true) × (indices.new ≡ set indices.old (slot_of outline.stream_type outline.«record») true) }
 {
     let record = outline.record;
-    let pid = outline.pid as usize;
+    let pid = usize::from(outline.pid);
     let slot = slot_of(outline.stream_type, record);
     let index_held = descriptors::is_layer(record) & indices[slot];
     let number = lowest_fault(given, pids[pid], index_held, outline);
@@ -162,7 +162,7 @@ pub fn mark_recordless(
     ensures value { result ≡ fault_without given (get_or pids.old pid false) }
     ensures pids_after { (pids.new ≡ set pids.old pid true) × (indices.new ≡ set indices.old 256 true) }
 {
-    let place = pid as usize;
+    let place = usize::from(pid);
     let seen = pids[place];
     pids[place] = true;
     indices[RECORDLESS] = true;

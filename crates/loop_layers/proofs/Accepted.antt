@@ -1,6 +1,7 @@
 -- What holds of the layers of an accepted loop, because the refusals were not given: an index has one layer (8), and a layer lists lower
 -- indices alone (9). So nothing that its entries say is lost on the way to its closures.
 -- Assumes nothing.
+use Rattle.std.specs.Prelude.{Ok}
 use Prim.Native.Nat.{ℕ, ◌<◌}
 use mathlib.Core.Path.{◌≡◌, sym, ◌∙◌, ap, ap₂, subst}
 use mathlib.Core.Bool.{Bool, true, false, cond, ◌&&◌, true≢false}
@@ -30,11 +31,10 @@ use Rattle.implied.specs.Marking.{with_mark, marked_record}
 use Rattle.judging.specs.Judging.{same_index, wrong_at, wrong_embedded}
 use Rattle.loop_entries.specs.declared.Entry.{Entry}
 use Rattle.loop_entries.specs.declared.Stream.{Stream}
-use Rattle.es_loop.specs.declared.reader.Outcome.TheVariants.{Accepted}
 use Rattle.loop_entries.specs.Entries.{stream_type, es_info_length, no_stream, stream_of, pair_of, marked_stream, streams_alone, streams_of, entry_of}
 use Rattle.loop_faults.specs.Conditions.{stream_at}
 use Rattle.es_loop.specs.Reading.{loop_read}
-use Rattle.es_loop.proofs.Judged.{Taken, taken}
+use Rattle.es_loop.proofs.Verdicts.{Taken, taken}
 use Rattle.closure.specs.Meaning.{Names}
 use Rattle.loop_layers.specs.Layers.{layers_of}
 use Rattle.loop_layers.specs.Closures.{entries_read}
@@ -114,7 +114,7 @@ marked_index pair t r small = by_mark (given pair t)
 
 -- ---- an accepted loop: no number applies at any entry
 
-module _ (reading : Reading) (bytes : List ℕ) (is_accepted : (loop_read reading bytes).outcome ≡ Accepted) where
+module _ (reading : Reading) (bytes : List ℕ) (is_accepted : (loop_read reading bytes).outcome ≡ Ok tt) where
   abbrev pub entries : List Entry
   entries = entries_read (loop_read reading bytes)
 

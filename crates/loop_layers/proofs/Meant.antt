@@ -26,7 +26,7 @@ use Rattle.es_loop.specs.Meaning.{too_long_lem, refuses, accepts}
 use Rattle.es_loop.specs.Meaning as Loop
 use Rattle.es_loop.proofs.Meant.{answer_meant, answer_only}
 use Rattle.closure.specs.declared.Layers.{Layers}
-use Rattle.closure.specs.declared.Closure.{Closure}
+use Rattle.closure.specs.Answer.{Closure}
 use Rattle.closure.specs.Closures.{closure_of}
 use Rattle.closure.proofs.Meant.{closure_meant, closure_only}
 use Rattle.loop_layers.specs.declared.table.LayerTable.{LayerTable}

@@ -1,6 +1,7 @@
 -- THE SECOND WALK through the bytes of a loop that was accepted: where it stands, what it finds there, and that what was laid out so far, continued
 -- over the entries that are left, is the answer.
 -- Assumes nothing.
+use Rattle.es_loop.specs.Answer.{entries_judged}
 use Prim.Native.Nat.{ℕ, ◌+◌, ◌-◌, ◌≤◌, ◌<◌}
 use mathlib.Core.Path.{◌≡◌, refl, sym, ◌∙◌, ap}
 use mathlib.Core.Bool.{Bool}
@@ -18,10 +19,9 @@ use Rattle.sets.specs.Sets.{added}
 use Rattle.records.specs.Records.{with_indices, channel_of}
 use Rattle.loop_entries.specs.declared.Entry.{Entry}
 use Rattle.loop_entries.specs.declared.Stream.{Stream}
-use Rattle.es_loop.specs.declared.verdict.Verdict.TheVariants.{Entries}
 use Rattle.loop_entries.specs.Entries.{size_of, stream_of, marked_stream, streams_of, entry_of}
 use Rattle.es_loop.specs.Reading.{verdict_of}
-use Rattle.es_loop.proofs.Judged.{Sound, sound}
+use Rattle.es_loop.proofs.Verdicts.{Sound, sound}
 use Rattle.loop_entries.proofs.Heads.{stream_bytes}
 use Rattle.loop_entries.proofs.Front.{left_at, left_long}
 use Rattle.es_loop.proofs.Walk.{rest_of, Cursor, cursor_start, size_5, size_fits, marked_front, next_here}
@@ -89,9 +89,9 @@ module _ (reading : Reading) (bytes : List ℕ) where
   standing_first = record { count = 0; cursor = cursor_start reading bytes }
 
   -- a loop that was accepted has all its entries
-  pub counted_verdict : {total : ℕ} {pair : Bool} → verdict_of reading bytes ≡ Entries total pair
-      → verdict_of reading bytes ≡ Entries (length (streams_of reading bytes)) pair
-  counted_verdict {total} {pair} e = e ∙ ap (λ (n : ℕ). Entries n pair) (sound reading bytes total pair e).counted
+  pub counted_verdict : {total : ℕ} {pair : Bool} → verdict_of reading bytes ≡ entries_judged total pair
+      → verdict_of reading bytes ≡ entries_judged (length (streams_of reading bytes)) pair
+  counted_verdict {total} {pair} e = e ∙ ap (λ (n : ℕ). entries_judged n pair) (sound reading bytes total pair e).counted
 
   -- the entries that are left, with the marks of the whole loop
   abbrev pub left_from : ℕ → List Entry
@@ -118,7 +118,7 @@ module _ (reading : Reading) (bytes : List ℕ) where
     pub front : left_from at ≡ entry_of (stream_from pair at size) ∷ left_from (at + size)
     pub next : Standing (at + size)
 
-  pub turn : {total : ℕ} {pair : Bool} → verdict_of reading bytes ≡ Entries total pair → (at : ℕ) → Standing at → at < length bytes → (size : ℕ)
+  pub turn : {total : ℕ} {pair : Bool} → verdict_of reading bytes ≡ entries_judged total pair → (at : ℕ) → Standing at → at < length bytes → (size : ℕ)
       → size ≡ size_of (left_at reading bytes at) → Turn pair at size
   turn {total} {pair} accepted at standing more size is-size =
       let count : ℕ = standing.count in

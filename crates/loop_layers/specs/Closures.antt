@@ -1,16 +1,14 @@
 -- What is answered straight from the bytes of a loop: its layers, their table, and the closure of a target; or the refusal. Refusals 1 to 9 are
 -- those of reading the loop, 11 and 12 those of the target in the layers of the loop that was read.
 -- Assumes nothing.
-use Rattle.std.specs.Prelude.{ℕ, List, take}
+use Rattle.std.specs.Prelude.{ℕ, List, take, Err, Ok}
 use Rattle.vocabulary.specs.declared.stream_types.Reading.{Reading}
 use Rattle.loop_entries.specs.declared.Entry.{Entry}
-use Rattle.es_loop.specs.declared.reader.Outcome.{Outcome}
-use Rattle.es_loop.specs.declared.reader.Outcome.TheVariants.{Accepted, Refused}
+use Rattle.es_loop.specs.Answer.{Outcome}
 use Rattle.es_loop.specs.declared.reader.LoopRead.{LoopRead}
 use Rattle.es_loop.specs.Reading.{loop_read}
 use Rattle.closure.specs.declared.Layers.{Layers}
-use Rattle.closure.specs.declared.Closure.{Closure}
-use Rattle.closure.specs.declared.Closure.TheVariants.{Refused as RefusedWith}
+use Rattle.closure.specs.Answer.{Closure}
 use Rattle.closure.specs.Closures.{closure_of}
 use Rattle.loop_layers.specs.declared.layer_sets.LayersRead.{LayersRead}
 use Rattle.loop_layers.specs.declared.table.TableRead.{TableRead}
@@ -35,8 +33,8 @@ loop_table reading bytes = table_in (loop_read reading bytes)
 
 -- the answer to a target, given what reading the loop answered
 abbrev pub closure_for : Outcome → Layers → ℕ → Closure
-closure_for Accepted layers target = closure_of layers target
-closure_for (Refused refusal) layers target = RefusedWith refusal
+closure_for (Ok tt) layers target = closure_of layers target
+closure_for (Err refusal) layers target = Err refusal
 
 abbrev pub closure_in : LoopRead → ℕ → Closure
 closure_in read target = closure_for read.outcome (layers_of (entries_read read)) target

@@ -1,7 +1,7 @@
 -- WHAT IS RIGHT, in the words of document 01: which layers a loop's entries are, what each embeds, and the answer to a target.
 -- proofs/Meant.antt has the laws that join this to what is computed: the computed answer has this meaning, and no other answer has it.
 -- Assumes nothing.
-use Rattle.std.specs.Prelude.{ℕ, ◌<◌, ◌≡◌, true, List, map, ◌↔◌, length, get_or}
+use Rattle.std.specs.Prelude.{ℕ, ◌<◌, ◌≡◌, true, List, map, ◌↔◌, length, get_or, Err}
 use Rattle.combinators.specs.Lists.{Nth}
 use Rattle.combinators.specs.Members.{member}
 use Rattle.sets.specs.Sets.{has}
@@ -14,8 +14,7 @@ use Rattle.loop_entries.specs.Entries.{entry_of}
 use Rattle.es_loop.specs.Reading.{refused_with, accepted}
 use Rattle.es_loop.specs.Meaning as Loop
 use Rattle.closure.specs.declared.Layers.{Layers}
-use Rattle.closure.specs.declared.Closure.{Closure}
-use Rattle.closure.specs.declared.Closure.TheVariants.{Refused}
+use Rattle.closure.specs.Answer.{Closure}
 use Rattle.closure.specs.Meaning as Target
 use Rattle.loop_layers.specs.declared.table.LayerTable.{LayerTable}
 
@@ -67,6 +66,6 @@ module _ (entries : List Entry) where
 -- THE ANSWER TO A TARGET in the loop of these bytes: a refused loop gives its refusal; else it is the answer in the layers of the loop's
 -- entries, which is exactly the layers that the target rests on, or 11, or 12.
 pub data Answers (reading : Reading) (bytes : List ℕ) (target : ℕ) : Closure → Type 0 where
-  loop_refused : {refusal : Refusal} → Loop.Answers reading bytes (refused_with refusal) → Answers reading bytes target (Refused refusal)
+  loop_refused : {refusal : Refusal} → Loop.Answers reading bytes (refused_with refusal) → Answers reading bytes target (Err refusal)
   loop_accepted : (streams : List Stream) {layers : Layers} {answer : Closure} → Loop.Answers reading bytes (accepted streams)
       → LayersOf (map entry_of streams) layers → Target.Answers layers target answer → Answers reading bytes target answer

@@ -1,5 +1,6 @@
 // The layers of a loop straight from its bytes: these are judged first, and where they are accepted walked once more for the layers alone.
 ghost use Rattle.std.specs.Prelude.{◌≡◌, [], map, length};
+ghost use Rattle.es_loop.specs.Answer.{entries_judged};
 ghost use Rattle.sets.specs.Sets.{added};
 ghost use Rattle.loop_faults.specs.Conditions.{slot_of};
 ghost use Rattle.loop_entries.specs.Entries.{streams_of, entry_of};
@@ -9,13 +10,13 @@ ghost use Rattle.loop_layers.specs.Closures.{loop_layers};
 
 use closure::Layers;
 use descriptors::Record;
-use es_loop::{Outcome, Verdict};
-use vocabulary::Reading;
+use es_loop::Judged;
+use vocabulary::{Reading, Refusal};
 
 // What is answered of a loop's bytes: the outcome and, where it is accepted, its layers.
 #[derive(Clone, Copy)]
 pub struct LayersRead {
-    pub outcome: Outcome,
+    pub outcome: Result<(), Refusal>,
     pub layers: Layers,
 }
 
@@ -51,7 +52,7 @@ pub fn add_layer(
 
 // The layers of a loop that was judged and accepted.
 fn layers_in(reading: Reading, pair: bool, bytes: &[u8]) -> Layers
-    requires { verdict_of reading bytes.now ≡ Verdict.Entries (length (streams_of reading bytes.now)) pair }
+    requires { verdict_of reading bytes.now ≡ entries_judged (length (streams_of reading bytes.now)) pair }
     ensures { result ≡ layers_of (map entry_of (streams_of reading bytes.now)) }
 {
     let none = no_layers();
@@ -75,12 +76,12 @@ pub fn read_layers(reading: Reading, bytes: &[u8]) -> LayersRead
     ensures { result ≡ loop_layers reading bytes.now }
 {
     match es_loop::judge(reading, bytes) {
-        Verdict::Entries { count: _, pair } => LayersRead {
-            outcome: Outcome::Accepted,
+        Ok(Judged { count: _, pair }) => LayersRead {
+            outcome: Ok(()),
             layers: layers_in(reading, pair, bytes),
         },
-        Verdict::Refused(refusal) => LayersRead {
-            outcome: Outcome::Refused(refusal),
+        Err(refusal) => LayersRead {
+            outcome: Err(refusal),
             layers: no_layers(),
         },
     }

@@ -1,5 +1,6 @@
 // The layers of a loop with what a listing asks of each, straight from its bytes or from the entries that reading it answered.
 ghost use Rattle.std.specs.Prelude.{◌≡◌, [], map, min, length, take};
+ghost use Rattle.es_loop.specs.Answer.{entries_judged};
 ghost use Rattle.loop_entries.specs.Entries.{streams_of, entry_of};
 ghost use Rattle.es_loop.specs.Reading.{verdict_of};
 ghost use Rattle.loop_layers.specs.Layers.{layers_of, table_of, with_entry};
@@ -7,8 +8,8 @@ ghost use Rattle.loop_layers.specs.Closures.{loop_table};
 
 use super::layer_sets::{add_layer, no_layers};
 use closure::Layers;
-use es_loop::{Entry, MOST_ENTRIES, Outcome, Verdict};
-use vocabulary::{HierarchyChannel, Reading};
+use es_loop::{Entry, Judged, MOST_ENTRIES};
+use vocabulary::{HierarchyChannel, Reading, Refusal};
 
 // The layers of a loop, and what else is asked of each, by layer index. Where `layers` has no layer of an index, the columns have 0.
 #[derive(Clone, Copy)]
@@ -22,7 +23,7 @@ pub struct LayerTable {
 // The same with the table of them.
 #[derive(Clone, Copy)]
 pub struct TableRead {
-    pub outcome: Outcome,
+    pub outcome: Result<(), Refusal>,
     pub table: LayerTable,
 }
 
@@ -71,11 +72,7 @@ fn with_entry(table: LayerTable, entry: Entry) -> LayerTable
 fn entry_count(count: usize) -> usize
     ensures { result ≡ min count 201 }
 {
-    if count < MOST_ENTRIES {
-        count
-    } else {
-        MOST_ENTRIES
-    }
+    count.min(MOST_ENTRIES)
 }
 
 // The layers among the first `count` entries, in one pass.
@@ -84,10 +81,8 @@ pub fn table_of(count: usize, entries: [Entry; MOST_ENTRIES]) -> LayerTable
 {
     let mut table = no_table();
     let end = entry_count(count);
-    let mut i = 0;
-    while i < end {
-        table = with_entry(table, entries[i]);
-        i += 1;
+    for entry in &entries[..end] {
+        table = with_entry(table, *entry);
     }
     table
 }
@@ -102,7 +97,7 @@ pub fn layers_of(count: usize, entries: [Entry; MOST_ENTRIES]) -> Layers
 
 // The table of them.
 fn table_in(reading: Reading, pair: bool, bytes: &[u8]) -> LayerTable
-    requires { verdict_of reading bytes.now ≡ Verdict.Entries (length (streams_of reading bytes.now)) pair }
+    requires { verdict_of reading bytes.now ≡ entries_judged (length (streams_of reading bytes.now)) pair }
     ensures { result ≡ table_of (map entry_of (streams_of reading bytes.now)) }
 {
     let mut table = no_table();
@@ -122,12 +117,12 @@ pub fn read_table(reading: Reading, bytes: &[u8]) -> TableRead
     ensures { result ≡ loop_table reading bytes.now }
 {
     match es_loop::judge(reading, bytes) {
-        Verdict::Entries { count: _, pair } => TableRead {
-            outcome: Outcome::Accepted,
+        Ok(Judged { count: _, pair }) => TableRead {
+            outcome: Ok(()),
             table: table_in(reading, pair, bytes),
         },
-        Verdict::Refused(refusal) => TableRead {
-            outcome: Outcome::Refused(refusal),
+        Err(refusal) => TableRead {
+            outcome: Err(refusal),
             table: no_table(),
         },
     }

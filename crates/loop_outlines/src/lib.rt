@@ -33,13 +33,12 @@ fn wrong_found(record: Record, end: usize, info: &[u8]) -> bool
     ensures { TellsEmbedded result «record» (pad_to 63 no_layer (list_before info.now «record» end)) }
 {
     match record {
-        Record::NoRecord => false,
+        Record::NoRecord | Record::Implied => false,
         Record::Hierarchy(hierarchy) => judging::wrong_hierarchy_index(hierarchy),
         Record::Extension(extension) => {
-            let start = end - extension.num_embedded_layers as usize;
+            let start = end - usize::from(extension.num_embedded_layers);
             judging::wrong_listed(extension.layer_index, &info[start..end])
         }
-        Record::Implied => false,
     }
 }
 

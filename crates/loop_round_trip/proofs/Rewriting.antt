@@ -1,6 +1,6 @@
 -- REWRITING: for a loop in the writer's own shape that the 2015 reading accepts, writing the answer gives the same bytes.
 -- Assumes nothing.
-use Rattle.std.specs.Prelude.{ℕ, zero, suc, ◌+◌, ◌-◌, ◌*◌, ◌/◌, ◌%◌, ◌^◌, ◌≤◌, ◌<◌, ◌≡◌, refl, Bool, true, false, cond, not, ◌&&◌, ◌||◌, List, [], ◌∷◌, ◌++◌, map, eqb, ltb, length, get_or, take, drop, replicate}
+use Rattle.std.specs.Prelude.{ℕ, zero, suc, ◌+◌, ◌-◌, ◌*◌, ◌/◌, ◌%◌, ◌^◌, ◌≤◌, ◌<◌, ◌≡◌, refl, Bool, true, false, cond, not, ◌&&◌, ◌||◌, List, [], ◌∷◌, ◌++◌, map, eqb, ltb, length, get_or, take, drop, replicate, Err, Ok}
 use Rattle.std.proofs.Common.{sym, ◌∙◌, ap, ap₂, subst, append-nil, append_assoc, arith, not-suc-le-zero, lt-ltb, le-ltb, eq-eqb, eqb-true, ltb-false, length-append, length-drop, take-append-drop, take_at, take_all}
 use Rattle.std.proofs.Math.Bool.{and-false}
 use Rattle.std.proofs.Math.Decide.{dec_lt}
@@ -34,11 +34,10 @@ use Rattle.vocabulary.specs.declared.refusal.Refusal.{Refusal}
 use Rattle.vocabulary.specs.Refusals.{place_of}
 use Rattle.loop_entries.specs.declared.Entry.{Entry}
 use Rattle.loop_entries.specs.declared.Stream.{Stream}
-use Rattle.es_loop.specs.declared.reader.Outcome.TheVariants.{Accepted}
 use Rattle.es_loop.specs.declared.reader.LoopRead.{LoopRead}
 use Rattle.loop_faults.specs.Conditions.{stream_at, refusal_of}
 use Rattle.es_loop.specs.Reading.{refused_with, loop_read}
-use Rattle.es_loop.proofs.Judged.{Taken, taken}
+use Rattle.es_loop.proofs.Verdicts.{Taken, taken}
 use Rattle.descriptor_heads.proofs.Heads.{by_tag}
 use Rattle.loop_entries.specs.Entries.{entry_head, stream_type, elementary_pid, es_info_length, seen_in, stream_of, shown_of, pair_of, marked_stream, streams_alone, streams_of, no_stream, entry_of, blank_entry}
 use Rattle.es_loop.proofs.Pairs.{pair_marked, marked_length}
@@ -47,8 +46,7 @@ use Rattle.syntax.specs.Named.{by_names}
 use Rattle.syntax.specs.Filled.{Filled, bytes_in, too_wide_in}
 use Rattle.loop_writer.specs.Layout.{entry_head_table, info_bytes, entry_bytes, loop_bytes, too_wide}
 use Rattle.loop_writer.specs.Verdict.{stream_for, pair_for}
-use Rattle.loop_writer.specs.declared.writer.Written.{Written}
-use Rattle.loop_writer.specs.declared.writer.Written.TheVariants.{Bytes, Refused}
+use Rattle.loop_writer.specs.Answer.{Written}
 use Rattle.loop_writer.specs.Writing.{answer}
 use Rattle.loop_round_trip.specs.ReadBack.{Typed, none, one_more as one-Typed, on_unknown_type, wrong_mark, writers_own_six, without_mark}
 use Rattle.loop_round_trip.proofs.ReadBack.{entry_sound, descriptor_sound, hierarchy_sound, extension_sound, layer_sound}
@@ -404,7 +402,7 @@ pair_written ss = ap implied_pair (go ss)
 
 -- ---- REWRITING
 
-module _ (loop : List ℕ) (b : AreBytes loop) (own : OwnShape loop) (ok : (loop_read Edition2015 loop).outcome ≡ Accepted) where
+module _ (loop : List ℕ) (b : AreBytes loop) (own : OwnShape loop) (ok : (loop_read Edition2015 loop).outcome ≡ Ok tt) where
   abbrev items : List Item
   items = cut 5 es_info_length loop
 
@@ -455,7 +453,7 @@ module _ (loop : List ℕ) (b : AreBytes loop) (own : OwnShape loop) (ok : (loop
         go (no h) = ap (writers_own_six pair) (get_or-eq_default (map entry_of streams) blank_entry (omega arith))
 
     -- the writer does not refuse
-    not_refused : {r : Refusal} → Refuses room (length streams) array r → answer room (length streams) array ≡ Refused r → ⊥
+    not_refused : {r : Refusal} → Refuses room (length streams) array r → answer room (length streams) array ≡ Err r → ⊥
     not_refused (wide p) e =
         let z : ◌≡◌ {A = ℕ} 0 1 = cc (p, ap (any too_wide) all_given, back.loop_fit) in omega arith
     not_refused (too_long_lem p q) e =
@@ -469,13 +467,13 @@ module _ (loop : List ℕ) (b : AreBytes loop) (own : OwnShape loop) (ok : (loop
         let z : ◌≡◌ {A = ℕ} 0 1 = cc (ok, ap (λ (x : LoopRead). x.outcome) refused) in omega arith
     not_refused (no_room p q) e = omega (arith, ap length same_bytes)
 
-    same_size : (w : Written) → answer room (length streams) array ≡ w → answer room (length streams) array ≡ Bytes (length loop)
-    same_size (Bytes n) e = e ∙ ap Bytes ((writes room (length streams) array e).size ∙ ap length same_bytes)
-    same_size (Refused r) e = absurd (not_refused (refuses room (length streams) array e) e)
+    same_size : (w : Written) → answer room (length streams) array ≡ w → answer room (length streams) array ≡ Ok (length loop)
+    same_size (Ok n) e = e ∙ ap Ok ((writes room (length streams) array e).size ∙ ap length same_bytes)
+    same_size (Err r) e = absurd (not_refused (refuses room (length streams) array e) e)
 
     -- WRITING THE ANSWER GIVES THE SAME BYTES, and is accepted wherever there is room for them.
     pub rewrite : let read : LoopRead = loop_read Edition2015 loop in
-        (answer room read.count read.entries ≡ Bytes (length loop)) × (loop_bytes (take read.count read.entries) ≡ loop)
+        (answer room read.count read.entries ≡ Ok (length loop)) × (loop_bytes (take read.count read.entries) ≡ loop)
     rewrite =
-        subst (λ (x : LoopRead). (answer room x.count x.entries ≡ Bytes (length loop)) × (loop_bytes (take x.count x.entries) ≡ loop))
+        subst (λ (x : LoopRead). (answer room x.count x.entries ≡ Ok (length loop)) × (loop_bytes (take x.count x.entries) ≡ loop))
         (sym known_taken.is_read) (same_size (answer room (length streams) array) refl, same_bytes)

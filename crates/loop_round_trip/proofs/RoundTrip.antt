@@ -5,7 +5,7 @@
 --   refuses them with 6, and reading does not look at the one, and sets the mark itself.
 --   (25 is of values that no bytes hold, and 17 of the buffer: reading has neither.)
 -- Assumes nothing.
-use Rattle.std.specs.Prelude.{ℕ, zero, suc, ◌≤◌, ◌<◌, ◌≡◌, refl, Bool, true, false, cond, ◌||◌, List, [], ◌∷◌, ◌++◌, map, ltb, length, get_or, take, drop, replicate}
+use Rattle.std.specs.Prelude.{ℕ, zero, suc, ◌≤◌, ◌<◌, ◌≡◌, refl, Bool, true, false, cond, ◌||◌, List, [], ◌∷◌, ◌++◌, map, ltb, length, get_or, take, drop, replicate, Err, Ok}
 use Rattle.std.proofs.Common.{sym, ◌∙◌, ap, ap₂, subst, arith, lt-ltb, le-ltb, ltb-true, ltb-false}
 use Rattle.std.proofs.lemmas.List.{length-map, get_or-replicate}
 use Rattle.std.proofs.Math.Seq.{take-append_seam}
@@ -20,17 +20,14 @@ use Rattle.vocabulary.specs.declared.refusal.Refusal.TheVariants.{LoopTooLong, N
 use Rattle.vocabulary.specs.Refusals.{number_of, place_of}
 use Rattle.loop_entries.specs.declared.Entry.{Entry}
 use Rattle.loop_entries.specs.declared.Stream.{Stream}
-use Rattle.es_loop.specs.declared.reader.Outcome.TheVariants.{Accepted}
 use Rattle.loop_entries.specs.Entries.{blank_entry, entry_of, streams_of}
 use Rattle.loop_faults.specs.Conditions.{applies, refusal_of}
 use Rattle.es_loop.specs.declared.reader.LoopRead.{LoopRead}
-use Rattle.es_loop.specs.declared.verdict.Verdict.TheVariants.{Refused as VerdictRefused}
 use Rattle.es_loop.specs.Reading.{refused_with, judged, answer_by, loop_read}
-use Rattle.es_loop.proofs.Judged.{judged_refused, judged_accepted}
+use Rattle.es_loop.proofs.Verdicts.{judged_refused, judged_accepted}
 use Rattle.loop_writer.specs.Layout.{loop_bytes, too_wide}
 use Rattle.loop_writer.specs.Verdict.{stream_for, applies_to, pair_for}
-use Rattle.loop_writer.specs.declared.writer.Written.{Written}
-use Rattle.loop_writer.specs.declared.writer.Written.TheVariants.{Bytes, Refused}
+use Rattle.loop_writer.specs.Answer.{Written}
 use Rattle.loop_writer.specs.Writing.{answer, content_after, content}
 use Rattle.loop_round_trip.specs.ReadBack.{writers_own_six, normal, read_as, read_again, Typed}
 use Rattle.loop_round_trip.proofs.ReadBack.{read_written}
@@ -55,8 +52,8 @@ pub data Refuses (room count : ℕ) (array : List Entry) : Refusal → Type 0 wh
 
 -- which of the two it is
 abbrev Case : ℕ → ℕ → List Entry → Written → Type 0
-Case room count array (Bytes n) = Writes room count array n
-Case room count array (Refused r) = Refuses room count array r
+Case room count array (Ok n) = Writes room count array n
+Case room count array (Err r) = Refuses room count array r
 
 module _ (room count : ℕ) (array : List Entry) where
   abbrev given : List Entry
@@ -90,10 +87,10 @@ module _ (room count : ℕ) (array : List Entry) where
             size = refl;
           })
 
-  pub writes : {n : ℕ} → answer room count array ≡ Bytes n → Writes room count array n
+  pub writes : {n : ℕ} → answer room count array ≡ Ok n → Writes room count array n
   writes e = subst (Case room count array) e answer_case
 
-  pub refuses : {r : Refusal} → answer room count array ≡ Refused r → Refuses room count array r
+  pub refuses : {r : Refusal} → answer room count array ≡ Err r → Refuses room count array r
   refuses e = subst (Case room count array) e answer_case
 
 -- ---- reading the bytes of entries none of which is too wide
@@ -117,7 +114,7 @@ module _ {es : List Entry} (typed : Typed es) (fit : any too_wide es ≡ false) 
   abbrev by_length : Bool → LoopRead
   by_length b =
       let all : List Stream = streams_of Edition2015 (loop_bytes es) in
-      answer_by all (cond b (VerdictRefused LoopTooLong) (judged all))
+      answer_by all (cond b (Err LoopTooLong) (judged all))
 
   reading : length (loop_bytes es) ≤ 1008 → loop_read Edition2015 (loop_bytes es) ≡ answer_by seen (judged seen)
   reading short =
@@ -132,13 +129,13 @@ module _ {es : List Entry} (typed : Typed es) (fit : any too_wide es ≡ false) 
 
   -- no number applies: the reader accepts, and answers the entries
   reading_accepts : (place : ℕ) → Lowest (applies_to es) 10 (length es) 10 place → length (loop_bytes es) ≤ 1008
-      → loop_read Edition2015 (loop_bytes es) ≡ record { outcome = Accepted; count = length es; entries = pad_to 201 blank_entry (map normal es) }
+      → loop_read Edition2015 (loop_bytes es) ≡ record { outcome = Ok tt; count = length es; entries = pad_to 201 blank_entry (map normal es) }
   reading_accepts place low short =
       let unknown : (k : ℕ) (e : Entry) → Nth es k e → writers_own_six (pair_for es) e ≡ false =
       λ k e n. sym (ap (writers_own_six (pair_for es)) (nth_get_d blank_entry n)) ∙ none_unknown es typed fit 10 place low (omega arith) k (nth_inside n) in
       let low-seen = seen_lowest 10 place low (λ six. absurd (omega arith)) in
       reading short ∙ sym (ap (answer_by seen) (judged_accepted seen place low-seen))
-      ∙ ap₂ (λ (n : ℕ) (l : List Entry). record { outcome = Accepted; count = n; entries = pad_to 201 blank_entry l }) as_long
+      ∙ ap₂ (λ (n : ℕ) (l : List Entry). record { outcome = Ok tt; count = n; entries = pad_to 201 blank_entry l }) as_long
       (entries_back (read_again es) ∙ all_normal (pair_for es) es unknown)
 
 -- ---- the numbers that apply are those of their refusals
@@ -172,9 +169,9 @@ none_below es (suc (suc n)) k t = omega arith
 
 module _ (room count : ℕ) (array : List Entry) (typed : Typed (take count array)) where
   -- READING WHAT WAS WRITTEN is accepted, and gives back the entries that were given, with blanks in each array beyond its count.
-  pub read_back : {n : ℕ} → answer room count array ≡ Bytes n
+  pub read_back : {n : ℕ} → answer room count array ≡ Ok n
       → loop_read Edition2015 (loop_bytes (take count array))
-      ≡ record { outcome = Accepted; count = length (take count array); entries = pad_to 201 blank_entry (map normal (take count array)) }
+      ≡ record { outcome = Ok tt; count = length (take count array); entries = pad_to 201 blank_entry (map normal (take count array)) }
   read_back e =
       let es : List Entry = take count array in
       let w = writes room count array e in
@@ -185,15 +182,15 @@ module _ (room count : ℕ) (array : List Entry) (typed : Typed (take count arra
       (subst (λ (m : ℕ). Lowest (applies_to es) 10 (length es) m (earliest_place (applies_to es) number (length es))) ten low) w.short
 
   -- Where each array has blanks beyond its count, as the reader leaves it, these are exactly the entries that were given.
-  pub read_back_exactly : {n : ℕ} → map normal (take count array) ≡ take count array → answer room count array ≡ Bytes n
+  pub read_back_exactly : {n : ℕ} → map normal (take count array) ≡ take count array → answer room count array ≡ Ok n
       → loop_read Edition2015 (loop_bytes (take count array))
-      ≡ record { outcome = Accepted; count = length (take count array); entries = pad_to 201 blank_entry (take count array) }
+      ≡ record { outcome = Ok tt; count = length (take count array); entries = pad_to 201 blank_entry (take count array) }
   read_back_exactly blank e =
       read_back e
-      ∙ ap (λ (l : List Entry). record { outcome = Accepted; count = length (take count array); entries = pad_to 201 blank_entry l }) blank
+      ∙ ap (λ (l : List Entry). record { outcome = Ok tt; count = length (take count array); entries = pad_to 201 blank_entry l }) blank
 
   -- A REFUSAL IS THE SAME: 1, 3 and 7 to 9 in every case, 6 where the record at its place stands on a known stream type and its mark is what the rule gives.
-  pub same_refusal : {r : Refusal} → count ≤ 201 → answer room count array ≡ Refused r → number_of r ≤ 9
+  pub same_refusal : {r : Refusal} → count ≤ 201 → answer room count array ≡ Err r → number_of r ≤ 9
       → (number_of r ≡ 6 → writers_own_six (pair_for (take count array)) (get_or (take count array) (place_of r) blank_entry) ≡ false)
       → loop_read Edition2015 (loop_bytes (take count array)) ≡ refused_with r
   same_refusal few e small six = go (refuses room count array e) small six
@@ -214,7 +211,7 @@ module _ (room count : ℕ) (array : List Entry) (typed : Typed (take count arra
       go (no_room p q) h s = absurd (omega arith)
 
 -- What the buffer holds after writing are the bytes of which this speaks.
-pub buffer_holds : (count : ℕ) (array : List Entry) (old : List ℕ) {n : ℕ} → answer (length old) count array ≡ Bytes n
+pub buffer_holds : (count : ℕ) (array : List Entry) (old : List ℕ) {n : ℕ} → answer (length old) count array ≡ Ok n
     → take n (content count array old) ≡ loop_bytes (take count array)
 buffer_holds count array old {n} e =
     let bytes : List ℕ = loop_bytes (take count array) in

@@ -1,5 +1,6 @@
 -- The law that joins the meaning of writing a loop to what is computed, both ways.
 -- Assumes nothing.
+use Rattle.std.specs.Prelude.{Err, Ok}
 use Prim.Native.Nat.{ℕ, ◌≤◌, ◌<◌}
 use mathlib.Core.Path.{◌≡◌, refl, sym, ◌∙◌, ap, ap₂}
 use mathlib.Core.Bool.{Bool, true, false, not, ◌&&◌}
@@ -35,8 +36,7 @@ use Rattle.loop_writer.specs.Verdict.{stream_for, applies_to, pair_for, given_to
 use Rattle.es_loop.proofs.Meant.{named_refusal}
 use Rattle.vocabulary.specs.Refusals.{number_of, place_of}
 use Rattle.vocabulary.specs.declared.refusal.Refusal.{Refusal}
-use Rattle.loop_writer.specs.declared.writer.Written.{Written}
-use Rattle.loop_writer.specs.declared.writer.Written.TheVariants.{Bytes, Refused}
+use Rattle.loop_writer.specs.Answer.{Written}
 use Rattle.loop_writer.proofs.Writes.{bytes_meant, bytes_only}
 use Rattle.loop_writer.specs.Writing.{answer, content_after}
 use Rattle.loop_writer.specs.Meaning.{SomeTooWide, too_wide_at, EachFits, OnlyView, ImpliedViews, Condition, pid_seen, type_wrong, mark_not_given, mark_missing, flags_wrong, index_held, embedded_wrong, Answers, too_wide_lem, too_many, too_long_lem, refuses, no_room, accepts}
@@ -321,7 +321,7 @@ module _ (count : ℕ) (array : List Entry) (old : List ℕ) where
   abbrev Only : Written → List ℕ → Type 0
   Only w new = (w ≡ written) × (new ≡ content_after written (loop_bytes entries) old)
 
-  refused : {r : Refusal} → written ≡ Refused r → Only (Refused r) old
+  refused : {r : Refusal} → written ≡ Err r → Only (Err r) old
   refused e = (sym e, sym (ap (λ (w : Written). content_after w (loop_bytes entries) old) e))
 
   pub answer_only : {w : Written} {new : List ℕ} → Answers count array old w new → Only w new
@@ -348,7 +348,7 @@ module _ (count : ℕ) (array : List Entry) (old : List ℕ) where
       earliest_place_lem (applies_to entries) 10 (length entries) n k found (numbers entries at-k) in
       refused
       (rw (fine_test entries each, le-ltb 201 count few, le-ltb 1008 size short, ← is_lowest, lt-ltb n 10 (numbers entries at-k), ← is_place)
-      (ap (λ (r : Refusal). Refused r) (named_refusal refusal (numbers entries at-k))))
+      (ap (λ (r : Refusal). Err r) (named_refusal refusal (numbers entries at-k))))
   answer_only (no_room each few bytes long none h) =
       let short : size ≤ 1008 = rw (bytes_only bytes) at long in
       let large : room < size = rw (bytes_only bytes) at h in
@@ -357,8 +357,8 @@ module _ (count : ℕ) (array : List Entry) (old : List ℕ) where
       let same : bytes ≡ loop_bytes entries = bytes_only is-bytes in
       let short : size ≤ 1008 = rw same at long in
       let enough : size ≤ room = rw same at h in
-      let e : written ≡ Bytes size =
+      let e : written ≡ Ok size =
       rw (fine_test entries each, le-ltb 201 count few, le-ltb 1008 size short, ← none_lowest none, le-ltb room size enough) in (
-        ap (λ (l : List ℕ). Bytes (length l)) same ∙ sym e,
+        ap (λ (l : List ℕ). Ok (length l)) same ∙ sym e,
         ap (λ (l : List ℕ). l ++ drop (length l) old) same ∙ sym (ap (λ (w : Written). content_after w (loop_bytes entries) old) e),
       )

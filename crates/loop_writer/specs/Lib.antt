@@ -4,3 +4,4 @@ pub mod Writing
 pub mod Weighing
 pub mod Meaning
 pub mod Examples
+pub mod Answer

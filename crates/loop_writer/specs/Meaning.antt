@@ -1,7 +1,7 @@
 -- WHAT WRITING A LOOP MEANS, in the words of document 01 and of W-201: the bytes, the condition of each number at an entry, and the answer with what the buffer then
 -- holds. proofs/Meant.antt has the law that joins this to what is computed: the computed answer has this meaning, and no other answer has it.
 -- Assumes nothing.
-use Rattle.std.specs.Prelude.{ℕ, ◌≤◌, ◌<◌, ◌≡◌, true, false, List, [], ◌∷◌, ◌++◌, length, take, drop}
+use Rattle.std.specs.Prelude.{ℕ, ◌≤◌, ◌<◌, ◌≡◌, true, false, List, [], ◌∷◌, ◌++◌, length, take, drop, Err, Ok}
 use Rattle.combinators.specs.Lists.{Nth}
 use Rattle.syntax.specs.Table.{Fit}
 use Rattle.syntax.specs.Named.{WrittenBy}
@@ -16,8 +16,7 @@ use Rattle.implied.specs.Rule.{is_view}
 use Rattle.judging.specs.Meaning.{has_descriptor, TypeNotAllowed, WrongFlags, WrongEmbedded}
 use Rattle.loop_entries.specs.declared.Entry.{Entry}
 use Rattle.loop_writer.specs.Layout.{entry_head_table, entry_tables}
-use Rattle.loop_writer.specs.declared.writer.Written.{Written}
-use Rattle.loop_writer.specs.declared.writer.Written.TheVariants.{Bytes, Refused}
+use Rattle.loop_writer.specs.Answer.{Written}
 
 -- THE BYTES. An entry: its head, in which ES_info_length counts the descriptor bytes, and the descriptor, if any: 'the writer writes no
 -- descriptor for these implied layers'.
@@ -73,21 +72,21 @@ module _ (entries : List Entry) where
 -- bytes, and beyond them what it held.
 pub data Answers (count : ℕ) (array : List Entry) (old : List ℕ) : Written → List ℕ → Type 0 where
   -- 25 before all else
-  too_wide_lem : SomeTooWide (take count array) → Answers count array old (Refused TooWide) old
+  too_wide_lem : SomeTooWide (take count array) → Answers count array old (Err TooWide) old
   -- 1: more entries than 1,008 bytes can hold, or more bytes
-  too_many : EachFits (take count array) → 201 < count → Answers count array old (Refused LoopTooLong) old
+  too_many : EachFits (take count array) → 201 < count → Answers count array old (Err LoopTooLong) old
   too_long_lem : {bytes : List ℕ} → EachFits (take count array) → WritesEntries (take count array) bytes → 1008 < length bytes
-      → Answers count array old (Refused LoopTooLong) old
+      → Answers count array old (Err LoopTooLong) old
   -- the lowest number that applies, at its earliest place
   refuses : {bytes : List ℕ} {refusal : Refusal} → EachFits (take count array) → count ≤ 201 → WritesEntries (take count array) bytes → length bytes ≤ 1008
       → Condition (take count array) (number_of refusal) (place_of refusal)
       → ((m j : ℕ) → m < number_of refusal → Condition (take count array) m j → ⊥)
       → ((j : ℕ) → j < place_of refusal → Condition (take count array) (number_of refusal) j → ⊥)
-      → Answers count array old (Refused refusal) old
+      → Answers count array old (Err refusal) old
   -- 17: output room too small
   no_room : {bytes : List ℕ} → EachFits (take count array) → count ≤ 201 → WritesEntries (take count array) bytes → length bytes ≤ 1008
-      → ((n k : ℕ) → Condition (take count array) n k → ⊥) → length old < length bytes → Answers count array old (Refused NoRoom) old
+      → ((n k : ℕ) → Condition (take count array) n k → ⊥) → length old < length bytes → Answers count array old (Err NoRoom) old
   -- the number of bytes written
   accepts : {bytes : List ℕ} → EachFits (take count array) → count ≤ 201 → WritesEntries (take count array) bytes → length bytes ≤ 1008
       → ((n k : ℕ) → Condition (take count array) n k → ⊥) → length bytes ≤ length old
-      → Answers count array old (Bytes (length bytes)) (bytes ++ drop (length bytes) old)
+      → Answers count array old (Ok (length bytes)) (bytes ++ drop (length bytes) old)

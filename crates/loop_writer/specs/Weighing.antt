@@ -1,6 +1,6 @@
 -- WHAT ENTRIES COME TO that are to be written: how many bytes they take, and the lowest number that applies to them, at its earliest place.
 -- Assumes nothing.
-use Rattle.std.specs.Prelude.{ℕ, ◌+◌, ◌≤◌, ◌≡◌, Bool, cond, List, ltb, length}
+use Rattle.std.specs.Prelude.{ℕ, ◌+◌, ◌≤◌, ◌≡◌, Bool, cond, List, ltb, length, Err}
 use Rattle.combinators.specs.Lowest.{Lowest}
 use Rattle.vocabulary.specs.declared.refusal.Refusal.TheVariants.{LoopTooLong}
 use Rattle.loop_entries.specs.declared.Entry.{Entry}
@@ -8,8 +8,7 @@ use Rattle.loop_faults.specs.Conditions.{fault_at, lower_of, refusal_of}
 use Rattle.loop_writer.specs.Layout.{entry_bytes, loop_bytes}
 use Rattle.loop_writer.specs.Verdict.{stream_for, applies_to}
 use Rattle.loop_writer.specs.declared.weighing.Weighed.{Weighed}
-use Rattle.loop_writer.specs.declared.writer.Written.{Written}
-use Rattle.loop_writer.specs.declared.writer.Written.TheVariants.{Refused}
+use Rattle.loop_writer.specs.Answer.{Written}
 use Rattle.loop_writer.specs.Writing.{in_room}
 
 abbrev pub nothing_weighed : Weighed
@@ -33,5 +32,5 @@ pub record Weighs (entries : List Entry) (weighed : Weighed) : Type 0 where
 -- 1, then the lowest number that applies, then 17, or the number of bytes
 abbrev pub decided_by : Weighed → ℕ → Written
 decided_by weighed room =
-    cond (ltb 1008 weighed.size) (Refused LoopTooLong)
-    (cond (ltb weighed.fault.number 10) (Refused (refusal_of weighed.fault.number weighed.fault.place)) (in_room room weighed.size))
+    cond (ltb 1008 weighed.size) (Err LoopTooLong)
+    (cond (ltb weighed.fault.number 10) (Err (refusal_of weighed.fault.number weighed.fault.place)) (in_room room weighed.size))

@@ -12,4 +12,4 @@ mod writer;
 
 pub use entry::{entry_head, put_entry, too_wide, view_of};
 pub use weighing::{Weighed, nothing_weighed, outline_for, weigh_next};
-pub use writer::{Written, decide, write_loop};
+pub use writer::{decide, write_loop};

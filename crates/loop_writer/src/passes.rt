@@ -15,12 +15,10 @@ pub fn some_too_wide(count: usize, entries: [Entry; MOST_ENTRIES]) -> bool
     requires { count ≤ 201 }
     ensures { result ≡ any too_wide (take count entries) }
 {
-    let mut i = 0;
-    while i < count {
-        if too_wide(entries[i]) {
+    for entry in &entries[..count] {
+        if too_wide(*entry) {
             return true;
         }
-        i += 1;
     }
     false
 }
@@ -31,10 +29,8 @@ pub fn implied_pair(count: usize, entries: [Entry; MOST_ENTRIES]) -> bool
     ensures { result ≡ pair_for (take count entries) }
 {
     let mut views = implied::no_views();
-    let mut i = 0;
-    while i < count {
-        views = view_of(views, entries[i]);
-        i += 1;
+    for entry in &entries[..count] {
+        views = view_of(views, *entry);
     }
     implied::is_pair(views)
 }
@@ -47,12 +43,9 @@ pub fn weigh(pair: bool, count: usize, entries: [Entry; MOST_ENTRIES]) -> Weighe
     let mut pids = no_pids();
     let mut indices = no_indices();
     let mut weighed = nothing_weighed();
-    let mut i = 0;
-    while i < count {
-        let entry = entries[i];
+    for (i, entry) in entries[..count].iter().enumerate() {
         let given = implied::gives(pair, entry.stream_type);
-        weighed = weigh_next(&mut pids, &mut indices, weighed, given, entry, i);
-        i += 1;
+        weighed = weigh_next(&mut pids, &mut indices, weighed, given, *entry, i);
     }
     weighed
 }
@@ -63,10 +56,8 @@ pub fn put_entries(out: &mut [u8], count: usize, entries: [Entry; MOST_ENTRIES])
     ensures { Laid out.old 0 (loop_bytes (take count entries)) result out.new }
 {
     let mut place = buffers::put(out, 0, b"");
-    let mut i = 0;
-    while i < count {
-        place = put_entry(out, place, entries[i]);
-        i += 1;
+    for entry in &entries[..count] {
+        place = put_entry(out, place, *entry);
     }
     place
 }

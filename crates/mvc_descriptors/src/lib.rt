@@ -43,8 +43,7 @@ fn found_next(found: Found, payload: &[u8]) -> Found
 {
     match found {
         Found::Missing => found_first(payload),
-        Found::One(_) => Found::Wrong,
-        Found::Wrong => Found::Wrong,
+        Found::One(_) | Found::Wrong => Found::Wrong,
     }
 }
 
@@ -66,10 +65,9 @@ pub fn find_extension(info: &[u8]) -> Found
     let mut at = 0;
     while at < info.len() {
         let left = &info[at..];
-        let first = first_descriptor(left);
-        if !first.fits {
+        let Some(first) = first_descriptor(left) else {
             return found;
-        }
+        };
         let end = first.end;
         found = found_by(found, first.tag, &left[2..end]);
         at += end;

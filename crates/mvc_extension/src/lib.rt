@@ -9,8 +9,6 @@ ghost use Rattle.syntax.specs.Table.{Fit, fits, write_table};
 ghost use Rattle.mvc_extension.specs.MvcExtension.{mvc_extension_descriptor, mvc_extension_of, mvc_extension_fields};
 ghost use Rattle.mvc_extension.specs.Ranges.{reversed_range, ranges_meet, wrong_ranges};
 
-use descriptor_heads::bit;
-
 // Each field but the reserved bits. Rates are in thousands of bits a second, 0 where none is told; the view order indices are a range, both ends in it.
 #[derive(Clone, Copy)]
 pub struct MvcExtension {
@@ -24,24 +22,18 @@ pub struct MvcExtension {
     pub no_prefix_nal_unit_present: bool,
 }
 
-fn wide(byte: u8) -> u16
-    ensures { result ≡ byte }
-{
-    byte as u16
-}
-
 // The payload of the descriptor.
 pub fn read_mvc_extension(payload: &[u8]) -> MvcExtension
     requires { 8 ≤ length payload.now }
     ensures { result ≡ mvc_extension_of payload.now }
 {
-    let average_high = wide(payload[0]);
-    let average_low = wide(payload[1]);
-    let maximum_high = wide(payload[2]);
-    let maximum_low = wide(payload[3]);
-    let first = wide(payload[4]);
-    let second = wide(payload[5]);
-    let third = wide(payload[6]);
+    let average_high = u16::from(payload[0]);
+    let average_low = u16::from(payload[1]);
+    let maximum_high = u16::from(payload[2]);
+    let maximum_low = u16::from(payload[3]);
+    let first = u16::from(payload[4]);
+    let second = u16::from(payload[5]);
+    let third = u16::from(payload[6]);
     let last = payload[7];
     MvcExtension {
         average_bit_rate: average_high * 256 + average_low,
@@ -74,8 +66,8 @@ pub fn mvc_extension_payload(extension: MvcExtension) -> [u8; 8]
     let maximum = extension.maximum_bitrate;
     let least = extension.view_order_index_min;
     let greatest = extension.view_order_index_max;
-    let no_sei = bit(extension.no_sei_nal_unit_present);
-    let no_prefix = bit(extension.no_prefix_nal_unit_present);
+    let no_sei = u8::from(extension.no_sei_nal_unit_present);
+    let no_prefix = u8::from(extension.no_prefix_nal_unit_present);
     [
         (average / 256) as u8,
         (average % 256) as u8,

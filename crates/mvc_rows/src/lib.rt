@@ -14,18 +14,6 @@ use mvc_extension::MvcExtension;
 // The numbers of a row.
 const ROW: usize = 8;
 
-fn bit(flag: bool) -> u16
-    ensures { result ≡ bit_of flag }
-{
-    if flag { 1 } else { 0 }
-}
-
-fn wide(byte: u8) -> u16
-    ensures { result ≡ byte }
-{
-    byte as u16
-}
-
 fn row_of(x: MvcExtension) -> [u16; ROW]
     ensures { result ≡ mvc_extension_fields x }
 {
@@ -34,23 +22,11 @@ fn row_of(x: MvcExtension) -> [u16; ROW]
         x.maximum_bitrate,
         x.view_order_index_min,
         x.view_order_index_max,
-        wide(x.temporal_id_start),
-        wide(x.temporal_id_end),
-        bit(x.no_sei_nal_unit_present),
-        bit(x.no_prefix_nal_unit_present),
+        u16::from(x.temporal_id_start),
+        u16::from(x.temporal_id_end),
+        u16::from(x.no_sei_nal_unit_present),
+        u16::from(x.no_prefix_nal_unit_present),
     ]
-}
-
-// A row into a part of a buffer that is as long.
-fn lay_row(row: &mut [u16], numbers: [u16; ROW])
-    requires { length row.old ≡ 8 }
-    ensures { row.new ≡ numbers }
-{
-    let mut i = 0;
-    while i < ROW {
-        row[i] = numbers[i];
-        i += 1;
-    }
 }
 
 // The rows of two descriptors, from the front of a buffer on that has room for them.
@@ -58,8 +34,8 @@ pub fn lay_extensions(out: &mut [u16], first: MvcExtension, second: MvcExtension
     requires { 16 ≤ length out.old }
     ensures { out.new ≡ over (mvc_extension_fields first ++ mvc_extension_fields second) out.old }
 {
-    lay_row(&mut out[0..8], row_of(first));
-    lay_row(&mut out[8..16], row_of(second));
+    out[..ROW].copy_from_slice(&row_of(first));
+    out[ROW..2 * ROW].copy_from_slice(&row_of(second));
 }
 
 // A number that is not there is 0.

@@ -1,5 +1,6 @@
 -- What Points computes is what Meaning says, and nothing else is: `first_meant`, `first_only`, `filling_meant`, `filling_only`.
 -- Assumes nothing.
+use Rattle.std.specs.Prelude.{Err, None, Ok, Some}
 use Prim.Native.Nat.{ℕ, zero, suc, ◌≤◌}
 use mathlib.Core.Bool.{Bool, true, false, cond, ◌&&◌}
 use mathlib.Core.List.{List, [], ◌∷◌, ◌++◌}
@@ -17,11 +18,8 @@ use Rattle.operation_points.specs.Parts.{Walked, walked, Parses}
 use Rattle.operation_points.specs.Tables.{head_syntax, point_syntax, point_head}
 use Rattle.operation_points.specs.Points.{head_from, head_in, head_of, point_from, is_reserved, first_point, filling_by, points_filling, filling_after, filling_of}
 use Rattle.operation_points.specs.Meaning.{BeginsReserved, BeginsWith, First, reads, reserves, fits_not, Points, none, Stops, here, Descriptor, Fills, exact, reserved, inexact}
-use Rattle.operation_points.specs.declared.HeadRead.TheVariants.{Before, HeadDoesNotFit}
-use Rattle.operation_points.specs.declared.FirstPoint.{FirstPoint}
-use Rattle.operation_points.specs.declared.FirstPoint.TheVariants.{Read, DoesNotFit, ReservedCount}
-use Rattle.operation_points.specs.declared.Filling.{Filling}
-use Rattle.operation_points.specs.declared.Filling.TheVariants.{Exact, Inexact, Reserved}
+use Rattle.operation_points.specs.Answer.{FirstPoint, Filling}
+use Rattle.operation_points.specs.declared.PointFault.TheVariants.{DoesNotFit, ReservedCount}
 use Rattle.operation_points.proofs.Parsed.{walk_parses, parses_walk}
 
 -- ---- a reserved ES_count
@@ -73,10 +71,10 @@ module _ (left : List ℕ) where
       (omega (arith, ap length w.split, length-append point behind))
 
   answer : (r f : Bool) → is_reserved left ≡ r → leb (walked point_syntax [] 0 left).end (length left) ≡ f
-      → cond r ReservedCount (cond f (Read (point_from (walked point_syntax [] 0 left))) DoesNotFit) ≡ first_point left
+      → cond r (Err ReservedCount) (cond f (Ok (point_from (walked point_syntax [] 0 left))) (Err DoesNotFit)) ≡ first_point left
   unfolding first_point
   answer r f p q =
-      sym (ap₂ (λ (x y : Bool). cond x ReservedCount (cond y (Read (point_from (walked point_syntax [] 0 left))) DoesNotFit)) p q)
+      sym (ap₂ (λ (x y : Bool). cond x (Err ReservedCount) (cond y (Ok (point_from (walked point_syntax [] 0 left))) (Err DoesNotFit))) p q)
 
   not_reserved : (BeginsReserved left → ⊥) → is_reserved left ≡ false
   not_reserved f = false_unless (is_reserved left) (λ e. f (reserved_meant left e))
@@ -90,7 +88,7 @@ module _ (left : List ℕ) where
       go false p true q =
           let h = leb-true (walked point_syntax [] 0 left).end (length left) q in
           subst (First left)
-          (ap (λ (n : ℕ). Read (point_from (record { end = n; given = (walked point_syntax [] 0 left).given })))
+          (ap (λ (n : ℕ). Ok (point_from (record { end = n; given = (walked point_syntax [] 0 left).given })))
           (length-take-le (walked point_syntax [] 0 left).end left h)
           ∙ answer false true p q)
           (reads (take (walked point_syntax [] 0 left).end left) (drop (walked point_syntax [] 0 left).end left)
@@ -103,7 +101,7 @@ module _ (left : List ℕ) where
   -- and nothing else is.
   pub first_only : {a : FirstPoint} → First left a → a ≡ first_point left
   first_only (reads {given} point behind w) =
-      ap (λ (x : Walked). Read (point_from x)) (sym (begins_walk point behind w))
+      ap (λ (x : Walked). Ok (point_from x)) (sym (begins_walk point behind w))
       ∙ answer false true (not_reserved w.allowed) (le-leb (walked point_syntax [] 0 left).end (length left) (begins_within point behind w))
   first_only (reserves r) = answer true (leb (walked point_syntax [] 0 left).end (length left)) (reserved_only left r) refl
   first_only (fits_not f g) =
@@ -121,32 +119,32 @@ after_point {given} count left point behind w =
     ap (λ (a : FirstPoint). filling_by a (λ size. points_filling count (drop size left))) (sym (first_only left (reads point behind w)))
     ∙ ap (points_filling count) (ap (drop (length point)) w.split ∙ drop_at point behind (length point) refl)
 
-exact_only : {count : ℕ} {left : List ℕ} → Points count left → points_filling count left ≡ Exact
+exact_only : {count : ℕ} {left : List ℕ} → Points count left → points_filling count left ≡ Ok tt
 exact_only none = refl
 exact_only {left = left} (Points.point_then {count} point behind w rest) = after_point count left point behind w ∙ exact_only rest
 
-reserved_stops : {count : ℕ} {left : List ℕ} → Stops count left → points_filling count left ≡ Reserved
+reserved_stops : {count : ℕ} {left : List ℕ} → Stops count left → points_filling count left ≡ Err ReservedCount
 reserved_stops {left = left} (here {count} r) =
     ap (λ (a : FirstPoint). filling_by a (λ size. points_filling count (drop size left))) (sym (first_only left (reserves r)))
 reserved_stops {left = left} (Stops.point_then {count} point behind w rest) = after_point count left point behind w ∙ reserved_stops rest
 
 -- what a verdict says of the points
 Says : ℕ → List ℕ → Filling → Type 0
-Says count left Exact = Points count left
-Says count left Inexact = Unit {0}
-Says count left Reserved = Stops count left
+Says count left (Ok _) = Points count left
+Says count left (Err DoesNotFit) = Unit {0}
+Says count left (Err ReservedCount) = Stops count left
 
 says : (count : ℕ) (left : List ℕ) → Says count left (points_filling count left)
 unfolding Says
 says zero [] = none
 says zero (x ∷ left) =
-    subst (Says zero (x ∷ left)) (sym (ap (λ (b : Bool). cond b Exact Inexact) (ne_eqb (suc (length left)) 0 (λ e. omega arith)))) tt
+    subst (Says zero (x ∷ left)) (sym (ap (λ (b : Bool). cond b (Ok tt) (Err DoesNotFit)) (ne_eqb (suc (length left)) 0 (λ e. omega arith)))) tt
 says (suc count) left = go (first_point left) (first_meant left) refl (says count)
   where
     later : {given : Given} (point behind : List ℕ) → BeginsWith given point behind left → (f : Filling) → Says count behind f → Says (suc count) left f
-    later point behind w Exact s = Points.point_then point behind w s
-    later point behind w Inexact s = tt
-    later point behind w Reserved s = Stops.point_then point behind w s
+    later point behind w (Ok _) s = Points.point_then point behind w s
+    later point behind w (Err DoesNotFit) s = tt
+    later point behind w (Err ReservedCount) s = Stops.point_then point behind w s
 
     go : (a : FirstPoint) → First left a → first_point left ≡ a → ((l : List ℕ) → Says count l (points_filling count l))
         → Says (suc count) left (points_filling (suc count) left)
@@ -167,20 +165,20 @@ module _ (payload : List ℕ) where
   after_head {given} head points split p =
       let w = parses_walk points payload split p in
       ap (λ (x : Walked). filling_after (head_in payload x) payload) w
-      ∙ ap (λ (b : Bool). filling_after (cond b (Before (head_from (record { end = length head; given = given }))) HeadDoesNotFit) payload)
+      ∙ ap (λ (b : Bool). filling_after (cond b (Some (head_from (record { end = length head; given = given }))) None) payload)
       (le-leb (length head) (length payload) (omega (arith, ap length split, length-append head points)))
       ∙ ap (points_filling (given_to "operation_points_count" given)) (ap (drop (length head)) split ∙ drop_at head points (length head) refl)
 
-  exact_fills : Descriptor Points payload → filling_of payload ≡ Exact
+  exact_fills : Descriptor Points payload → filling_of payload ≡ Ok tt
   exact_fills d = after_head d.head d.points d.split d.parses ∙ exact_only d.rest
 
-  reserved_fills : Descriptor Stops payload → filling_of payload ≡ Reserved
+  reserved_fills : Descriptor Stops payload → filling_of payload ≡ Err ReservedCount
   reserved_fills d = after_head d.head d.points d.split d.parses ∙ reserved_stops d.rest
 
   Tells : Filling → Type 0
-  Tells Exact = Descriptor Points payload
-  Tells Inexact = Unit {0}
-  Tells Reserved = Descriptor Stops payload
+  Tells (Ok _) = Descriptor Points payload
+  Tells (Err DoesNotFit) = Unit {0}
+  Tells (Err ReservedCount) = Descriptor Stops payload
 
   -- the payload in two, where the walk over its head ends within it
   cut : (Rest : ℕ → List ℕ → Type 0) → (walked head_syntax [] 0 payload).end ≤ length payload
@@ -203,20 +201,20 @@ module _ (payload : List ℕ) where
     where
       later : (walked head_syntax [] 0 payload).end ≤ length payload → (f : Filling)
           → Says (given_to "operation_points_count" (walked head_syntax [] 0 payload).given) (drop (walked head_syntax [] 0 payload).end payload) f → Tells f
-      later h Exact s = cut Points h s
-      later h Inexact s = tt
-      later h Reserved s = cut Stops h s
+      later h (Ok _) s = cut Points h s
+      later h (Err DoesNotFit) s = tt
+      later h (Err ReservedCount) s = cut Stops h s
 
       go : (b : Bool) → leb (walked head_syntax [] 0 payload).end (length payload) ≡ b → Tells (filling_of payload)
       go true q =
           subst Tells
-          (sym (ap (λ (b : Bool). filling_after (cond b (Before (head_from (walked head_syntax [] 0 payload))) HeadDoesNotFit) payload) q))
+          (sym (ap (λ (b : Bool). filling_after (cond b (Some (head_from (walked head_syntax [] 0 payload))) None) payload) q))
           (later (leb-true (walked head_syntax [] 0 payload).end (length payload) q)
           (points_filling (given_to "operation_points_count" (walked head_syntax [] 0 payload).given) (drop (walked head_syntax [] 0 payload).end payload))
           (says (given_to "operation_points_count" (walked head_syntax [] 0 payload).given) (drop (walked head_syntax [] 0 payload).end payload)))
       go false q =
           subst Tells
-          (sym (ap (λ (b : Bool). filling_after (cond b (Before (head_from (walked head_syntax [] 0 payload))) HeadDoesNotFit) payload) q)) tt
+          (sym (ap (λ (b : Bool). filling_after (cond b (Some (head_from (walked head_syntax [] 0 payload))) None) payload) q)) tt
 
   -- THE VERDICT: what is computed is right,
   pub filling_meant : Fills payload (filling_of payload)
@@ -224,10 +222,10 @@ module _ (payload : List ℕ) where
   filling_meant = go (filling_of payload) refl tells
     where
       go : (f : Filling) → filling_of payload ≡ f → Tells f → Fills payload f
-      go Exact e t = exact t
-      go Inexact e t =
+      go (Ok _) e t = exact t
+      go (Err DoesNotFit) e t =
           inexact (λ d. (let z : ◌≡◌ {A = ℕ} 0 1 = cc (exact_fills d) in omega arith)) (λ d. (let z : ◌≡◌ {A = ℕ} 0 1 = cc (reserved_fills d) in omega arith))
-      go Reserved e t = reserved t
+      go (Err ReservedCount) e t = reserved t
 
   -- and nothing else is.
   pub filling_only : {f : Filling} → Fills payload f → f ≡ filling_of payload
@@ -236,7 +234,7 @@ module _ (payload : List ℕ) where
   filling_only (reserved d) = sym (reserved_fills d)
   filling_only (inexact p q) = go (filling_of payload) refl tells
     where
-      go : (f : Filling) → filling_of payload ≡ f → Tells f → Inexact ≡ filling_of payload
-      go Exact e t = absurd (p t)
-      go Inexact e t = sym e
-      go Reserved e t = absurd (q t)
+      go : (f : Filling) → filling_of payload ≡ f → Tells f → Err DoesNotFit ≡ filling_of payload
+      go (Ok _) e t = absurd (p t)
+      go (Err DoesNotFit) e t = sym e
+      go (Err ReservedCount) e t = absurd (q t)

@@ -3,3 +3,4 @@ pub mod Tables
 pub mod Points
 pub mod Values
 pub mod Meaning
+pub mod Answer

@@ -1,16 +1,14 @@
 -- What is right, in the words of Table 2-111bis and of W-205, with no word of how it is found.
 -- proofs/Meant.antt has the laws that join this to what is computed, both ways.
 -- Assumes nothing.
-use Rattle.std.specs.Prelude.{ℕ, suc, List, [], ◌++◌, ◌≡◌, length}
+use Rattle.std.specs.Prelude.{ℕ, suc, List, [], ◌++◌, ◌≡◌, length, Err, Ok}
 use Rattle.syntax.specs.Table.{bytes}
 use Rattle.syntax.specs.Named.{Given, given_to, read_by}
 use Rattle.operation_points.specs.Parts.{Parses}
 use Rattle.operation_points.specs.Tables.{head_syntax, point_syntax, point_head}
 use Rattle.operation_points.specs.Points.{point_from}
-use Rattle.operation_points.specs.declared.FirstPoint.{FirstPoint}
-use Rattle.operation_points.specs.declared.FirstPoint.TheVariants.{Read, DoesNotFit, ReservedCount}
-use Rattle.operation_points.specs.declared.Filling.{Filling}
-use Rattle.operation_points.specs.declared.Filling.TheVariants.{Exact, Inexact, Reserved}
+use Rattle.operation_points.specs.Answer.{FirstPoint, Filling}
+use Rattle.operation_points.specs.declared.PointFault.TheVariants.{DoesNotFit, ReservedCount}
 
 -- Bytes begin with the head of a point whose ES_count is 0xFF, which is reserved.
 pub record BeginsReserved (left : List ℕ) : Type 0 where
@@ -29,9 +27,9 @@ pub record BeginsWith (given : Given) (point behind left : List ℕ) : Type 0 wh
 -- THE FIRST POINT: its fields by their names; or its ES_count is reserved; or no point stands there.
 pub data First (left : List ℕ) : FirstPoint → Type 0 where
   reads : {given : Given} (point behind : List ℕ) → BeginsWith given point behind left
-      → First left (Read (point_from (record { end = length point; given = given })))
-  reserves : BeginsReserved left → First left ReservedCount
-  fits_not : (BeginsReserved left → ⊥) → ((given : Given) (point behind : List ℕ) → BeginsWith given point behind left → ⊥) → First left DoesNotFit
+      → First left (Ok (point_from (record { end = length point; given = given })))
+  reserves : BeginsReserved left → First left (Err ReservedCount)
+  fits_not : (BeginsReserved left → ⊥) → ((given : Given) (point behind : List ℕ) → BeginsWith given point behind left → ⊥) → First left (Err DoesNotFit)
 
 -- so many points, one after another, and nothing else
 pub data Points : ℕ → List ℕ → Type 0 where
@@ -56,6 +54,6 @@ pub record Descriptor (Rest : ℕ → List ℕ → Type 0) (payload : List ℕ) 
 
 -- THE VERDICT: the fields fill the payload exactly; or 41, a reserved ES_count, which ends the descriptor; or else 40.
 pub data Fills (payload : List ℕ) : Filling → Type 0 where
-  exact : Descriptor Points payload → Fills payload Exact
-  reserved : Descriptor Stops payload → Fills payload Reserved
-  inexact : (Descriptor Points payload → ⊥) → (Descriptor Stops payload → ⊥) → Fills payload Inexact
+  exact : Descriptor Points payload → Fills payload (Ok tt)
+  reserved : Descriptor Stops payload → Fills payload (Err ReservedCount)
+  inexact : (Descriptor Points payload → ⊥) → (Descriptor Stops payload → ⊥) → Fills payload (Err DoesNotFit)

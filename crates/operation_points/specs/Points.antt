@@ -1,18 +1,14 @@
 -- What the walk over a descriptor's payload answers: what stands before its points, its first point, and whether its fields fill it.
 -- Assumes nothing.
-use Rattle.std.specs.Prelude.{ℕ, zero, suc, ◌+◌, ◌*◌, Bool, cond, ◌&&◌, List, [], eqb, leb, length, drop}
+use Rattle.std.specs.Prelude.{ℕ, zero, suc, ◌+◌, ◌*◌, Bool, cond, ◌&&◌, List, [], eqb, leb, length, drop, Err, None, Ok, Some}
 use Rattle.syntax.specs.Table.{bytes}
 use Rattle.syntax.specs.Named.{Given, given_to, read_by}
 use Rattle.operation_points.specs.Parts.{Walked, walked}
 use Rattle.operation_points.specs.Tables.{head_syntax, point_syntax, point_head, reference, flags_count, has_average_rate, has_maximum_rate}
 use Rattle.operation_points.specs.declared.Head.{Head}
-use Rattle.operation_points.specs.declared.HeadRead.{HeadRead}
-use Rattle.operation_points.specs.declared.HeadRead.TheVariants.{Before, HeadDoesNotFit}
+use Rattle.operation_points.specs.Answer.{HeadRead, FirstPoint, Filling}
 use Rattle.operation_points.specs.declared.Point.{Point}
-use Rattle.operation_points.specs.declared.FirstPoint.{FirstPoint}
-use Rattle.operation_points.specs.declared.FirstPoint.TheVariants.{Read, DoesNotFit, ReservedCount}
-use Rattle.operation_points.specs.declared.Filling.{Filling}
-use Rattle.operation_points.specs.declared.Filling.TheVariants.{Exact, Inexact, Reserved}
+use Rattle.operation_points.specs.declared.PointFault.TheVariants.{DoesNotFit, ReservedCount}
 use Rattle.operation_points.specs.declared.Reference.{Reference}
 use Rattle.operation_points.specs.declared.LayerFlags.{LayerFlags}
 
@@ -27,7 +23,7 @@ head_from w =
     }
 
 abbrev pub head_in : List ℕ → Walked → HeadRead
-head_in payload w = cond (leb w.end (length payload)) (Before (head_from w)) HeadDoesNotFit
+head_in payload w = cond (leb w.end (length payload)) (Some (head_from w)) None
 
 unfoldable pub head_of : List ℕ → HeadRead
 head_of payload = head_in payload (walked head_syntax [] 0 payload)
@@ -57,7 +53,7 @@ abbrev pub is_reserved : List ℕ → Bool
 is_reserved left = leb (bytes point_head) (length left) && eqb (given_to "ES_count" (read_by point_head left)) 0xFF
 
 abbrev pub point_in : List ℕ → Walked → FirstPoint
-point_in left w = cond (is_reserved left) ReservedCount (cond (leb w.end (length left)) (Read (point_from w)) DoesNotFit)
+point_in left w = cond (is_reserved left) (Err ReservedCount) (cond (leb w.end (length left)) (Ok (point_from w)) (Err DoesNotFit))
 
 unfoldable pub first_point : List ℕ → FirstPoint
 first_point left = point_in left (walked point_syntax [] 0 left)
@@ -66,17 +62,16 @@ first_point left = point_in left (walked point_syntax [] 0 left)
 
 -- so many points, and nothing behind them
 abbrev pub filling_by : FirstPoint → (ℕ → Filling) → Filling
-filling_by (Read point) after = after point.size
-filling_by DoesNotFit after = Inexact
-filling_by ReservedCount after = Reserved
+filling_by (Ok point) after = after point.size
+filling_by (Err fault) after = Err fault
 
 abbrev pub points_filling : ℕ → List ℕ → Filling
-points_filling zero left = cond (eqb (length left) 0) Exact Inexact
+points_filling zero left = cond (eqb (length left) 0) (Ok tt) (Err DoesNotFit)
 points_filling (suc count) left = filling_by (first_point left) (λ size. points_filling count (drop size left))
 
 abbrev pub filling_after : HeadRead → List ℕ → Filling
-filling_after HeadDoesNotFit payload = Inexact
-filling_after (Before head) payload = points_filling head.operation_points_count (drop head.points_at payload)
+filling_after None payload = Err DoesNotFit
+filling_after (Some head) payload = points_filling head.operation_points_count (drop head.points_at payload)
 
 -- 40, 41, or that the fields fill the payload exactly
 abbrev pub filling_of : List ℕ → Filling

@@ -2,17 +2,14 @@
 -- the lengths of the lists) and the places. The shape excludes what the table cannot say: a frame_rate_indicator without its idc, a bit rate without its
 -- flag. Below it what the value of a payload is, by the walk of specs/Points.antt, and the numbers of a point as the lists for C have them.
 -- Assumes nothing.
-use Rattle.std.specs.Prelude.{ℕ, zero, suc, ◌+◌, ◌*◌, ◌/◌, Bool, cond, List, [], ◌∷◌, ◌++◌, map, ltb, length, take, drop}
+use Rattle.std.specs.Prelude.{ℕ, zero, suc, ◌+◌, ◌*◌, ◌/◌, Bool, cond, List, [], ◌∷◌, ◌++◌, map, ltb, length, take, drop, Err, None, Ok, Some}
 use Rattle.syntax.specs.Table.{bytes}
 use Rattle.syntax.specs.Named.{read_by}
 use Rattle.operation_points.specs.Tables.{profiles_count, profile, point_head, reference, flags}
 use Rattle.operation_points.specs.Points.{head_of, first_point, reference_from, flags_from}
 use Rattle.operation_points.specs.declared.Head.{Head}
-use Rattle.operation_points.specs.declared.HeadRead.{HeadRead}
-use Rattle.operation_points.specs.declared.HeadRead.TheVariants.{Before, HeadDoesNotFit}
+use Rattle.operation_points.specs.Answer.{HeadRead, FirstPoint}
 use Rattle.operation_points.specs.declared.Point.{Point}
-use Rattle.operation_points.specs.declared.FirstPoint.{FirstPoint}
-use Rattle.operation_points.specs.declared.FirstPoint.TheVariants.{Read, DoesNotFit, ReservedCount}
 use Rattle.operation_points.specs.declared.Reference.{Reference}
 use Rattle.operation_points.specs.declared.LayerFlags.{LayerFlags}
 
@@ -77,9 +74,8 @@ point_value point left =
 
 -- what is found of each point that stands there, in order
 abbrev pub points_by : {A : Type 0} → FirstPoint → (Point → A) → (ℕ → List A) → List A
-points_by (Read point) found behind = found point ∷ behind point.size
-points_by DoesNotFit found behind = []
-points_by ReservedCount found behind = []
+points_by (Ok point) found behind = found point ∷ behind point.size
+points_by (Err fault) found behind = []
 
 abbrev pub each_point : {A : Type 0} → (Point → List ℕ → A) → ℕ → List ℕ → List A
 each_point found zero left = []
@@ -94,8 +90,8 @@ abbrev pub profiles_in : Head → List ℕ → List ℕ
 profiles_in head payload = take (head.num_ptl * bytes profile) (drop (bytes profiles_count) payload)
 
 abbrev pub value_after : HeadRead → List ℕ → DescriptorValue
-value_after HeadDoesNotFit payload = record { profiles = []; points = [] }
-value_after (Before head) payload =
+value_after None payload = record { profiles = []; points = [] }
+value_after (Some head) payload =
     record { profiles = profiles_in head payload; points = points_in head.operation_points_count (drop head.points_at payload) }
 
 -- Of a payload whose fields fill it exactly. (Of others it is what was read before the misfit, which nothing answers.)

@@ -17,12 +17,6 @@ pub struct Head {
     pub points_at: usize,
 }
 
-#[derive(Clone, Copy)]
-pub enum HeadRead {
-    Before(Head),
-    HeadDoesNotFit,
-}
-
 // The bytes of one profile_tier_level_info.
 pub const PROFILE_BYTES: usize = 12;
 
@@ -44,20 +38,11 @@ pub struct Point {
     pub size: usize,
 }
 
-// The point that some bytes begin with, or why there is none.
+// Why some bytes begin with no point, or why a descriptor's fields do not fill it exactly: they do not fit (40), or an ES_count is reserved (41).
 #[derive(Clone, Copy)]
-pub enum FirstPoint {
-    Read(Point),
+pub enum PointFault {
     DoesNotFit,
     ReservedCount,
-}
-
-// Whether a descriptor's fields fill it: exactly, or not (40), or an ES_count is reserved (41).
-#[derive(Clone, Copy)]
-pub enum Filling {
-    Exact,
-    Inexact,
-    Reserved,
 }
 
 // A reference of a point.
@@ -76,34 +61,22 @@ pub struct LayerFlags {
 }
 
 // What stands before the points of a payload.
-pub fn read_head(payload: &[u8]) -> HeadRead
+pub fn read_head(payload: &[u8]) -> Option<Head>
     ensures { result ≡ head_of payload.now }
 {
     if payload.len() == 0 {
-        return HeadRead::HeadDoesNotFit;
+        return None;
     }
     let num_ptl = payload[0] % 64;
-    let count_at = 1 + num_ptl as usize * PROFILE_BYTES;
+    let count_at = 1 + usize::from(num_ptl) * PROFILE_BYTES;
     if payload.len() <= count_at {
-        return HeadRead::HeadDoesNotFit;
+        return None;
     }
-    HeadRead::Before(Head {
+    Some(Head {
         num_ptl,
         operation_points_count: payload[count_at],
         points_at: count_at + 1,
     })
-}
-
-fn wide(byte: u8) -> u32
-    ensures { result ≡ byte }
-{
-    byte as u32
-}
-
-fn narrow(byte: u8) -> u16
-    ensures { result ≡ byte }
-{
-    byte as u16
 }
 
 // The bytes of a field that may be there.
@@ -121,7 +94,7 @@ fn frame_rate(left: &[u8], at: usize, there: bool) -> u16
     if !there {
         return 0;
     }
-    narrow(left[at] % 16) * 256 + narrow(left[at + 1])
+    u16::from(left[at] % 16) * 256 + u16::from(left[at + 1])
 }
 
 // A bit rate, where it is there.
@@ -133,28 +106,28 @@ fn bit_rate(left: &[u8], at: usize, there: bool) -> u32
     if !there {
         return 0;
     }
-    wide(left[at]) * 65536 + wide(left[at + 1]) * 256 + wide(left[at + 2])
+    u32::from(left[at]) * 65536 + u32::from(left[at + 1]) * 256 + u32::from(left[at + 2])
 }
 
 // THE CALL for one point: the one that these bytes begin with.
-pub fn first_point(left: &[u8]) -> FirstPoint
+pub fn first_point(left: &[u8]) -> Result<Point, PointFault>
     ensures { result ≡ first_point left.now }
 {
     if left.len() < 2 {
-        return FirstPoint::DoesNotFit;
+        return Err(PointFault::DoesNotFit);
     }
     let es_count = left[1];
     if es_count == 0xFF {
-        return FirstPoint::ReservedCount;
+        return Err(PointFault::ReservedCount);
     }
-    let counted_at = 2 + es_count as usize;
+    let counted_at = 2 + usize::from(es_count);
     if left.len() <= counted_at {
-        return FirstPoint::DoesNotFit;
+        return Err(PointFault::DoesNotFit);
     }
     let num_es_in_op = left[counted_at] % 64;
-    let rates_at = counted_at + 1 + num_es_in_op as usize;
+    let rates_at = counted_at + 1 + usize::from(num_es_in_op);
     if left.len() <= rates_at {
-        return FirstPoint::DoesNotFit;
+        return Err(PointFault::DoesNotFit);
     }
     let rates = left[rates_at];
     let has_average = rates / 64 % 2 == 1;
@@ -164,9 +137,9 @@ pub fn first_point(left: &[u8]) -> FirstPoint
     let maximum_at = average_at + bytes_of(has_average, 3);
     let size = maximum_at + bytes_of(has_maximum, 3);
     if left.len() < size {
-        return FirstPoint::DoesNotFit;
+        return Err(PointFault::DoesNotFit);
     }
-    FirstPoint::Read(Point {
+    Ok(Point {
         target_ols: left[0],
         es_count,
         num_es_in_op,
@@ -183,39 +156,28 @@ pub fn first_point(left: &[u8]) -> FirstPoint
 }
 
 // The verdict on so many points from a place of the payload on.
-fn points_filling(payload: &[u8], first: usize, count: u8) -> Filling
+fn points_filling(payload: &[u8], first: usize, count: u8) -> Result<(), PointFault>
     requires { first ≤ length payload.now }
     ensures { result ≡ points_filling count (drop first payload.now) }
 {
     let mut at = first;
-    let mut left = count;
-    while 0 < left {
-        let point = first_point(&payload[at..]);
-        match point {
-            FirstPoint::DoesNotFit => return Filling::Inexact,
-            FirstPoint::ReservedCount => return Filling::Reserved,
-            FirstPoint::Read(read) => at += read.size,
-        }
-        left -= 1;
+    for _ in 0..count {
+        let point = first_point(&payload[at..])?;
+        at += point.size;
     }
-    if at == payload.len() {
-        return Filling::Exact;
+    if at != payload.len() {
+        return Err(PointFault::DoesNotFit);
     }
-    Filling::Inexact
+    Ok(())
 }
 
 // THE VERDICT on a payload: 40, 41, or that its fields fill it exactly.
-pub fn judge(payload: &[u8]) -> Filling
+pub fn judge(payload: &[u8]) -> Result<(), PointFault>
     ensures { result ≡ filling_of payload.now }
 {
-    let head = read_head(payload);
-    match head {
-        HeadRead::HeadDoesNotFit => Filling::Inexact,
-        HeadRead::Before(before) => points_filling(
-            payload,
-            before.points_at,
-            before.operation_points_count,
-        ),
+    match read_head(payload) {
+        None => Err(PointFault::DoesNotFit),
+        Some(head) => points_filling(payload, head.points_at, head.operation_points_count),
     }
 }
 

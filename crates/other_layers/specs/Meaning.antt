@@ -13,7 +13,7 @@ use Rattle.loop_layers.specs.Meaning.{LayersOf}
 use Rattle.rows.specs.Table.{Table, rows_in, layer_of, decoding_of, match_of}
 use Rattle.rows.specs.Meaning.{NoRow, RowOutOfRange}
 use Rattle.spans.specs.Meaning.{ClosureRow}
-use Rattle.join_answers.specs.declared.answer.Joined.{Joined}
+use Rattle.join_answers.specs.Answer.{Joined}
 use Rattle.unit_lists.specs.Sequence.{Lists}
 use Rattle.join_answers.specs.Meaning as Joining
 use Rattle.importing.specs.Meaning as Import

@@ -21,253 +21,149 @@
 // to its end, by 'too long'.
 #![tactic(auto)]
 
-ghost use Rattle.std.specs.Prelude.{◌≤◌, length};
+ghost use Rattle.std.specs.Prelude.{◌≤◌, length, IfSome};
 
 mod answers;
+mod lists;
 mod pieces;
 mod recording;
 mod whole;
 
 use cases::{Numbers, first_part, number_or, numbers_of, unreadable};
+use lists::Recording;
 use std::io::{self, Result, Write};
 
 // What is asked of a recording: by which call, with which numbers, and for which target.
 #[derive(Clone, Copy)]
-struct Question {
-    kind: u8,
-    numbers: Numbers,
-    target: u64,
+enum Question {
+    Rows,
+    Units { target: u64 },
+    Cut { lengths: Numbers, target: u64 },
+    Room { places: Numbers, target: u64 },
+    Places { places: Numbers },
 }
 
-const ROWS: u8 = 0;
-
-const UNITS: u8 = 1;
-
-const CUT: u8 = 2;
-
-const ROOM: u8 = 3;
-
-const PLACES: u8 = 4;
-
-// The places of a list.
-fn places(numbers: Numbers, list: usize) -> usize
-    ensures { result ≤ 64 }
-{
-    let count = number_or(numbers, list, 0);
-    if 64 < count {
-        return 64;
+fn ask<W: Write>(out: &mut W, question: Question, recording: Recording<'_>) -> Result<()> {
+    match question {
+        Question::Rows => whole::answer_rows(out, recording),
+        Question::Units { target } => whole::answer_units(out, recording, target),
+        Question::Cut { lengths, target } => pieces::answer_cut(out, lengths, recording, target),
+        Question::Room { places, target } => whole::answer_lists(out, places, recording, target),
+        Question::Places { places } => whole::answer_columns(out, places, recording),
     }
-    count as usize
 }
 
-fn ask<W: Write>(out: &mut W, question: Question, streams: &[u8], packets: &[u8]) -> Result<()> {
-    let kind = question.kind;
-    let numbers = question.numbers;
-    if kind == ROWS {
-        return whole::answer_rows(out, streams, packets);
-    }
-    if kind == UNITS {
-        return whole::answer_units(out, streams, question.target, packets);
-    }
-    if kind == CUT {
-        return pieces::answer_cut(out, numbers, streams, question.target, packets);
-    }
-    if kind == ROOM {
-        return whole::answer_lists(
-            out,
-            places(numbers, 0),
-            places(numbers, 1),
-            places(numbers, 2),
-            places(numbers, 3),
-            streams,
-            question.target,
-            packets,
-        );
-    }
-    whole::answer_columns(out, places(numbers, 0), streams, packets)
+// What stands before the first mark, and what behind it.
+fn parted(mark: u8, text: &[u8]) -> (&[u8], &[u8]) {
+    let part = first_part(mark, text);
+    (&text[..part.size], &text[part.step..])
 }
 
-// The packets of the case, out of its words.
-fn answer_packets<W: Write>(
-    out: &mut W,
-    question: Question,
-    streams: &[u8],
-    words: &[u8],
-    room: &mut [u8],
-) -> Result<()> {
-    let found = recording::lay_packets(words, room);
-    if !found.readable {
-        return unreadable(out);
+// The numbers of a word that has one, or eight at most.
+fn numbers_in(word: &[u8], most: usize) -> Option<Numbers> {
+    let numbers = numbers_of(word);
+    if most <= numbers.last {
+        return None;
     }
-    let count = found.count;
-    ask(out, question, streams, &room[..count])
+    Some(numbers)
 }
 
-// Words with no number in front.
-fn plain_case<W: Write>(out: &mut W, streams: &[u8], words: &[u8], room: &mut [u8]) -> Result<()> {
-    let question = Question {
-        kind: ROWS,
-        numbers: numbers_of(b""),
-        target: 0,
-    };
-    answer_packets(out, question, streams, words, room)
+// A target in front, and behind a bar the words of the packets.
+fn target_in(words: &[u8]) -> Option<(u64, &[u8])> {
+    let (word, _) = parted(b' ', words);
+    let (_, packets) = parted(b'|', words);
+    let numbers = numbers_in(word, 1)?;
+    Some((number_or(numbers, 0, 0), packets))
 }
 
-// Words with a target in front, behind a bar the packets.
-fn target_case<W: Write>(
-    out: &mut W,
-    kind: u8,
-    numbers: Numbers,
-    streams: &[u8],
-    words: &[u8],
-    room: &mut [u8],
-) -> Result<()> {
-    let part = first_part(b'|', words);
-    let step = part.step;
-    let word = first_part(b' ', words);
-    let size = word.size;
-    let named = numbers_of(&words[..size]);
-    if named.last != 0 {
-        return unreadable(out);
+// What a case asks, and the words of its packets.
+fn question_in(line: &[u8]) -> Option<(Question, &[u8])> {
+    let (kind, words) = parted(b' ', line);
+    let (first, others) = parted(b' ', words);
+    match kind {
+        b"rows" => Some((Question::Rows, words)),
+        b"units" => {
+            let (target, packets) = target_in(words)?;
+            Some((Question::Units { target }, packets))
+        }
+        b"cut" => {
+            let lengths = numbers_in(first, 8)?;
+            let (target, packets) = target_in(others)?;
+            Some((Question::Cut { lengths, target }, packets))
+        }
+        b"room" => {
+            let places = numbers_in(first, 8)?;
+            let (target, packets) = target_in(others)?;
+            Some((Question::Room { places, target }, packets))
+        }
+        b"places" => {
+            let places = numbers_in(first, 1)?;
+            let (_, packets) = parted(b'|', words);
+            Some((Question::Places { places }, packets))
+        }
+        _ => None,
     }
-    let question = Question {
-        kind,
-        numbers,
-        target: number_or(named, 0, 0),
-    };
-    answer_packets(out, question, streams, &words[step..], room)
 }
 
-// Words with numbers and a target in front.
-fn numbers_case<W: Write>(
-    out: &mut W,
-    kind: u8,
-    streams: &[u8],
-    words: &[u8],
-    room: &mut [u8],
-) -> Result<()> {
-    let word = first_part(b' ', words);
-    let size = word.size;
-    let step = word.step;
-    let numbers = numbers_of(&words[..size]);
-    if 7 < numbers.last {
-        return unreadable(out);
-    }
-    target_case(out, kind, numbers, streams, &words[step..], room)
+// The bytes of the loop that was named last, at the start of the room.
+fn streams_in<'a>(named: &[u8], room: &'a mut [u8; 2048]) -> Option<&'a [u8]> {
+    let (_, words) = parted(b' ', named);
+    let count = cases::read_bytes(words, room)?;
+    Some(&room[..count])
 }
 
-// Words with one number in front, which is no target.
-fn places_case<W: Write>(out: &mut W, streams: &[u8], words: &[u8], room: &mut [u8]) -> Result<()> {
-    let word = first_part(b' ', words);
-    let size = word.size;
-    let numbers = numbers_of(&words[..size]);
-    target_case(out, PLACES, numbers, streams, words, room)
+// The packets of a case, at the start of the room.
+fn packets_in<'a>(words: &[u8], room: &'a mut [u8]) -> Option<&'a [u8]> {
+    let count = recording::lay_packets(words, room)?;
+    Some(&room[..count])
 }
 
-fn answer_case<W: Write>(out: &mut W, streams: &[u8], line: &[u8], room: &mut [u8]) -> Result<()> {
-    let kind = first_part(b' ', line);
-    let size = kind.size;
-    let step = kind.step;
-    let words = &line[step..];
-    if check::same(&line[..size], b"rows") {
-        return plain_case(out, streams, words, room);
-    }
-    if check::same(&line[..size], b"units") {
-        return target_case(out, UNITS, numbers_of(b""), streams, words, room);
-    }
-    if check::same(&line[..size], b"cut") {
-        return numbers_case(out, CUT, streams, words, room);
-    }
-    if check::same(&line[..size], b"room") {
-        return numbers_case(out, ROOM, streams, words, room);
-    }
-    if check::same(&line[..size], b"places") {
-        return places_case(out, streams, words, room);
-    }
-    unreadable(out)
-}
-
-fn with_loop<W: Write>(
-    out: &mut W,
-    count: usize,
-    streams: [u8; 2048],
+// What a case asks, and of which recording.
+fn case_in<'a>(
+    named: &[u8],
     line: &[u8],
-    room: &mut [u8],
-) -> Result<()>
-    requires { count ≤ 2048 }
-{
-    answer_case(out, &streams[..count], line, room)
+    loop_room: &'a mut [u8; 2048],
+    room: &'a mut [u8],
+) -> Option<(Question, Recording<'a>)> {
+    let streams = streams_in(named, loop_room)?;
+    let (question, words) = question_in(line)?;
+    let packets = packets_in(words, room)?;
+    Some((question, Recording { streams, packets }))
 }
 
-// The bytes of the loop that was named last, and the case.
-fn read_loop<W: Write>(out: &mut W, named: &[u8], line: &[u8], room: &mut [u8]) -> Result<()> {
-    let words = first_part(b' ', named);
-    let step = words.step;
-    let mut streams = cases::empty_room();
-    let found = cases::read_bytes(&named[step..], &mut streams);
-    if !found.readable {
-        return unreadable(out);
+fn answer_case<W: Write>(out: &mut W, named: &[u8], line: &[u8], room: &mut [u8]) -> Result<()> {
+    let mut loop_room = cases::empty_room();
+    match case_in(named, line, &mut loop_room, room) {
+        Some((question, recording)) => ask(out, question, recording),
+        None => unreadable(out),
     }
-    with_loop(out, found.count, streams, line, room)
 }
 
 fn is_loop(line: &[u8]) -> bool {
-    let kind = first_part(b' ', line);
-    let size = kind.size;
-    check::same(&line[..size], b"loop")
+    let (kind, _) = parted(b' ', line);
+    matches!(kind, b"loop")
 }
 
-// Where the loop stands that is named last, once a line was read that stands at `at`.
-fn named_last(line: &[u8], at: usize, named: usize) -> usize
-    requires { named ≤ at }
-    ensures { result ≤ at }
-{
-    if is_loop(line) {
-        return at;
-    }
-    named
-}
-
-fn answer_line<W: Write>(
-    out: &mut W,
-    from_loop: &[u8],
-    line: &[u8],
-    room: &mut [u8],
-) -> Result<()> {
-    if cases::is_comment(line) {
-        return cases::copy(out, line);
-    }
-    if is_loop(line) {
-        return Ok(());
-    }
-    let named = first_part(b'\n', from_loop);
-    let size = named.size;
-    read_loop(out, &from_loop[..size], line, room)
-}
-
+// Answers each line; `named` is the line of the loop that was named last, at first the first line.
 fn answer_lines<W: Write>(out: &mut W, text: &[u8], room: &mut [u8]) -> Result<()> {
-    let mut at = 0;
-    let mut named = 0;
-    while at < text.len() {
-        let rest = &text[at..];
-        let line = first_part(b'\n', rest);
-        let size = line.size;
-        named = named_last(&rest[..size], at, named);
-        answer_line(out, &text[named..], &rest[..size], room)?;
-        at += line.step;
+    let (mut named, _) = parted(b'\n', text);
+    for line in cases::lines(text) {
+        if cases::is_comment(line) {
+            cases::copy(out, line)?;
+        } else if is_loop(line) {
+            named = line;
+        } else {
+            answer_case(out, named, line, room)?;
+        }
     }
     Ok(())
 }
 
-// Room for 600 packets.
-fn answer_text<W: Write>(out: &mut W, text: &[u8]) -> Result<()> {
-    let mut room = [0u8; 112800];
-    answer_lines(out, text, &mut room)
-}
-
 fn main(rt: HostRuntime) -> Result<()> {
-    let mut buffer = [0u8; 65536];
+    let mut buffer = [0; 65536];
     let mut out = io::writer(&rt);
     let count = cases::read_cases(&mut rt.reader(), &mut out, &mut buffer)?;
-    answer_text(&mut out, &buffer[..count])
+    // Room for 600 packets.
+    let mut room = [0; 112800];
+    answer_lines(&mut out, &buffer[..count], &mut room)
 }

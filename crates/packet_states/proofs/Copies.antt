@@ -6,7 +6,7 @@ use mathlib.Core.List.{List, ◌++◌, append-nil}
 use native.Mathlib.Omega.{arith}
 use native.Mathlib.Nat.{zero-add}
 use native.Mathlib.Numerals.{add-one}
-use lib.ListN.{length, get_or, set, take, replicate, length-append, length-replicate, drop_of_length-le}
+use lib.ListN.{length, get_or, set, take, replicate, length-append, drop_of_length-le}
 use lib.Seq.{sets, take_all, take-suc, length-take-le}
 use Rattle.combinators.specs.Padding.{pad_to, store_pad_to}
 use Rattle.buffers.proofs.Laws.{one_more, sets_append, sets_over}
@@ -35,13 +35,6 @@ front_all old list i h = ap (sets old 0) (take_all i list h)
 pub stored_over : (list old : List ℕ) → length list ≡ length old → sets old 0 list ≡ list
 stored_over list old e =
     sets_over list old (omega arith) ∙ ap (λ (l : List ℕ). list ++ l) (drop_of_length-le old {i = length list} (omega arith)) ∙ append-nil list
-
--- the front of a list copied into an array of its length
-pub front_fits : (size : ℕ) (list : List ℕ) → size ≤ length list → 0 + length (take size list) ≤ length {A = ℕ} (replicate size 0)
-front_fits size list h = omega (arith, length-take-le size list h, length-replicate {A = ℕ} size 0)
-
-pub front_copied : (size : ℕ) (list : List ℕ) → size ≤ length list → sets (replicate size 0) 0 (take size list) ≡ take size list
-front_copied size list h = stored_over (take size list) (replicate size 0) (length-take-le size list h ∙ sym (length-replicate {A = ℕ} size 0))
 
 -- two lists, one stored behind the other, that fill what they are stored into
 pub both_stored : (first second old : List ℕ) {between new : List ℕ} → length first ≡ 64 → length old ≡ 64 + length second → between ≡ sets old 0 first

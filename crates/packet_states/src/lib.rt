@@ -22,12 +22,10 @@ fn ends_past_one(counts: &[u64]) -> bool
     requires { 64 ≤ length counts.now }
     ensures { result ≡ any past_one (take 64 counts.now) }
 {
-    let mut i = 0;
-    while i < 64 {
-        if 1 < counts[i] {
+    for count in &counts[..64] {
+        if 1 < *count {
             return true;
         }
-        i += 1;
     }
     false
 }
@@ -94,7 +92,7 @@ pub fn table_in(state: &[u8]) -> [u8; 8192]
     ensures { result ≡ table_in state.now }
 {
     let mut table = [0u8; 8192];
-    buffers::put_whole(&mut table, 0, &state[..8192]);
+    table.copy_from_slice(&state[..8192]);
     table
 }
 
@@ -104,7 +102,7 @@ pub fn part_in(state: &[u8]) -> [u8; 188]
     ensures { result ≡ part_in state.now }
 {
     let mut part = [0u8; 188];
-    buffers::put_whole(&mut part, 0, &state[8192..8380]);
+    part.copy_from_slice(&state[8192..8380]);
     part
 }
 
@@ -114,10 +112,8 @@ pub fn ends_in(counts: &[u64]) -> [usize; 64]
     ensures { result ≡ ends_in counts.now }
 {
     let mut ends = [0usize; 64];
-    let mut i = 0;
-    while i < 64 {
-        ends[i] = counts[i] as usize;
-        i += 1;
+    for (i, count) in counts[..64].iter().enumerate() {
+        ends[i] = *count as usize;
     }
     ends
 }
@@ -148,10 +144,8 @@ fn put_ends(ends: &[usize; 64], counts: &mut [u64])
     requires { (length ends.now ≡ 64) × (64 ≤ length counts.old) }
     ensures { counts.new ≡ sets counts.old 0 ends.now }
 {
-    let mut i = 0;
-    while i < 64 {
-        counts[i] = ends[i] as u64;
-        i += 1;
+    for (i, end) in ends.iter().enumerate() {
+        counts[i] = *end as u64;
     }
 }
 
@@ -159,11 +153,7 @@ fn put_numbers(numbers: &[u64], at: usize, counts: &mut [u64])
     requires { at + length numbers.now ≤ length counts.old }
     ensures { counts.new ≡ sets counts.old at numbers.now }
 {
-    let mut i = 0;
-    while i < numbers.len() {
-        counts[at + i] = numbers[i];
-        i += 1;
-    }
+    counts[at..at + numbers.len()].copy_from_slice(numbers);
 }
 
 // All numbers of a state, written anew.
@@ -178,9 +168,9 @@ pub fn put_counts(progress: Progress, no_room: u64, ends: &[usize; 64], counts: 
     let numbers = [
         progress.part as u64,
         progress.number as u64,
-        fault.number as u64,
+        u64::from(fault.number),
         fault.packet as u64,
-        refusal.number as u64,
+        u64::from(refusal.number),
         refusal.packet as u64,
         found.rows as u64,
         no_room,

@@ -3,3 +3,4 @@ pub mod Reading
 pub mod Judging
 pub mod Meaning
 pub mod Examples
+pub mod Answer

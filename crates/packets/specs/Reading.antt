@@ -1,15 +1,14 @@
 -- What one packet says, by the tables: its header, and of its adaptation field, where it has one, the length, the discontinuity indicator and
 -- whether there is a PCR.
 -- Assumes nothing.
-use Rattle.std.specs.Prelude.{ℕ, ◌+◌, Bool, cond, ◌&&◌, List, eqb, leb, length}
+use Rattle.std.specs.Prelude.{ℕ, ◌+◌, Bool, cond, ◌&&◌, List, eqb, leb, length, None, Some}
 use Prim.Native.String.{String}
 use Rattle.syntax.specs.Table.{Table, bytes, number_from}
 use Rattle.syntax.specs.Named.{named}
 use Rattle.packets.specs.Tables.{header, adaptation_length, adaptation_flags, pcr}
 use Rattle.packets.specs.declared.Adaptation.{Adaptation}
 use Rattle.packets.specs.declared.Packet.{Packet}
-use Rattle.packets.specs.declared.Answer.{Answer}
-use Rattle.packets.specs.declared.Answer.TheVariants.{Read, NotWhole}
+use Rattle.packets.specs.Answer.{Answer}
 
 -- the bytes of a packet
 abbrev pub packet_bytes : ℕ
@@ -75,4 +74,4 @@ packet_of packet =
 
 -- what is answered for any bytes
 abbrev pub read_of : List ℕ → Answer
-read_of packet = cond (eqb (length packet) packet_bytes) (Read (packet_of packet)) NotWhole
+read_of packet = cond (eqb (length packet) packet_bytes) (Some (packet_of packet)) None

@@ -31,13 +31,6 @@ pub struct Packet {
     pub adaptation: Adaptation,
 }
 
-// A packet that was read, or bytes that are not as many as a packet has.
-#[derive(Clone, Copy)]
-pub enum Answer {
-    Read(Packet),
-    NotWhole,
-}
-
 fn adaptation_field(packet: &[u8]) -> Adaptation
     requires { length packet.now ≡ packet_bytes }
     ensures { result ≡ adaptation_of packet.now }
@@ -69,7 +62,7 @@ fn adaptation_field(packet: &[u8]) -> Adaptation
 fn pid_of(high: u8, low: u8) -> u16
     ensures { result ≡ high % 32 * 256 + low }
 {
-    (high as u16) % 32 * 256 + (low as u16)
+    u16::from(high) % 32 * 256 + u16::from(low)
 }
 
 // The fields of a whole packet.
@@ -91,13 +84,13 @@ pub fn fields(packet: &[u8]) -> Packet
 }
 
 // What a packet says, whatever the bytes are.
-pub fn read(bytes: &[u8]) -> Answer
+pub fn read(bytes: &[u8]) -> Option<Packet>
     ensures { result ≡ read_of bytes.now }
 {
     if bytes.len() != PACKET_BYTES {
-        return Answer::NotWhole;
+        return None;
     }
-    Answer::Read(fields(bytes))
+    Some(fields(bytes))
 }
 
 // 30: no sync byte.
@@ -120,12 +113,6 @@ pub fn has_payload(packet: Packet) -> bool
     packet.adaptation_field_control % 2 == 1
 }
 
-fn wide(byte: u8) -> usize
-    ensures { result ≡ byte }
-{
-    byte as usize
-}
-
 // Where the payload starts, if there is one: after the header, or after the adaptation field.
 pub fn payload_at(packet: Packet) -> usize
     ensures { result ≡ payload_at packet }
@@ -133,7 +120,7 @@ pub fn payload_at(packet: Packet) -> usize
     if packet.adaptation_field_control < 2 {
         return 4;
     }
-    5 + wide(packet.adaptation.adaptation_field_length)
+    5 + usize::from(packet.adaptation.adaptation_field_length)
 }
 
 // 32, its first half: the adaptation field is not within the packet.
@@ -143,7 +130,7 @@ fn adaptation_outside(packet: Packet) -> bool
     if packet.adaptation_field_control < 2 {
         return false;
     }
-    PACKET_BYTES < 5 + wide(packet.adaptation.adaptation_field_length)
+    PACKET_BYTES < 5 + usize::from(packet.adaptation.adaptation_field_length)
 }
 
 // A unit starts here, in a payload that is not scrambled.
@@ -162,7 +149,7 @@ fn header_within(payload: &[u8]) -> bool
     if payload.len() < 9 {
         return false;
     }
-    9 + wide(payload[8]) <= payload.len()
+    9 + usize::from(payload[8]) <= payload.len()
 }
 
 // 32: the adaptation field, or the PES header of a unit that starts here, is not within the packet.

@@ -7,7 +7,6 @@ ghost use Rattle.packets.specs.Reading.{packet_bytes};
 ghost use Rattle.recording_rows.specs.Columns.{columns, room_in};
 ghost use Rattle.passing.specs.Passing.{Held, Passed};
 
-use combinators::lesser;
 use unit_starts::Found;
 
 // THE PIECE. The first of its packets has a number in the recording, and so much was found before it. Rows are laid as far as there is room for them, and the
@@ -34,8 +33,8 @@ pub fn pass(
         (columns indices.new decodings.new matches.new trefs.new numbers.new) result }
 {
     let after = unit_starts::walk(table, kept, bytes, first, found, ends, &mut numbers[..room]);
-    let from = lesser(found.rows, room);
-    let to = lesser(after.rows, room);
+    let from = found.rows.min(room);
+    let to = after.rows.min(room);
     recording_rows::lay(
         table,
         bytes,

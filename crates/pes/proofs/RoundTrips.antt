@@ -1,6 +1,7 @@
 -- The round trips of document 01, for all times and all headers, with a TREF or without: reading what the writer wrote gives back what was given and
 -- the number of bytes written, and rewriting what was read from a header in the writer's own shape gives the same bytes.
 -- Assumes nothing.
+use Rattle.std.specs.Prelude.{Err, Ok}
 use Prim.Native.Nat.{ℕ, ◌+◌, ◌*◌, ◌/◌, ◌%◌, ◌^◌, ◌≤◌, ◌<◌}
 use Prim.Native.String.{String}
 use mathlib.Core.Path.{◌≡◌, refl, sym, ap, ap₂, subst, ◌∙◌}
@@ -34,14 +35,12 @@ use Rattle.pes_fields.specs.declared.Extension.TheVariants.{WithoutTref, WithTre
 use Rattle.pes_reader.specs.Reading.{data_of, end_of, judged, marks_of, match_of, sent_of, read_of}
 use Rattle.pes_reader.specs.Meaning.{VideoHeader, LaidOut}
 use Rattle.pes_reader.proofs.MeaningLaws.{laid_answer}
-use Rattle.pes_reader.specs.declared.Answer.TheVariants as Answer
 use Rattle.pes_reader.specs.declared.Header.{Header}
 use Rattle.pes_writer.specs.Writing.{second_alone, six_bytes, tref_follows, head_given, header_of, too_wide, write_of, buffer_of}
 use Rattle.pes_writer.proofs.WritingLaws.{narrow}
 use Rattle.pes_writer.specs.OwnShape as own
 use Rattle.pes_writer.specs.OwnShape.{OwnTimes, alone, both, OwnExtension, OwnShape, Narrow}
 use Rattle.pes_writer.proofs.OwnShapeLaws.{own_is, own_only, by_tests, writes_only}
-use Rattle.pes_writer.specs.declared.Written.TheVariants.{Bytes, Refused}
 
 -- ---- a time in its field
 
@@ -305,33 +304,33 @@ record Accepted (times : Times) (with_tref : Bool) (size : ℕ) : Type 0 where
   not_before : is_before times.pts times.decoding ≡ false
   as_long : length (header_of times with_tref) ≡ size
 
-accepted : (times : Times) (with_tref : Bool) (out : List ℕ) {size : ℕ} → write_of times with_tref (length out) ≡ Bytes size → Accepted times with_tref size
+accepted : (times : Times) (with_tref : Bool) (out : List ℕ) {size : ℕ} → write_of times with_tref (length out) ≡ Ok size → Accepted times with_tref size
 accepted times with_tref out {size} e =
     by (too_wide times with_tref) (leb (length (header_of times with_tref)) (length out)) (is_before times.pts times.decoding) refl refl refl
   where
     by : (w r b : Bool) → too_wide times with_tref ≡ w → leb (length (header_of times with_tref)) (length out) ≡ r → is_before times.pts times.decoding ≡ b
         → Accepted times with_tref size
     by true r b f g h =
-        let z : Refused TooWide ≡ Bytes size = sym (by_tests times with_tref out true r b f g h) ∙ e in
+        let z : Err TooWide ≡ Ok size = sym (by_tests times with_tref out true r b f g h) ∙ e in
         let one : ◌≡◌ {A = ℕ} 0 1 = cc in absurd (omega arith)
     by false false b f g h =
-        let z : Refused NoRoom ≡ Bytes size = sym (by_tests times with_tref out false false b f g h) ∙ e in
+        let z : Err NoRoom ≡ Ok size = sym (by_tests times with_tref out false false b f g h) ∙ e in
         let one : ◌≡◌ {A = ℕ} 0 1 = cc in absurd (omega arith)
     by false true true f g h =
-        let z : Refused PtsBeforeDts ≡ Bytes size = sym (by_tests times with_tref out false true true f g h) ∙ e in
+        let z : Err PtsBeforeDts ≡ Ok size = sym (by_tests times with_tref out false true true f g h) ∙ e in
         let one : ◌≡◌ {A = ℕ} 0 1 = cc in absurd (omega arith)
     by false true false f g h =
-        let z : Bytes (length (header_of times with_tref)) ≡ Bytes size = sym (by_tests times with_tref out false true false f g h) ∙ e in
+        let z : Ok (length (header_of times with_tref)) ≡ Ok size = sym (by_tests times with_tref out false true false f g h) ∙ e in
         record { fit = narrow times with_tref f; not_before = h; as_long = cc }
 
 -- Reading what the writer wrote gives back the times, whether a TREF was asked for, and the number of bytes written, whatever stands in the room
 -- beyond.
-pub reading_what_was_written : (times : Times) (with_tref : Bool) (out : List ℕ) {size : ℕ} → write_of times with_tref (length out) ≡ Bytes size
-    → read_of (buffer_of (Bytes size) (header_of times with_tref) out) ≡ Answer.Read (read_back times with_tref size)
+pub reading_what_was_written : (times : Times) (with_tref : Bool) (out : List ℕ) {size : ℕ} → write_of times with_tref (length out) ≡ Ok size
+    → read_of (buffer_of (Ok size) (header_of times with_tref) out) ≡ Ok (read_back times with_tref size)
 reading_what_was_written times with_tref out {size} e =
     let a : Accepted times with_tref size = accepted times with_tref out e in
     own_reads (own_is times with_tref a.fit) (drop (length (header_of times with_tref)) out)
-    ∙ ap₂ (λ (b : Bool) (end : ℕ). cond b (Answer.Refused PtsBeforeDts) (Answer.Read (read_back times with_tref end))) a.not_before a.as_long
+    ∙ ap₂ (λ (b : Bool) (end : ℕ). cond b (Err PtsBeforeDts) (Ok (read_back times with_tref end))) a.not_before a.as_long
 
 -- Rewriting what was read from a header in the writer's own shape gives the same bytes: with room for them the writer accepts, and
 -- they stand at the front.
@@ -342,7 +341,7 @@ record SameHeader (written read : Header) : Type 0 where
   not_before : is_before written.times.pts written.times.decoding ≡ false
 
 same_header : (written read : Header) (before : Bool) → is_before written.times.pts written.times.decoding ≡ before
-    → cond before (Answer.Refused PtsBeforeDts) (Answer.Read written) ≡ Answer.Read read → SameHeader written read
+    → cond before (Err PtsBeforeDts) (Ok written) ≡ Ok read → SameHeader written read
 same_header written read true f e = let one : ◌≡◌ {A = ℕ} 0 1 = cc in absurd (omega arith)
 same_header written read false f e =
     let same : written ≡ read = cc in
@@ -353,7 +352,7 @@ same_header written read false f e =
       not_before = f;
     }
 
-module _ {bytes : List ℕ} {times : Times} {with_tref : Bool} (o : OwnShape bytes times with_tref) (header : Header) (read : read_of bytes ≡ Answer.Read header) where
+module _ {bytes : List ℕ} {times : Times} {with_tref : Bool} (o : OwnShape bytes times with_tref) (header : Header) (read : read_of bytes ≡ Ok header) where
   abbrev written : Header
   written = read_back times with_tref (length bytes)
 
@@ -372,8 +371,8 @@ module _ {bytes : List ℕ} {times : Times} {with_tref : Bool} (o : OwnShape byt
   end_of_what_was_read = sym read_off.end_same
 
   pub rewritten : (out : List ℕ) → length bytes ≤ length out
-      → (write_of header.times header.tref_sent (length out) ≡ Bytes (length bytes))
-      × (buffer_of (Bytes (length bytes)) (header_of header.times header.tref_sent) out ≡ bytes ++ drop (length bytes) out)
+      → (write_of header.times header.tref_sent (length out) ≡ Ok (length bytes))
+      × (buffer_of (Ok (length bytes)) (header_of header.times header.tref_sent) out ≡ bytes ++ drop (length bytes) out)
   rewritten out room =
       let after : is_before header.times.pts header.times.decoding ≡ false =
       ap (λ (t : Times). is_before t.pts t.decoding) (sym read_off.times_same) ∙ read_off.not_before in

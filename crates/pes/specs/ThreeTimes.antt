@@ -1,7 +1,7 @@
 -- The reading of a PES header for its three times alone, as document 01 has it and as it was before document 02's W-213: PTS, decoding time and match
 -- time, or a refusal. proofs/ThreeTimesLaws.antt shows that these are the times which the reader answers now, so that whatever is built on them stays.
 -- Assumes nothing.
-use Rattle.std.specs.Prelude.{ℕ, Bool, cond, ◌&&◌, List, leb}
+use Rattle.std.specs.Prelude.{ℕ, Bool, cond, ◌&&◌, List, leb, Err, Ok}
 use Rattle.syntax.specs.Table.{number}
 use Rattle.syntax.specs.Named.{named}
 use Rattle.clock.specs.Clock.{is_before}
@@ -14,7 +14,7 @@ use Rattle.pes_fields.specs.HeaderData.{Flags, flags_of, header_data_of}
 use Rattle.pes_fields.specs.declared.Extension.{Extension}
 use Rattle.pes_fields.specs.declared.Extension.TheVariants.{DoesNotFit, WithoutTref, WithTref}
 use Rattle.pes_reader.specs.Reading.{is_video_header, data_of}
-use Rattle.pes_reader.specs.declared.Answer.{Answer}
+use Rattle.pes_reader.specs.Answer.{Answer}
 
 pub data ThreeTimes : Type 0 where
   times : ℕ → ℕ → ℕ → ThreeTimes
@@ -43,5 +43,5 @@ three_times_of bytes =
 
 -- the three times in what the reader answers
 abbrev pub times_in : Answer → ThreeTimes
-times_in (Answer.Read header) = times header.times.pts header.times.decoding header.times.matching
-times_in (Answer.Refused refusal) = refused refusal
+times_in (Ok header) = times header.times.pts header.times.decoding header.times.matching
+times_in (Err refusal) = refused refusal

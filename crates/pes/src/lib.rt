@@ -2,6 +2,6 @@
 // two: what was written is read back, and what was read is written again.
 #![tactic(auto)]
 
-pub use pes_reader::{Answer, Header, read};
-pub use pes_writer::{Written, write};
+pub use pes_reader::{Header, read};
+pub use pes_writer::write;
 pub use stamps::Times;

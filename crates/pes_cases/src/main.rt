@@ -4,14 +4,13 @@
 // documents 01 and 02.
 #![tactic(auto)]
 
-ghost use Rattle.std.specs.Prelude.{◌≤◌};
-
 use cases::{number_or, numbers_of, say, say_number};
-use pes::{Answer, Header, Times, Written};
+use pes::{Header, Times};
 use std::io::{self, Result, Write};
+use vocabulary::Refusal;
 
-fn say_refused<W: Write>(out: &mut W, refusal: vocabulary::Refusal) -> Result<()> {
-    say_number(out, b"refused ", vocabulary::number(refusal) as u64)
+fn say_refused<W: Write>(out: &mut W, refusal: Refusal) -> Result<()> {
+    say_number(out, b"refused ", vocabulary::number(refusal))
 }
 
 fn say_times<W: Write>(out: &mut W, times: Times) -> Result<()> {
@@ -27,18 +26,12 @@ fn say_header<W: Write>(out: &mut W, header: Header) -> Result<()> {
     } else {
         say(out, b", no TREF")?;
     }
-    say_number(out, b", ends at ", header.end as u64)
-}
-
-fn say_byte<W: Write>(out: &mut W, byte: u8) -> Result<()> {
-    write!(out, " {byte:02x}")
+    say_number(out, b", ends at ", header.end)
 }
 
 fn say_bytes<W: Write>(out: &mut W, bytes: &[u8]) -> Result<()> {
-    let mut i = 0;
-    while i < bytes.len() {
-        say_byte(out, bytes[i])?;
-        i += 1;
+    for byte in bytes {
+        write!(out, " {byte:02x}")?;
     }
     Ok(())
 }
@@ -47,35 +40,26 @@ fn say_bytes<W: Write>(out: &mut W, bytes: &[u8]) -> Result<()> {
 fn read<W: Write>(out: &mut W, header: &[u8]) -> Result<()> {
     let answer = pes::read(header);
     match answer {
-        Answer::Read(header) => say_header(out, header)?,
-        Answer::Refused(refusal) => say_refused(out, refusal)?,
+        Ok(header) => say_header(out, header)?,
+        Err(refusal) => say_refused(out, refusal)?,
     }
     Ok(())
-}
-
-fn read_header<W: Write>(out: &mut W, count: usize, room: [u8; 2048]) -> Result<()>
-    requires { count ≤ 2048 }
-{
-    read(out, &room[..count])
 }
 
 fn read_case<W: Write>(out: &mut W, words: &[u8]) -> Result<()> {
     let mut room = cases::empty_room();
-    let found = cases::read_bytes(words, &mut room);
-    if found.readable {
-        read_header(out, found.count, room)?;
-    } else {
-        say(out, b"unreadable")?;
+    match cases::read_bytes(words, &mut room) {
+        Some(count) => read(out, &room[..count]),
+        None => say(out, b"unreadable"),
     }
-    Ok(())
 }
 
 // Three times, whether a TREF is asked for and a buffer, what the writer answers, and the whole buffer after it.
 fn write<W: Write>(out: &mut W, times: Times, with_tref: bool, buffer: &mut [u8]) -> Result<()> {
     let written = pes::write(times, with_tref, buffer);
     match written {
-        Written::Bytes(n) => say_number(out, b"bytes ", n as u64)?,
-        Written::Refused(refusal) => say_refused(out, refusal)?,
+        Ok(n) => say_number(out, b"bytes ", n)?,
+        Err(refusal) => say_refused(out, refusal)?,
     }
     say(out, b" leaves")?;
     say_bytes(out, buffer)
@@ -105,37 +89,21 @@ fn write_case<W: Write>(out: &mut W, words: &[u8]) -> Result<()> {
 // A line of the input: its name is repeated, and what stands after the colon is the case. A blank parts the two, and so the numbers of a
 // word that starts with it count from 1.
 fn answer_line<W: Write>(out: &mut W, line: &[u8]) -> Result<()> {
-    if line.len() == 0 {
+    let Some(kind) = line.first() else {
         return Ok(());
-    }
+    };
     let name = cases::first_part(b':', line);
-    let size = name.size;
-    let case = name.step;
-    say(out, &line[..size])?;
+    let case = &line[name.step..];
+    say(out, &line[..name.size])?;
     say(out, b": ")?;
-    if line[0] == b'r' {
-        read_case(out, &line[case..])?;
+    if *kind == b'r' {
+        read_case(out, case)?;
     } else {
-        write_case(out, &line[case..])?;
+        write_case(out, case)?;
     }
     say(out, b"\n")
 }
 
-fn answer_lines<W: Write>(out: &mut W, text: &[u8]) -> Result<()> {
-    let mut at = 0;
-    while at < text.len() {
-        let rest = &text[at..];
-        let line = cases::first_part(b'\n', rest);
-        let size = line.size;
-        answer_line(out, &rest[..size])?;
-        at += line.step;
-    }
-    Ok(())
-}
-
 fn main(rt: HostRuntime) -> Result<()> {
-    let mut buffer = [0u8; 65536];
-    let mut out = io::writer(&rt);
-    let count = cases::read_cases(&mut rt.reader(), &mut out, &mut buffer)?;
-    answer_lines(&mut out, &buffer[..count])
+    cases::answer_cases(&mut rt.reader(), &mut io::writer(&rt), answer_line)
 }

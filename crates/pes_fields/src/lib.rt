@@ -18,13 +18,6 @@ pub enum Extension {
     WithTref(Stamp),
 }
 
-// A byte as a number of bytes.
-pub fn wide(byte: u8) -> usize
-    ensures { result ≡ byte }
-{
-    byte as usize
-}
-
 // Within PES_extension_field_length: stream_id_extension_flag, tref_extension_flag and TREF.
 fn extension_field(marked: bool, field: &[u8]) -> Extension
     ensures { result ≡ extension_field_of marked field.now }
@@ -45,7 +38,7 @@ fn extension_field(marked: bool, field: &[u8]) -> Extension
     let tref = stamps::unprefixed(&field[1..]);
     Extension::WithTref(Stamp {
         marked: marked & tref.marked,
-        time: tref.time,
+        ..tref
     })
 }
 
@@ -57,7 +50,7 @@ fn second_extension(bytes: &[u8]) -> Extension
         return Extension::DoesNotFit;
     }
     let first = bytes[0];
-    let end = 1 + wide(first % 128);
+    let end = 1 + usize::from(first % 128);
     if bytes.len() < end {
         return Extension::DoesNotFit;
     }
@@ -68,7 +61,7 @@ fn second_extension(bytes: &[u8]) -> Extension
 fn after_pack_header(flags: u8, bytes: &[u8]) -> Extension
     ensures { result ≡ after_pack_header flags bytes.now }
 {
-    let at = 2 * wide(flags / 32 % 2) + 2 * wide(flags / 16 % 2);
+    let at = 2 * usize::from(flags / 32 % 2) + 2 * usize::from(flags / 16 % 2);
     if bytes.len() < at {
         return Extension::DoesNotFit;
     }
@@ -88,7 +81,7 @@ fn after_private_data(flags: u8, bytes: &[u8]) -> Extension
     if bytes.len() < 1 {
         return Extension::DoesNotFit;
     }
-    let at = 1 + wide(bytes[0]);
+    let at = 1 + usize::from(bytes[0]);
     if bytes.len() < at {
         return Extension::DoesNotFit;
     }
@@ -103,7 +96,7 @@ fn extension_of(bytes: &[u8]) -> Extension
         return Extension::DoesNotFit;
     }
     let flags = bytes[0];
-    let at = 1 + 16 * wide(flags / 128);
+    let at = 1 + 16 * usize::from(flags / 128);
     if bytes.len() < at {
         return Extension::DoesNotFit;
     }
@@ -113,7 +106,7 @@ fn extension_of(bytes: &[u8]) -> Extension
 fn dts_flag(pts_dts_flags: u8) -> usize
     ensures { result ≡ dts_flag pts_dts_flags }
 {
-    if pts_dts_flags == 3 { 1 } else { 0 }
+    usize::from(pts_dts_flags == 3)
 }
 
 // The bytes of the fields before the extension: PTS, DTS, ESCR, ES rate, trick mode, copy info and CRC.
@@ -121,11 +114,11 @@ fn before_extension(flags: u8) -> usize
     ensures { result ≡ sum (field_bytes (flags_of packet_flags flags)) }
 {
     5 + 5 * dts_flag(flags / 64)
-        + 6 * wide(flags / 32 % 2)
-        + 3 * wide(flags / 16 % 2)
-        + wide(flags / 8 % 2)
-        + wide(flags / 4 % 2)
-        + 2 * wide(flags / 2 % 2)
+        + 6 * usize::from(flags / 32 % 2)
+        + 3 * usize::from(flags / 16 % 2)
+        + usize::from(flags / 8 % 2)
+        + usize::from(flags / 4 % 2)
+        + 2 * usize::from(flags / 2 % 2)
 }
 
 // The header data whole, from PTS on.

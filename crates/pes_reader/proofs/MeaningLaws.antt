@@ -1,5 +1,6 @@
 -- The reader's definition answers what a header means, and nothing else does: for any bytes there is exactly one answer.
 -- Assumes nothing.
+use Rattle.std.specs.Prelude.{Err, Ok}
 use Prim.Native.Nat.{ℕ, ◌≤◌}
 use mathlib.Core.Path.{◌≡◌, refl, sym, ap, ap₂, subst, ◌∙◌}
 use mathlib.Core.Bool.{Bool, true, false, cond}
@@ -23,8 +24,7 @@ use Rattle.pes_fields.specs.declared.Extension.TheVariants.{DoesNotFit, WithoutT
 use Rattle.pes_reader.specs.Reading.{is_video_header, data_of, end_of, judged, marks_of, match_of, sent_of, header_of, said_by, fields_of, video_header_of, read_of}
 use Rattle.pes_reader.specs.Meaning.{VideoHeader, LaidOut, Answers, not_video_header, no_pts, fields_do_not_fit, wrong_marker, pts_before_dts_lem, says}
 use Rattle.pes_reader.proofs.VideoLaws.{video_is, video_only}
-use Rattle.pes_reader.specs.declared.Answer.{Answer}
-use Rattle.pes_reader.specs.declared.Answer.TheVariants.{Read, Refused}
+use Rattle.pes_reader.specs.Answer.{Answer}
 
 -- the case of a header whose fields fit
 judged_header : (end : ℕ) (stamps : Stamps) (given : Extension) → (given ≡ DoesNotFit → ⊥)
@@ -52,11 +52,11 @@ module _ (l : List ℕ) where
       }
 
   -- the answer, test by test
-  by_video : (t : Bool) → is_video_header l ≡ t → read_of l ≡ cond t (video_header_of l) (Refused NotVideoHeader)
-  by_video t e = ap (λ (t : Bool). cond t (video_header_of l) (Refused NotVideoHeader)) e
+  by_video : (t : Bool) → is_video_header l ≡ t → read_of l ≡ cond t (video_header_of l) (Err NotVideoHeader)
+  by_video t e = ap (λ (t : Bool). cond t (video_header_of l) (Err NotVideoHeader)) e
 
-  by_flags : (t : Bool) → leb 0b10 pts_dts_flags ≡ t → video_header_of l ≡ cond t (fields_of (end_of l) flags (data_of l)) (Refused NoPts)
-  by_flags t e = ap (λ (t : Bool). cond t (fields_of (end_of l) flags (data_of l)) (Refused NoPts)) e
+  by_flags : (t : Bool) → leb 0b10 pts_dts_flags ≡ t → video_header_of l ≡ cond t (fields_of (end_of l) flags (data_of l)) (Err NoPts)
+  by_flags t e = ap (λ (t : Bool). cond t (fields_of (end_of l) flags (data_of l)) (Err NoPts)) e
 
   a_header : VideoHeader l → 0b10 ≤ pts_dts_flags → read_of l ≡ fields_of (end_of l) flags (data_of l)
   a_header video flagged = by_video true (video_only l video) ∙ by_flags true (le-leb 0b10 pts_dts_flags flagged)
@@ -69,10 +69,10 @@ module _ (l : List ℕ) where
         ∙ judged_header (end_of l) stamps given (header_data_fits laid.fields)
 
     judged_by : (m : Bool) → marks_of stamps given ≡ m → (b : Bool) → is_before stamps.pts stamps.decoding ≡ b
-        → read_of l ≡ cond m (cond b (Refused PtsBeforeDts) (Read (header_of stamps (match_of stamps given) (sent_of given) (end_of l)))) (Refused WrongMarker)
+        → read_of l ≡ cond m (cond b (Err PtsBeforeDts) (Ok (header_of stamps (match_of stamps given) (sent_of given) (end_of l)))) (Err WrongMarker)
     judged_by m e b f =
         laid_answer
-        ∙ ap₂ (λ (m b : Bool). cond m (cond b (Refused PtsBeforeDts) (Read (header_of stamps (match_of stamps given) (sent_of given) (end_of l)))) (Refused WrongMarker)) e f
+        ∙ ap₂ (λ (m b : Bool). cond m (cond b (Err PtsBeforeDts) (Ok (header_of stamps (match_of stamps given) (sent_of given) (end_of l)))) (Err WrongMarker)) e f
 
   no_fields : ((pts dts : List ℕ) (given : Extension) → HeaderData flags (data_of l) pts dts given → ⊥) → (x : Extension)
       → header_data_of flags (data_of l) ≡ x → header_data_of flags (data_of l) ≡ DoesNotFit
@@ -88,7 +88,7 @@ module _ (l : List ℕ) where
   pub answers_only : {answer : Answer} → Answers l answer → answer ≡ read_of l
   answers_only (not_video_header none) = sym (refused (is_video_header l) refl)
     where
-      refused : (t : Bool) → is_video_header l ≡ t → read_of l ≡ Refused NotVideoHeader
+      refused : (t : Bool) → is_video_header l ≡ t → read_of l ≡ Err NotVideoHeader
       refused true e = absurd (none (video_is l e))
       refused false e = by_video false e
   answers_only (no_pts video below) = sym (by_video true (video_only l video) ∙ by_flags false (lt-leb 0b10 pts_dts_flags below))

@@ -1,7 +1,7 @@
 -- What the reader answers for any bytes: the three times, whether a TREF stood there and where the header ends, or the lowest refusal of 20 to 24
 -- that applies.
 -- Assumes nothing.
-use Rattle.std.specs.Prelude.{ℕ, ◌+◌, Bool, true, false, cond, ◌&&◌, List, leb, length, take, drop}
+use Rattle.std.specs.Prelude.{ℕ, ◌+◌, Bool, true, false, cond, ◌&&◌, List, leb, length, take, drop, Err, Ok}
 use Rattle.syntax.specs.Table.{number, fixed_hold}
 use Rattle.syntax.specs.Named.{named}
 use Rattle.clock.specs.Clock.{is_before}
@@ -12,8 +12,7 @@ use Rattle.pes_fields.specs.Tables.{head}
 use Rattle.pes_fields.specs.HeaderData.{Flags, flags_of, header_data_of}
 use Rattle.pes_fields.specs.declared.Extension.{Extension}
 use Rattle.pes_fields.specs.declared.Extension.TheVariants.{DoesNotFit, WithoutTref, WithTref}
-use Rattle.pes_reader.specs.declared.Answer.{Answer}
-use Rattle.pes_reader.specs.declared.Answer.TheVariants.{Read, Refused}
+use Rattle.pes_reader.specs.Answer.{Answer}
 use Rattle.pes_reader.specs.declared.Header.{Header}
 
 -- '20: fewer than 9 bytes, prefix not 00 00 01, stream_id outside 0xE0 to 0xEF, the next two bits after the length not '10', or
@@ -37,7 +36,7 @@ end_of bytes = 9 + named "PES_header_data_length" head (number 9 bytes)
 -- 23 before 24, and else what the header says
 abbrev pub judged : Bool → Header → Answer
 judged marked header =
-    cond marked (cond (is_before header.times.pts header.times.decoding) (Refused PtsBeforeDts) (Read header)) (Refused WrongMarker)
+    cond marked (cond (is_before header.times.pts header.times.decoding) (Err PtsBeforeDts) (Ok header)) (Err WrongMarker)
 
 -- whether all markers and prefixes are right
 abbrev pub marks_of : Stamps → Extension → Bool
@@ -64,7 +63,7 @@ header_of stamps matching sent end =
 
 -- 22 before 23 and 24
 abbrev pub said_by : ℕ → Stamps → Extension → Answer
-said_by end stamps DoesNotFit = Refused FieldsDoNotFit
+said_by end stamps DoesNotFit = Err FieldsDoNotFit
 said_by end stamps (WithoutTref marked) = judged (stamps.marked && marked) (header_of stamps stamps.decoding false end)
 said_by end stamps (WithTref tref) = judged (stamps.marked && tref.marked) (header_of stamps tref.time true end)
 
@@ -76,8 +75,8 @@ abbrev pub video_header_of : List ℕ → Answer
 video_header_of bytes =
     cond (leb 0b10 (named "PTS_DTS_flags" head (number 9 bytes)))
     (fields_of (end_of bytes) (flags_of head (number 9 bytes)) (data_of bytes))
-    (Refused NoPts)
+    (Err NoPts)
 
 -- The reader's whole answer.
 abbrev pub read_of : List ℕ → Answer
-read_of bytes = cond (is_video_header bytes) (video_header_of bytes) (Refused NotVideoHeader)
+read_of bytes = cond (is_video_header bytes) (video_header_of bytes) (Err NotVideoHeader)

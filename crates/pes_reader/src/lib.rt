@@ -21,13 +21,6 @@ pub struct Header {
     pub end: usize,
 }
 
-// A header that was read, or why it is refused.
-#[derive(Clone, Copy)]
-pub enum Answer {
-    Read(Header),
-    Refused(Refusal),
-}
-
 // packet_start_code_prefix
 fn starts_a_packet(bytes: &[u8]) -> bool
     requires { 3 ≤ length bytes.now }
@@ -56,20 +49,20 @@ fn is_video_header(bytes: &[u8]) -> bool
     if 0xEF < bytes[3] {
         return false;
     }
-    9 + pes_fields::wide(bytes[8]) <= bytes.len()
+    9 + usize::from(bytes[8]) <= bytes.len()
 }
 
 // 23 before 24, and else what the header says.
-fn judge(marked: bool, header: Header) -> Answer
+fn judge(marked: bool, header: Header) -> Result<Header, Refusal>
     ensures { result ≡ judged marked header }
 {
     if !marked {
-        return Answer::Refused(Refusal::WrongMarker);
+        return Err(Refusal::WrongMarker);
     }
     if clock::before(header.times.pts, header.times.decoding) {
-        return Answer::Refused(Refusal::PtsBeforeDts);
+        return Err(Refusal::PtsBeforeDts);
     }
-    Answer::Read(header)
+    Ok(header)
 }
 
 // What a header says that has these times, of which the match time is TREF where one was sent.
@@ -88,12 +81,12 @@ fn header_of(stamps: Stamps, matching: u64, tref_sent: bool, end: usize) -> Head
 }
 
 // The header data, where there is a PTS: all lengths are settled before a marker is judged.
-fn read_fields(end: usize, flags: u8, bytes: &[u8]) -> Answer
+fn read_fields(end: usize, flags: u8, bytes: &[u8]) -> Result<Header, Refusal>
     ensures { result ≡ fields_of end (flags_of packet_flags flags) bytes.now }
 {
     let extension = pes_fields::header_data(flags, bytes);
     match extension {
-        Extension::DoesNotFit => Answer::Refused(Refusal::FieldsDoNotFit),
+        Extension::DoesNotFit => Err(Refusal::FieldsDoNotFit),
         Extension::WithoutTref(marked) => {
             let stamps = stamps::pts_and_dts(flags / 64, bytes);
             judge(
@@ -112,16 +105,16 @@ fn read_fields(end: usize, flags: u8, bytes: &[u8]) -> Answer
 }
 
 // What a PES header says, whatever the bytes are.
-pub fn read(bytes: &[u8]) -> Answer
+pub fn read(bytes: &[u8]) -> Result<Header, Refusal>
     ensures { result ≡ read_of bytes.now }
 {
     if !is_video_header(bytes) {
-        return Answer::Refused(Refusal::NotVideoHeader);
+        return Err(Refusal::NotVideoHeader);
     }
     let flags = bytes[7];
     if flags < 128 {
-        return Answer::Refused(Refusal::NoPts);
+        return Err(Refusal::NoPts);
     }
-    let end = 9 + pes_fields::wide(bytes[8]);
+    let end = 9 + usize::from(bytes[8]);
     read_fields(end, flags, &bytes[9..end])
 }

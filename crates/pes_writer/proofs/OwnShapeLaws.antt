@@ -1,6 +1,7 @@
 -- The header that the writer's definition makes is in its own shape, and no other bytes of that shape have the same times. So the
 -- writer's definition does what a writer has to, and nothing else does.
 -- Assumes nothing.
+use Rattle.std.specs.Prelude.{Err, Ok}
 use Prim.Native.Nat.{ℕ, ◌/◌, ◌%◌, ◌^◌, ◌≤◌, ◌<◌}
 use mathlib.Core.Path.{◌≡◌, refl, sym, ap, ap₂, subst, ◌∙◌}
 use mathlib.Core.Bool.{Bool, true, false, cond}
@@ -24,8 +25,7 @@ use Rattle.pes_writer.specs.Writing.{time_fields, tref_fields, data_fields, head
 use Rattle.pes_writer.proofs.WritingLaws.{times_at_most, tref_length_lem, tref_at_most, data_length, flags_below, extension_below, narrow, narrow_only}
 use Rattle.pes_writer.specs.OwnShape.{OwnTimes, alone, both, OwnExtension, with_tref as tref_added, OwnShape, Narrow, Writes, too_wide_lem, no_room, pts_before_dts_lem}
 use Rattle.pes_writer.specs.OwnShape as own
-use Rattle.pes_writer.specs.declared.Written as answer
-use Rattle.pes_writer.specs.declared.Written.TheVariants.{Bytes, Refused}
+use Rattle.pes_writer.specs.Answer.{Written}
 
 -- ---- values that fit their tables
 
@@ -148,20 +148,20 @@ module _ (times : Times) (with_tref : Bool) (out : List ℕ) where
 
   -- the answer, test by test
   pub by_tests : (w r b : Bool) → too_wide times with_tref ≡ w → leb (length header) (length out) ≡ r → is_before times.pts times.decoding ≡ b
-      → write_of times with_tref (length out) ≡ cond w (Refused TooWide) (cond r (cond b (Refused PtsBeforeDts) (Bytes (length header))) (Refused NoRoom))
+      → write_of times with_tref (length out) ≡ cond w (Err TooWide) (cond r (cond b (Err PtsBeforeDts) (Ok (length header))) (Err NoRoom))
   by_tests w r b e f g =
-      ap (λ (w : Bool). cond w (Refused TooWide) (cond (leb (length header) (length out)) (cond (is_before times.pts times.decoding) (Refused PtsBeforeDts) (Bytes (length header))) (Refused NoRoom))) e
-      ∙ ap₂ (λ (r b : Bool). cond w (Refused TooWide) (cond r (cond b (Refused PtsBeforeDts) (Bytes (length header))) (Refused NoRoom))) f g
+      ap (λ (w : Bool). cond w (Err TooWide) (cond (leb (length header) (length out)) (cond (is_before times.pts times.decoding) (Err PtsBeforeDts) (Ok (length header))) (Err NoRoom))) e
+      ∙ ap₂ (λ (r b : Bool). cond w (Err TooWide) (cond r (cond b (Err PtsBeforeDts) (Ok (length header))) (Err NoRoom))) f g
 
   -- both parts of what is promised
-  abbrev Promised : answer.Written → List ℕ → Type 0
+  abbrev Promised : Written → List ℕ → Type 0
   Promised r exit = (r ≡ write_of times with_tref (length out)) × (exit ≡ buffer_of r header out)
 
   wide : (t : Bool) → too_wide times with_tref ≡ t → (Narrow times with_tref → ⊥) → too_wide times with_tref ≡ true
   wide true e not_narrow = e
   wide false e not_narrow = absurd (not_narrow (narrow times with_tref e))
 
-  pub writes_only : {r : answer.Written} {exit : List ℕ} → Writes times with_tref out r exit → Promised r exit
+  pub writes_only : {r : Written} {exit : List ℕ} → Writes times with_tref out r exit → Promised r exit
   writes_only (too_wide_lem not_narrow) =
       (sym (by_tests true (leb (length header) (length out)) (is_before times.pts times.decoding) (wide (too_wide times with_tref) refl not_narrow) refl refl), refl)
   writes_only (no_room n o short) =
@@ -169,13 +169,13 @@ module _ (times : Times) (with_tref : Bool) (out : List ℕ) where
   writes_only (pts_before_dts_lem n o room b) =
       (sym (by_tests false true true (narrow_only n) (le-leb (length header) (length out) (rw (own_only o) at room)) b), refl)
   writes_only (own.written {header = h} n o room b) = (
-    ap (λ (l : List ℕ). Bytes (length l)) (own_only o)
+    ap (λ (l : List ℕ). Ok (length l)) (own_only o)
         ∙ sym (by_tests false true false (narrow_only n) (le-leb (length header) (length out) (rw (own_only o) at room)) b),
     ap (λ (l : List ℕ). over l out) (own_only o),
   )
 
   record Some : Type 0 where
-    answer : answer.Written
+    answer : Written
     exit : List ℕ
     is : Writes times with_tref out answer exit
 
@@ -201,5 +201,5 @@ module _ (times : Times) (with_tref : Bool) (out : List ℕ) where
   writes_is =
       let some : Some = by_width (too_wide times with_tref) refl in
       let promised : Promised some.answer some.exit = writes_only some.is in
-      subst (λ (r : answer.Written). Writes times with_tref out r (buffer_of r header out)) promised.0
+      subst (λ (r : Written). Writes times with_tref out r (buffer_of r header out)) promised.0
       (subst (Writes times with_tref out some.answer) promised.1 some.is)

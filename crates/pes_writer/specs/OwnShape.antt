@@ -3,7 +3,7 @@
 -- `WrittenBy t given l` says of bytes l that they are a table t whole, each line with what its name is given, its fixed bits and its reserved
 -- bits 1.
 -- Assumes nothing.
-use Rattle.std.specs.Prelude.{ℕ, ◌≤◌, ◌<◌, ◌≡◌, Bool, true, false, List, [], ◌∷◌, ◌++◌, length}
+use Rattle.std.specs.Prelude.{ℕ, ◌≤◌, ◌<◌, ◌≡◌, Bool, true, false, List, [], ◌∷◌, ◌++◌, length, Err, Ok}
 use Rattle.buffers.specs.Buffers.{over}
 use Rattle.syntax.specs.Named.{WrittenBy}
 use Rattle.clock.specs.Clock.{ticks, is_before}
@@ -16,8 +16,7 @@ use Rattle.pes_fields.specs.Tables as Tables
 use Rattle.pes_fields.specs.Tables.{extension_flags, second_extension, tref_extension}
 use Rattle.pes_fields.specs.Meaning.{in_order}
 use Rattle.pes_writer.specs.Writing.{second_alone, six_bytes, tref_follows, head_given}
-use Rattle.pes_writer.specs.declared.Written as answer
-use Rattle.pes_writer.specs.declared.Written.TheVariants.{Bytes, Refused}
+use Rattle.pes_writer.specs.Answer.{Written}
 
 -- PTS_DTS_flags, the bytes of PTS and DTS, PTS and decoding time
 pub data OwnTimes : ℕ → List ℕ → ℕ → ℕ → Type 0 where
@@ -54,13 +53,13 @@ pub record Narrow (times : Times) (with_tref : Bool) : Type 0 where
 
 -- What the writer has to answer and leave in the buffer: 25, 17, 24 where each applies and none before it does, and else the header
 -- at the front, with the room beyond it untouched.
-pub data Writes (times : Times) (with_tref : Bool) (out : List ℕ) : answer.Written → List ℕ → Type 0 where
-  too_wide_lem : (Narrow times with_tref → ⊥) → Writes times with_tref out (Refused TooWide) out
+pub data Writes (times : Times) (with_tref : Bool) (out : List ℕ) : Written → List ℕ → Type 0 where
+  too_wide_lem : (Narrow times with_tref → ⊥) → Writes times with_tref out (Err TooWide) out
   no_room : {header : List ℕ} → Narrow times with_tref → OwnShape header times with_tref → length out < length header
-      → Writes times with_tref out (Refused NoRoom) out
+      → Writes times with_tref out (Err NoRoom) out
   pts_before_dts_lem : {header : List ℕ} → Narrow times with_tref → OwnShape header times with_tref → length header ≤ length out
       → is_before times.pts times.decoding ≡ true
-      → Writes times with_tref out (Refused PtsBeforeDts) out
+      → Writes times with_tref out (Err PtsBeforeDts) out
   written : {header : List ℕ} → Narrow times with_tref → OwnShape header times with_tref → length header ≤ length out
       → is_before times.pts times.decoding ≡ false
-      → Writes times with_tref out (Bytes (length header)) (over header out)
+      → Writes times with_tref out (Ok (length header)) (over header out)

@@ -1,7 +1,7 @@
 -- What the writer makes of three times and of its caller's choice whether a TREF is sent: 'stream id 0xE0, packet length 0, byte 0x84, a DTS only
 -- if it differs from PTS', a TREF exactly when asked for (document 02, W-213), 'and no other field'.
 -- Assumes nothing.
-use Rattle.std.specs.Prelude.{ℕ, Bool, cond, not, ◌&&◌, ◌||◌, List, [], ◌∷◌, ◌++◌, eqb, leb, length}
+use Rattle.std.specs.Prelude.{ℕ, Bool, cond, not, ◌&&◌, ◌||◌, List, [], ◌∷◌, ◌++◌, eqb, leb, length, Err, Ok}
 use Rattle.buffers.specs.Buffers.{over}
 use Rattle.syntax.specs.Named.{Given, write_by}
 use Rattle.clock.specs.Clock.{ticks, is_before}
@@ -10,8 +10,7 @@ use Rattle.stamps.specs.Tables.{pts_alone, pts_before_dts, dts, tref}
 use Rattle.stamps.specs.Stamps.{time_field}
 use Rattle.stamps.specs.declared.Times.{Times}
 use Rattle.pes_fields.specs.Tables.{head, extension_flags, second_extension, tref_extension}
-use Rattle.pes_writer.specs.declared.Written.{Written}
-use Rattle.pes_writer.specs.declared.Written.TheVariants.{Bytes, Refused}
+use Rattle.pes_writer.specs.Answer.{Written}
 
 -- PTS, and DTS if it differs
 abbrev pub time_fields : ℕ → ℕ → List ℕ
@@ -78,12 +77,12 @@ too_wide times with_tref =
 -- 'Writers test 25 before all else', and then the lowest number: 17 for the room, 24. The answer is the number of bytes written.
 abbrev pub write_of : Times → Bool → ℕ → Written
 write_of times with_tref room =
-    cond (too_wide times with_tref) (Refused TooWide)
+    cond (too_wide times with_tref) (Err TooWide)
     (cond (leb (length (header_of times with_tref)) room)
-    (cond (is_before times.pts times.decoding) (Refused PtsBeforeDts) (Bytes (length (header_of times with_tref))))
-    (Refused NoRoom))
+    (cond (is_before times.pts times.decoding) (Err PtsBeforeDts) (Ok (length (header_of times with_tref))))
+    (Err NoRoom))
 
 -- 'every output buffer is untouched' on a refusal, and on acceptance 'the room beyond what was written'
 abbrev pub buffer_of : Written → List ℕ → List ℕ → List ℕ
-buffer_of (Bytes n) header out = over header out
-buffer_of (Refused refusal) header out = out
+buffer_of (Ok n) header out = over header out
+buffer_of (Err refusal) header out = out

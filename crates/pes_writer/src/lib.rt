@@ -12,13 +12,6 @@ use buffers::put_whole;
 use stamps::Times;
 use vocabulary::Refusal;
 
-// The number of bytes written, or why nothing was.
-#[derive(Clone, Copy)]
-pub enum Written {
-    Bytes(usize),
-    Refused(Refusal),
-}
-
 // The nine bytes before the header data.
 fn head_of(pts_dts_flags: u8, extension_flag: u8, data_length: u8) -> [u8; 9]
     requires { (pts_dts_flags < 4) × (extension_flag < 2) }
@@ -98,7 +91,7 @@ fn pts_dts_flags(pts: u64, decoding: u64) -> u8
 fn extension_flag(with_tref: bool) -> u8
     ensures { result ≡ extension_flag_of with_tref }
 {
-    if with_tref { 1 } else { 0 }
+    u8::from(with_tref)
 }
 
 // The head for the times.
@@ -136,19 +129,19 @@ fn any_too_wide(times: Times, with_tref: bool) -> bool
 }
 
 // Writes the header of three times to the front of the buffer, with a TREF exactly when asked for one.
-pub fn write(times: Times, with_tref: bool, out: &mut [u8]) -> Written
+pub fn write(times: Times, with_tref: bool, out: &mut [u8]) -> Result<usize, Refusal>
     ensures value { result ≡ write_of times with_tref (length out.old) }
     ensures out_after { out.new ≡ buffer_of result (header_of times with_tref) out.old }
 {
     if any_too_wide(times, with_tref) {
-        return Written::Refused(Refusal::TooWide);
+        return Err(Refusal::TooWide);
     }
-    let length = 9 + data_length(times, with_tref) as usize;
+    let length = 9 + usize::from(data_length(times, with_tref));
     if out.len() < length {
-        return Written::Refused(Refusal::NoRoom);
+        return Err(Refusal::NoRoom);
     }
     if clock::before(times.pts, times.decoding) {
-        return Written::Refused(Refusal::PtsBeforeDts);
+        return Err(Refusal::PtsBeforeDts);
     }
-    Written::Bytes(put_header(out, times, with_tref))
+    Ok(put_header(out, times, with_tref))
 }

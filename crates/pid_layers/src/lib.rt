@@ -17,7 +17,7 @@ fn put_layer(present: u64, index: usize, pid: u16, table: &mut [u8; 8192])
     if !sets::member(present, index) {
         return;
     }
-    let place = pid as usize;
+    let place = usize::from(pid);
     if PIDS <= place {
         return;
     }
@@ -29,10 +29,8 @@ pub fn layers_by_pid(present: u64, pids: &[u16; 64]) -> [u8; 8192]
     ensures { result ≡ layers_by_pid present pids.now }
 {
     let mut table = [255u8; 8192];
-    let mut index = 0;
-    while index < 64 {
-        put_layer(present, index, pids[index], &mut table);
-        index += 1;
+    for (index, pid) in pids.iter().enumerate() {
+        put_layer(present, index, *pid, &mut table);
     }
     table
 }

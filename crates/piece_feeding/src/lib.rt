@@ -7,7 +7,6 @@ ghost use Rattle.recording_rows.specs.Columns.{columns, room_in};
 ghost use Rattle.feeding.specs.Pieces.{Ready, Feeds};
 ghost use Rattle.piece_feeding.specs.Told.{starts_with, found_at_end};
 
-use combinators::lesser;
 use feeding::Progress;
 use packets::PACKET_BYTES;
 use scanning::Event;
@@ -35,7 +34,7 @@ pub fn feed(
         result part.new kept.new ends.new
         (columns indices.new decodings.new matches.new trefs.new numbers.new) }
 {
-    let count = lesser(PACKET_BYTES - progress.part, bytes.len());
+    let count = (PACKET_BYTES - progress.part).min(bytes.len());
     let first = feeding::feed_front(
         table,
         &bytes[..count],

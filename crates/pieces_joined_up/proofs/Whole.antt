@@ -1,5 +1,6 @@
 -- THE THEOREM, by induction on the pieces: a state that was fed stands for what is known after them, and the columns hold their rows.
 -- Assumes nothing.
+use Rattle.std.specs.Prelude.{Err, Ok}
 use Prim.Native.Nat.{ℕ, ◌+◌, ◌-◌, ◌*◌, ◌/◌, ◌≤◌, min}
 use mathlib.Core.Path.{◌≡◌, refl, sym, ap, ap₂, subst, ◌∙◌}
 use mathlib.Core.Bool.{Bool, true, false, cond, ◌&&◌, ◌||◌}
@@ -20,14 +21,13 @@ use Rattle.scanning.specs.Events.{packets_in}
 use Rattle.unit_starts.specs.declared.Found.{Found}
 use Rattle.unit_starts.specs.Finding.{packet_in, noted, found_in}
 use Rattle.unit_starts.proofs.Running.{rows_counted_from, rows_counted}
-use Rattle.es_loop.specs.declared.reader.Outcome.{Outcome}
-use Rattle.es_loop.specs.declared.reader.Outcome.TheVariants.{Accepted}
+use Rattle.es_loop.specs.Answer.{Outcome}
 use Rattle.recording_rows.specs.Columns.{Columns, columns, room_in, over_all, index_in, decoding_in, match_in, tref_in}
-use Rattle.recordings.specs.declared.Recording.{Recording}
-use Rattle.recordings.specs.declared.Recording.TheVariants.{TooManyRows, Faulty, NotRead}
+use Rattle.recordings.specs.Answer.{Recording}
+use Rattle.recordings.specs.declared.RecordingFault.TheVariants.{TooManyRows, Faulty, NotRead as HeaderNotRead}
 use Rattle.recordings.specs.Reading.{fault_of, header_refusal, answer_of}
-use Rattle.recording_imports.specs.declared.RowsRead.{RowsRead}
-use Rattle.recording_imports.specs.declared.RowsRead.TheVariants.{Rows, Refused, NotRead as HeaderNotRead}
+use Rattle.recording_imports.specs.Answer.{RowsRead}
+use Rattle.recording_imports.specs.declared.Unread.TheVariants.{Refused, NotRead}
 use Rattle.recording_imports.specs.Rows.{loop_layers, pid_table, rows_of, rows_told, rows_for, rows_under, columns_under}
 use Rattle.passing.specs.Passing.{stored_from, with_room}
 use Rattle.fed_packets.specs.Feeding.{Progress as Known, at_first, packets_whole, whole_of, fed, rows_fed, fed_all, rows_fed_all, joined_up}
@@ -109,7 +109,7 @@ standing_of table room pieces =
     record { table = table; known = fed_all table at_first pieces; overflown = ltb room (fed_all table at_first pieces).found.rows }
 
 pub record Reached (bytes : List ℕ) (before : Columns) (pieces : List (List ℕ)) (state counts : List ℕ) (after : Columns) : Type 0 where
-  pub accepts : (loop_layers bytes).outcome ≡ Accepted
+  pub accepts : (loop_layers bytes).outcome ≡ Ok tt
   pub is_one : is_state state counts ≡ true
   pub stands : standing state counts ≡ standing_of (pid_table bytes) (room_in before) pieces
   pub laid : after ≡ stored_from 0 (with_room (room_in before) 0 (rows_fed_all (pid_table bytes) at_first pieces)) before
@@ -129,7 +129,7 @@ over_long table state t e =
     sums : (a b : ℕ) {c d : ℕ} → c ≡ a + d → d ≡ b - a → a ≡ 8192 → b ≡ state_bytes → c ≡ state_bytes
     sums a b r s p q = omega arith
 
-module _ (bytes state counts : List ℕ) (before : Columns) (accepts : (loop_layers bytes).outcome ≡ Accepted) (e : length state ≡ state_bytes)
+module _ (bytes state counts : List ℕ) (before : Columns) (accepts : (loop_layers bytes).outcome ≡ Ok tt) (e : length state ≡ state_bytes)
     (f : length counts ≡ state_numbers) where
   answered : start_call bytes state counts ≡ begun (loop_layers bytes).table state
   answered =
@@ -247,9 +247,9 @@ reached bytes before (fed_on {pieces = pieces} {piece = piece} earlier call) few
 -- an answer looks at the room only to see whether the rows are more
 by_room : (f : Found) (a b : ℕ) → ltb a f.rows ≡ ltb b f.rows → answer_of f a ≡ answer_of f b
 by_room f a b e =
-    ap (λ (t : Bool). cond (ltb f.fault.number 34) (Faulty (fault_of f.fault.number f.fault.packet))
-    (cond (ltb f.refusal.number 25) (NotRead (header_refusal f.refusal.number) f.refusal.packet)
-    (cond t TooManyRows (Recording.Rows f.rows)))) e
+    ap (λ (t : Bool). cond (ltb f.fault.number 34) (Err (Faulty (fault_of f.fault.number f.fault.packet)))
+    (cond (ltb f.refusal.number 25) (Err (HeaderNotRead (header_refusal f.refusal.number) f.refusal.packet))
+    (cond t (Err TooManyRows) (Ok f.rows)))) e
 
 told_room : (no_room room rows : ℕ) → eqb no_room 1 ≡ ltb room rows → ltb (room_told no_room rows) rows ≡ ltb room rows
 told_room no_room room rows e = go (ltb room rows) refl (ap (λ (t : Bool). ltb (cond t 0 rows) rows) e)
@@ -267,18 +267,18 @@ end_rows p = go (eqb p.part 0)
 
 -- rows that are answered are no more than the room
 abbrev Within : Found → ℕ → RowsRead → Type 0
-Within f room (Rows count) = f.rows ≤ room
-Within f room (Refused refusal) = Unit {0}
-Within f room (HeaderNotRead refusal packet) = Unit {0}
+Within f room (Ok count) = f.rows ≤ room
+Within f room (Err (Refused refusal)) = Unit {0}
+Within f room (Err (NotRead refusal packet)) = Unit {0}
 
 within : (f : Found) (room : ℕ) → Within f room (rows_told (answer_of f room))
 within f room =
-    either_way told (ltb f.fault.number 34) (Faulty (fault_of f.fault.number f.fault.packet))
-    (cond (ltb f.refusal.number 25) (NotRead (header_refusal f.refusal.number) f.refusal.packet) (cond (ltb room f.rows) TooManyRows (Recording.Rows f.rows)))
+    either_way told (ltb f.fault.number 34) (Err (Faulty (fault_of f.fault.number f.fault.packet)))
+    (cond (ltb f.refusal.number 25) (Err (HeaderNotRead (header_refusal f.refusal.number) f.refusal.packet)) (cond (ltb room f.rows) (Err TooManyRows) (Ok f.rows)))
     tt
-    (either_way told (ltb f.refusal.number 25) (NotRead (header_refusal f.refusal.number) f.refusal.packet) (cond (ltb room f.rows) TooManyRows (Recording.Rows f.rows))
+    (either_way told (ltb f.refusal.number 25) (Err (HeaderNotRead (header_refusal f.refusal.number) f.refusal.packet)) (cond (ltb room f.rows) (Err TooManyRows) (Ok f.rows))
     tt
-    (or_else told (ltb room f.rows) TooManyRows (Recording.Rows f.rows) tt (λ e. ltb-false room f.rows e)))
+    (or_else told (ltb room f.rows) (Err TooManyRows) (Ok f.rows) tt (λ e. ltb-false room f.rows e)))
   where
     told : Recording → Type 0
     told x = Within f room (rows_told x)
@@ -354,13 +354,13 @@ module _ (bytes : List ℕ) (before : Columns) (pieces : List (List ℕ)) {state
   holds_whole = r.laid ∙ ap (λ (rows : List Row). stored_from 0 (with_room (room_in before) 0 rows) before) (however_cut (pid_table bytes) pieces).gives
 
   -- where the rows are accepted, there is room for them
-  fit : (places count : ℕ) → room_in before ≤ places → rows_under bytes (joined_up pieces) places before ≡ Rows count → length (rows_of bytes (joined_up pieces)) ≤ room_in before
+  fit : (places count : ℕ) → room_in before ≤ places → rows_under bytes (joined_up pieces) places before ≡ Ok count → length (rows_of bytes (joined_up pieces)) ≤ room_in before
   fit places count h e =
       subst (λ (n : ℕ). n ≤ room_in before) (rows_counted (pid_table bytes) (joined_up pieces))
       (subst (Within whole_found (room_in before)) (sym (rows_call places h) ∙ e) (within whole_found (room_in before)))
 
-  lays_whole : (places count : ℕ) → room_in before ≤ places → rows_under bytes (joined_up pieces) places before ≡ Rows count
-      → after ≡ columns_under bytes (joined_up pieces) (Rows count) before
+  lays_whole : (places count : ℕ) → room_in before ≤ places → rows_under bytes (joined_up pieces) places before ≡ Ok count
+      → after ≡ columns_under bytes (joined_up pieces) (Ok count) before
   lays_whole places count h e = holds_whole ∙ all_over (rows_of bytes (joined_up pieces)) before (fit places count h e)
 
   pub as_the_whole : AsTheWhole bytes before pieces state counts after

@@ -22,11 +22,9 @@ fn put_references(out: &mut [u8], at: usize, references: &[u8]) -> usize
     ensures { Laid out.old at (gather reference_bytes references.now) result out.new }
 {
     let mut place = buffers::put(out, at, b"");
-    let mut i = 0;
-    while i < references.len() {
-        let byte = reference_byte(references[i]);
+    for reference in references {
+        let byte = reference_byte(*reference);
         place = buffers::put(out, place, &byte);
-        i += 1;
     }
     place
 }

@@ -21,50 +21,38 @@ mod answers;
 mod reading;
 mod writing;
 
-use cases::unreadable;
+use cases::{first_part, unreadable};
 use std::io::{self, Result, Write};
 
+// What stands before the first mark, and what behind it.
+fn parted(mark: u8, text: &[u8]) -> (&[u8], &[u8]) {
+    let part = first_part(mark, text);
+    (&text[..part.size], &text[part.step..])
+}
+
+// The bytes of words, at the start of the room.
+fn bytes_in<'a>(words: &[u8], room: &'a mut [u8; 2048]) -> Option<&'a [u8]> {
+    let count = cases::read_bytes(words, room)?;
+    Some(&room[..count])
+}
+
 fn answer_case<W: Write>(out: &mut W, line: &[u8]) -> Result<()> {
-    let kind = cases::first_part(b' ', line);
-    let size = kind.size;
-    let step = kind.step;
-    let words = &line[step..];
-    if check::same(&line[..size], b"read") {
-        return reading::read_case(out, words);
+    let (kind, words) = parted(b' ', line);
+    match kind {
+        b"read" => reading::read_case(out, words),
+        b"room" => reading::room_case(out, words),
+        b"write" => writing::write_case(out, words),
+        _ => unreadable(out),
     }
-    if check::same(&line[..size], b"room") {
-        return reading::room_case(out, words);
-    }
-    if check::same(&line[..size], b"write") {
-        return writing::write_case(out, words);
-    }
-    unreadable(out)
 }
 
 fn answer_line<W: Write>(out: &mut W, line: &[u8]) -> Result<()> {
     if cases::is_comment(line) {
-        cases::copy(out, line)?;
-    } else {
-        answer_case(out, line)?;
+        return cases::copy(out, line);
     }
-    Ok(())
-}
-
-fn answer_lines<W: Write>(out: &mut W, text: &[u8]) -> Result<()> {
-    let mut at = 0;
-    while at < text.len() {
-        let rest = &text[at..];
-        let line = cases::first_part(b'\n', rest);
-        let size = line.size;
-        answer_line(out, &rest[..size])?;
-        at += line.step;
-    }
-    Ok(())
+    answer_case(out, line)
 }
 
 fn main(rt: HostRuntime) -> Result<()> {
-    let mut buffer = [0u8; 65536];
-    let mut out = io::writer(&rt);
-    let count = cases::read_cases(&mut rt.reader(), &mut out, &mut buffer)?;
-    answer_lines(&mut out, &buffer[..count])
+    cases::answer_cases(&mut rt.reader(), &mut io::writer(&rt), answer_line)
 }

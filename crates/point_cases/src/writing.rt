@@ -1,275 +1,144 @@
 // Cases of writing: the room, the bytes of the profiles, the numbers of the points, the bytes of the references and of the layers, with a bar between two.
-ghost use Rattle.std.specs.Prelude.{◌≤◌};
+ghost use Rattle.std.specs.Prelude.{◌≤◌, IfSome};
 
-use super::answers;
-use cases::{Numbers, first_part, number_or, numbers_of, read_bytes, unreadable};
+use super::{answers, bytes_in, parted};
+use cases::{Numbers, number_or, numbers_of, unreadable};
 use std::io::{Result, Write};
 
 // The most numbers of a case: one point more than a descriptor can have, and one more.
 const MOST: usize = 3084;
 
-// More than all of them: a word that is none was among them.
-const WRONG: usize = 3085;
-
-fn narrow(number: u64) -> u32 {
-    if number < 4294967295 {
-        return number as u32;
-    }
-    4294967295
-}
-
-// One number more. Answers how many there are then.
-fn put_number(list: &mut [u32; 3084], count: usize, number: u64) -> usize
-    ensures { result ≤ 3085 }
-{
-    if MOST <= count {
-        return WRONG;
-    }
-    list[count] = narrow(number);
-    count + 1
-}
-
-// The numbers of a word.
-fn put_numbers(list: &mut [u32; 3084], count: usize, numbers: Numbers) -> usize
-    requires { count ≤ 3085 }
-    ensures { result ≤ 3085 }
+// The numbers of a word behind the first `count`. Answers how many there are then, where the word has no more than eight and they find room.
+fn put_numbers(list: &mut [u32; MOST], count: usize, numbers: Numbers) -> Option<usize>
+    requires { count ≤ 3084 }
+    ensures { IfSome result (λ end. end ≤ 3084) }
 {
     if 7 < numbers.last {
-        return WRONG;
+        return None;
     }
-    let mut end = count;
-    let mut k = 0;
-    while k <= numbers.last {
-        end = put_number(list, end, number_or(numbers, k, 0));
-        k += 1;
+    let end = count + numbers.last + 1;
+    if MOST < end {
+        return None;
     }
-    end
+    for (place, slot) in list[count..end].iter_mut().enumerate() {
+        *slot = u32::try_from(number_or(numbers, place, 0)).unwrap_or(u32::MAX);
+    }
+    Some(end)
 }
 
 // All numbers so far, so many times in all.
-fn repeat(list: &mut [u32; 3084], count: usize, times: u64) -> usize
-    requires { count ≤ 3085 }
-    ensures { result ≤ 3085 }
+fn repeat(list: &mut [u32; MOST], count: usize, times: u64) -> Option<usize>
+    requires { count ≤ 3084 }
+    ensures { IfSome result (λ end. end ≤ 3084) }
 {
     if 3084 < times {
-        return WRONG;
+        return None;
     }
     let end = count * times as usize;
     if MOST < end {
-        return WRONG;
+        return None;
     }
-    let mut at = count;
-    while at < end {
+    // By place: chunks would need a case of their own for no numbers.
+    for at in count..end {
         list[at] = list[at - count];
-        at += 1;
     }
-    end
+    Some(end)
 }
 
-fn put_word(list: &mut [u32; 3084], count: usize, word: &[u8]) -> usize
-    requires { count ≤ 3085 }
-    ensures { result ≤ 3085 }
+// One word more. Numbers that were none, or too many, are so whatever follows, until a word says that there are none at all.
+fn put_word(list: &mut [u32; MOST], count: Option<usize>, word: &[u8]) -> Option<usize>
+    requires { IfSome count (λ end. end ≤ 3084) }
+    ensures { IfSome result (λ end. end ≤ 3084) }
 {
-    if word.len() == 0 {
-        return count;
+    match word {
+        [] => count,
+        [b'*', times @ ..] => match number_or(numbers_of(times), 0, 0) {
+            0 => Some(0),
+            times => repeat(list, count?, times),
+        },
+        _ => put_numbers(list, count?, numbers_of(word)),
     }
-    if word[0] == b'*' {
-        return repeat(list, count, number_or(numbers_of(&word[1..]), 0, 0));
-    }
-    put_numbers(list, count, numbers_of(word))
 }
 
-// The numbers of all words. Answers how many there are.
-fn put_words(list: &mut [u32; 3084], words: &[u8]) -> usize
-    ensures { result ≤ 3085 }
+// The numbers of all words, at the start of the list.
+fn numbers_in<'a>(words: &[u8], list: &'a mut [u32; MOST]) -> Option<&'a [u32]> {
+    let mut count = Some(0);
+    for word in cases::words(words) {
+        count = put_word(list, count, word);
+    }
+    Some(&list[..count?])
+}
+
+// The room is a word of one number.
+fn room_in(word: &[u8]) -> Option<usize>
+    ensures { IfSome result (λ room. room ≤ 300) }
 {
-    let mut count = 0;
-    let mut at = 0;
-    while at < words.len() {
-        let rest = &words[at..];
-        let word = first_part(b' ', rest);
-        let size = word.size;
-        count = put_word(list, count, &rest[..size]);
-        at += word.step;
+    let numbers = numbers_of(word);
+    let room = number_or(numbers, 0, 0);
+    if numbers.last != 0 || 300 < room {
+        return None;
     }
-    count
+    Some(room as usize)
 }
 
-fn write_into<W: Write>(
-    out: &mut W,
-    profiles: &[u8],
-    points: &[u32],
-    references: &[u8],
-    layers: &[u8],
-    buffer: &mut [u8],
-) -> Result<()> {
+// What is to be written, and into how many bytes.
+#[derive(Clone, Copy)]
+struct Given<'a> {
+    room: usize,
+    profiles: &'a [u8],
+    points: &'a [u32],
+    references: &'a [u8],
+    layers: &'a [u8],
+    ghost within: { room ≤ 300 },
+}
+
+// Room for the parts of a case.
+#[derive(Clone, Copy)]
+struct Rooms {
+    profiles: [u8; 2048],
+    points: [u32; MOST],
+    references: [u8; 2048],
+    layers: [u8; 2048],
+}
+
+fn given_in<'a>(words: &[u8], rooms: &'a mut Rooms) -> Option<Given<'a>> {
+    let (word, _) = parted(b' ', words);
+    let (_, parts) = parted(b'|', words);
+    let (profiles, parts) = parted(b'|', parts);
+    let (points, parts) = parted(b'|', parts);
+    let (references, layers) = parted(b'|', parts);
+    Some(Given {
+        room: room_in(word)?,
+        profiles: bytes_in(profiles, &mut rooms.profiles)?,
+        points: numbers_in(points, &mut rooms.points)?,
+        references: bytes_in(references, &mut rooms.references)?,
+        layers: bytes_in(layers, &mut rooms.layers)?,
+    })
+}
+
+// Each byte of the room holds 0xAA before.
+fn answer_written<W: Write>(out: &mut W, given: Given<'_>) -> Result<()> {
+    let mut buffer = [0xAA; 300];
+    let buffer = &mut buffer[..given.room];
     let answer = thoquenry_points_written::thq_write_points(
-        profiles, points, references, layers, buffer,
+        given.profiles,
+        given.points,
+        given.references,
+        given.layers,
+        buffer,
     );
     answers::print_written(out, answer, buffer)
 }
 
-// Each byte of the room holds 0xAA before.
-fn write<W: Write>(
-    out: &mut W,
-    room: usize,
-    profiles: &[u8],
-    points: &[u32],
-    references: &[u8],
-    layers: &[u8],
-) -> Result<()>
-    requires { room ≤ 300 }
-{
-    let mut buffer = [0xAAu8; 300];
-    write_into(
-        out,
-        profiles,
-        points,
-        references,
-        layers,
-        &mut buffer[..room],
-    )
-}
-
-fn with_layers<W: Write>(
-    out: &mut W,
-    room: usize,
-    profiles: &[u8],
-    points: &[u32],
-    references: &[u8],
-    count: usize,
-    bytes: [u8; 2048],
-) -> Result<()>
-    requires { (room ≤ 300) × (count ≤ 2048) }
-{
-    write(out, room, profiles, points, references, &bytes[..count])
-}
-
-fn read_layers<W: Write>(
-    out: &mut W,
-    room: usize,
-    profiles: &[u8],
-    points: &[u32],
-    references: &[u8],
-    words: &[u8],
-) -> Result<()>
-    requires { room ≤ 300 }
-{
-    let mut bytes = cases::empty_room();
-    let found = read_bytes(words, &mut bytes);
-    if !found.readable {
-        return unreadable(out);
-    }
-    with_layers(out, room, profiles, points, references, found.count, bytes)
-}
-
-fn with_references<W: Write>(
-    out: &mut W,
-    room: usize,
-    profiles: &[u8],
-    points: &[u32],
-    count: usize,
-    bytes: [u8; 2048],
-    words: &[u8],
-) -> Result<()>
-    requires { (room ≤ 300) × (count ≤ 2048) }
-{
-    read_layers(out, room, profiles, points, &bytes[..count], words)
-}
-
-fn read_references<W: Write>(
-    out: &mut W,
-    room: usize,
-    profiles: &[u8],
-    points: &[u32],
-    words: &[u8],
-) -> Result<()>
-    requires { room ≤ 300 }
-{
-    let part = first_part(b'|', words);
-    let size = part.size;
-    let step = part.step;
-    let mut bytes = cases::empty_room();
-    let found = read_bytes(&words[..size], &mut bytes);
-    if !found.readable {
-        return unreadable(out);
-    }
-    with_references(
-        out,
-        room,
-        profiles,
-        points,
-        found.count,
-        bytes,
-        &words[step..],
-    )
-}
-
-fn with_points<W: Write>(
-    out: &mut W,
-    room: usize,
-    profiles: &[u8],
-    count: usize,
-    numbers: [u32; 3084],
-    words: &[u8],
-) -> Result<()>
-    requires { (room ≤ 300) × (count ≤ 3084) }
-{
-    read_references(out, room, profiles, &numbers[..count], words)
-}
-
-fn read_points<W: Write>(out: &mut W, room: usize, profiles: &[u8], words: &[u8]) -> Result<()>
-    requires { room ≤ 300 }
-{
-    let part = first_part(b'|', words);
-    let size = part.size;
-    let step = part.step;
-    let mut numbers = [0u32; 3084];
-    let count = put_words(&mut numbers, &words[..size]);
-    if MOST < count {
-        return unreadable(out);
-    }
-    with_points(out, room, profiles, count, numbers, &words[step..])
-}
-
-fn with_profiles<W: Write>(
-    out: &mut W,
-    room: usize,
-    count: usize,
-    bytes: [u8; 2048],
-    words: &[u8],
-) -> Result<()>
-    requires { (room ≤ 300) × (count ≤ 2048) }
-{
-    read_points(out, room, &bytes[..count], words)
-}
-
-fn read_profiles<W: Write>(out: &mut W, room: usize, words: &[u8]) -> Result<()>
-    requires { room ≤ 300 }
-{
-    let part = first_part(b'|', words);
-    let size = part.size;
-    let step = part.step;
-    let mut bytes = cases::empty_room();
-    let found = read_bytes(&words[..size], &mut bytes);
-    if !found.readable {
-        return unreadable(out);
-    }
-    with_profiles(out, room, found.count, bytes, &words[step..])
-}
-
-// The room is the first word, of one number.
 pub fn write_case<W: Write>(out: &mut W, words: &[u8]) -> Result<()> {
-    let word = first_part(b' ', words);
-    let size = word.size;
-    let numbers = numbers_of(&words[..size]);
-    if numbers.last != 0 {
-        return unreadable(out);
+    let mut rooms = Rooms {
+        profiles: cases::empty_room(),
+        points: [0; MOST],
+        references: cases::empty_room(),
+        layers: cases::empty_room(),
+    };
+    match given_in(words, &mut rooms) {
+        Some(given) => answer_written(out, given),
+        None => unreadable(out),
     }
-    let room = number_or(numbers, 0, 0);
-    if 300 < room {
-        return unreadable(out);
-    }
-    let step = first_part(b'|', words).step;
-    read_profiles(out, room as usize, &words[step..])
 }

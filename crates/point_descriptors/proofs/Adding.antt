@@ -1,5 +1,6 @@
 -- Places put into an array, one after another: of a descriptor that is an operation point descriptor or not, and of the points of a payload.
 -- Assumes nothing.
+use Rattle.std.specs.Prelude.{Err, Ok}
 use Prim.Native.Nat.{ℕ, zero, suc, ◌+◌, ◌-◌, ◌*◌, ◌≤◌, ◌<◌}
 use mathlib.Core.Bool.{Bool, true, false, cond, ◌&&◌}
 use mathlib.Core.List.{List, [], ◌∷◌, ◌++◌, append_assoc, append-nil}
@@ -14,8 +15,8 @@ use Rattle.combinators.specs.Bools.{both_left, both_right}
 use Rattle.syntax.specs.Table.{AreBytes}
 use Rattle.buffers.proofs.Laws.{sets_append}
 use Rattle.operation_points.specs.declared.Point.{Point}
-use Rattle.operation_points.specs.declared.FirstPoint.{FirstPoint}
-use Rattle.operation_points.specs.declared.FirstPoint.TheVariants.{Read, DoesNotFit, ReservedCount}
+use Rattle.operation_points.specs.Answer.{FirstPoint}
+use Rattle.operation_points.specs.declared.PointFault.{PointFault}
 use Rattle.operation_points.specs.Points.{first_point}
 use Rattle.operation_points.proofs.Judging.{read_within, lists_within}
 use Rattle.point_descriptors.specs.Held.{Held}
@@ -46,7 +47,7 @@ has_body tag body e =
 -- ---- the loop over the points of a payload
 
 -- a point takes four bytes at least, and stands within the bytes
-pub point_long : (l : List ℕ) → AreBytes l → (point : Point) → first_point l ≡ Read point → 4 ≤ point.size
+pub point_long : (l : List ℕ) → AreBytes l → (point : Point) → first_point l ≡ Ok point → 4 ≤ point.size
 point_long l b point e =
     let w = lists_within l b point e in
     omega (arith, w.references, w.layer_flags)
@@ -90,13 +91,11 @@ module _ (entry : List ℕ) (count base : ℕ) (payload : List ℕ) (first point
       by_answer a e =
           one_less ∙ ap (λ (x : FirstPoint). places_by x (base + at) (λ size. point_places (left - 1) (base + at + size) (drop size (drop at payload)))) (sym e)
 
-      pub adding_misfit : DoesNotFit ≡ first_point (drop at payload) → Held entry count (point_places points (base + first) (drop first payload)) filled places
-      adding_misfit e = finished (by_answer DoesNotFit e)
+      pub adding_fault : (fault : PointFault) → Err fault ≡ first_point (drop at payload)
+          → Held entry count (point_places points (base + first) (drop first payload)) filled places
+      adding_fault fault e = finished (by_answer (Err fault) e)
 
-      pub adding_reserved : ReservedCount ≡ first_point (drop at payload) → Held entry count (point_places points (base + first) (drop first payload)) filled places
-      adding_reserved e = finished (by_answer ReservedCount e)
-
-      module _ (b : AreBytes payload) (point : Point) (e : Read point ≡ first_point (drop at payload)) where
+      module _ (b : AreBytes payload) (point : Point) (e : Ok point ≡ first_point (drop at payload)) where
         bytes_left : AreBytes (drop at payload)
         bytes_left i = subst (λ (n : ℕ). n < 256) (sym (lib.Seq.get_or-drop at payload i 0)) (b (at + i))
 
@@ -117,7 +116,7 @@ module _ (entry : List ℕ) (count base : ℕ) (payload : List ℕ) (first point
               all = append_assoc known.done ((base + at) ∷ []) (point_places (left - 1) (base + (at + point.size)) (drop (at + point.size) payload))
                   ∙ ap₂ (λ (n : ℕ) (l : List ℕ). known.done ++ ((base + at) ∷ point_places (left - 1) n l)) (sym (add_assoc base at point.size))
                   (sym (drop-drop point.size at payload))
-                  ∙ ap (λ (l : List ℕ). known.done ++ l) (sym (by_answer (Read point) e))
+                  ∙ ap (λ (l : List ℕ). known.done ++ l) (sym (by_answer (Ok point) e))
                   ∙ known.all;
               held =
                   record {

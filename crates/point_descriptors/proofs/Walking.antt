@@ -1,5 +1,6 @@
 -- The pass through a program's loop: what is left of the bytes, and what was kept of the descriptors before them.
 -- Assumes nothing.
+use Rattle.std.specs.Prelude.{Err, None, Ok, Some}
 use Prim.Native.Nat.{ℕ, zero, suc, ◌+◌, ◌-◌, ◌*◌, ◌≤◌, ◌<◌}
 use mathlib.Core.Bool.{Bool, true, false, cond}
 use mathlib.Core.List.{List, [], ◌∷◌, ◌++◌, map, append_assoc, append-nil}
@@ -16,12 +17,8 @@ use Rattle.syntax.specs.Table.{AreBytes}
 use Rattle.descriptor_heads.specs.Head.{descriptor_tag, descriptor_length}
 use Rattle.descriptor_heads.proofs.Heads.{tag_alone}
 use Rattle.operation_points.specs.declared.Head.{Head}
-use Rattle.operation_points.specs.declared.HeadRead.{HeadRead}
-use Rattle.operation_points.specs.declared.HeadRead.TheVariants.{Before, HeadDoesNotFit}
-use Rattle.operation_points.specs.declared.FirstPoint.{FirstPoint}
-use Rattle.operation_points.specs.declared.FirstPoint.TheVariants.{Read, DoesNotFit, ReservedCount}
-use Rattle.operation_points.specs.declared.Filling.{Filling}
-use Rattle.operation_points.specs.declared.Filling.TheVariants.{Exact, Inexact, Reserved}
+use Rattle.operation_points.specs.Answer.{HeadRead, FirstPoint, Filling}
+use Rattle.operation_points.specs.declared.PointFault.TheVariants.{DoesNotFit, ReservedCount}
 use Rattle.operation_points.specs.Points.{head_of, first_point, filling_of}
 use Rattle.operation_points.proofs.Judging.{read_within, head_within}
 use Rattle.point_descriptors.specs.declared.Found.{Found}
@@ -52,17 +49,17 @@ points_short (suc count) at left b =
   where
     go : (a : FirstPoint) → first_point left ≡ a → ((size : ℕ) → 3 * length (point_places count (at + size) (drop size left)) ≤ length (drop size left))
         → 3 * length (places_by a at (λ size. point_places count (at + size) (drop size left))) ≤ length left
-    go (Read point) e later =
+    go (Ok point) e later =
         omega (arith, later point.size, point_long left b point e, read_within left point e, length-drop point.size left)
-    go DoesNotFit e later = omega arith
-    go ReservedCount e later = omega arith
+    go (Err DoesNotFit) e later = omega arith
+    go (Err ReservedCount) e later = omega arith
 
 payload_short : (base : ℕ) (payload : List ℕ) → AreBytes payload → 3 * length (point_places_in base payload) ≤ length payload
 payload_short base payload b = go (head_of payload) refl
   where
     go : (a : HeadRead) → head_of payload ≡ a → 3 * length (point_places_after a base payload) ≤ length payload
-    go HeadDoesNotFit e = omega arith
-    go (Before head) e =
+    go None e = omega arith
+    go (Some head) e =
         omega (
           arith,
           points_short head.operation_points_count (base + head.points_at) (drop head.points_at payload) (bytes_behind payload head.points_at b),
@@ -142,11 +139,11 @@ module _ (program : List ℕ) where
 
   pub record Walking (filling : Filling) (payloads : List ℕ) (descriptors : ℕ) (points : List ℕ) (count at : ℕ) : Type 0 where
     pub within : at ≤ length program
-    pub verdict : worst filling (map filling_in (descriptors_of (drop at program))) ≡ worst Exact (map filling_in (descriptors_of program))
+    pub verdict : worst filling (map filling_in (descriptors_of (drop at program))) ≡ worst (Ok tt) (map filling_in (descriptors_of program))
     pub payloads_kept : Kept payload_place payloads descriptors at
     pub points_kept : Kept point_places_if points count at
 
-  pub walking_start : {payloads points : List ℕ} → payloads ≡ no_places → points ≡ no_places → Walking Exact payloads 0 points 0 0
+  pub walking_start : {payloads points : List ℕ} → payloads ≡ no_places → points ≡ no_places → Walking (Ok tt) payloads 0 points 0 0
   walking_start p q =
       record {
         within = omega arith;
@@ -159,18 +156,18 @@ module _ (program : List ℕ) where
   short_enough h = le-ltb 1008 (length program) h
 
   pub found_long : {payloads points : List ℕ} → payloads ≡ no_places → points ≡ no_places → 1008 < length program
-      → record { filling = Inexact; descriptors = 0; payloads = payloads; count = 0; points = points } ≡ found_in program
+      → record { filling = (Err DoesNotFit); descriptors = 0; payloads = payloads; count = 0; points = points } ≡ found_in program
   unfolding no_places
   found_long p q h =
-      (λ i. record { filling = Inexact; descriptors = 0; payloads = p i; count = 0; points = q i })
-      ∙ sym (ap (λ (b : Bool). cond b (found_with Inexact [] []) (found_with (worst Exact (map filling_in (descriptors_of program))) (payloads_at program) (points_at program)))
+      (λ i. record { filling = (Err DoesNotFit); descriptors = 0; payloads = p i; count = 0; points = q i })
+      ∙ sym (ap (λ (b : Bool). cond b (found_with (Err DoesNotFit) [] []) (found_with (worst (Ok tt) (map filling_in (descriptors_of program))) (payloads_at program) (points_at program)))
       (lt-ltb 1008 (length program) h))
 
-  same_found : {filling : Filling} {payloads points : List ℕ} → length program ≤ 1008 → filling ≡ worst Exact (map filling_in (descriptors_of program))
+  same_found : {filling : Filling} {payloads points : List ℕ} → length program ≤ 1008 → filling ≡ worst (Ok tt) (map filling_in (descriptors_of program))
       → payloads ≡ payloads_at program → points ≡ points_at program → found_with filling payloads points ≡ found_in program
   same_found h e p q =
       (λ i. found_with (e i) (p i) (q i))
-      ∙ sym (ap (λ (b : Bool). cond b (found_with Inexact [] []) (found_with (worst Exact (map filling_in (descriptors_of program))) (payloads_at program) (points_at program)))
+      ∙ sym (ap (λ (b : Bool). cond b (found_with (Err DoesNotFit) [] []) (found_with (worst (Ok tt) (map filling_in (descriptors_of program))) (payloads_at program) (points_at program)))
       (short_enough h))
 
   module _ (filling : Filling) (payloads : List ℕ) (descriptors : ℕ) (points : List ℕ) (count at : ℕ)
@@ -199,18 +196,18 @@ module _ (program : List ℕ) where
         none = drop_of_length-le program {i = at} e
 
     module _ (left : List ℕ) (rest : left ≡ drop at program) where
-      pub walking_stop : length program ≤ 1008 → 0 < length left → length left < 2 + descriptor_length left → built Inexact ≡ found_in program
+      pub walking_stop : length program ≤ 1008 → 0 < length left → length left < 2 + descriptor_length left → built (Err DoesNotFit) ≡ found_in program
       walking_stop h some short =
           let stop = items_stop program left at rest some short in
-          as_kept Inexact
+          as_kept (Err DoesNotFit)
           ∙ same_found h (sym (last filling) ∙ ap (λ (items : List Item). worst filling (map filling_in items)) (sym stop) ∙ known.verdict)
           (kept_all known.payloads_kept (ap (each payload_place at) stop))
           (kept_all known.points_kept (ap (each point_places_if at) stop))
         where
-          last : (f : Filling) → worst f (Inexact ∷ []) ≡ Inexact
-          last Exact = refl
-          last Inexact = refl
-          last Reserved = refl
+          last : (f : Filling) → worst f (Err DoesNotFit ∷ []) ≡ Err DoesNotFit
+          last (Ok _) = refl
+          last (Err DoesNotFit) = refl
+          last (Err ReservedCount) = refl
 
       module _ (f : 2 + descriptor_length left ≤ length left) (h : length program ≤ 1008) (b : AreBytes left) where
         abbrev here : List ℕ
@@ -300,10 +297,10 @@ module _ (program : List ℕ) (filling : Filling) (payloads : List ℕ) (descrip
 
 pub fills_if : (tag : ℕ) (body : List ℕ) (r : Filling) → is_points tag body ≡ true → r ≡ filling_of (take (length body - 1) (drop 1 body)) → r ≡ filling_if tag body
 fills_if tag body r e p =
-    p ∙ ap filling_of (Rattle.combinators.specs.Lists.part_to_end body 1) ∙ sym (ap (λ (b : Bool). cond b (filling_of (drop 1 body)) Exact) e)
+    p ∙ ap filling_of (Rattle.combinators.specs.Lists.part_to_end body 1) ∙ sym (ap (λ (b : Bool). cond b (filling_of (drop 1 body)) (Ok tt)) e)
 
-pub fills_else : (tag : ℕ) (body : List ℕ) → is_points tag body ≡ false → Exact ≡ filling_if tag body
-fills_else tag body e = sym (ap (λ (b : Bool). cond b (filling_of (drop 1 body)) Exact) e)
+pub fills_else : (tag : ℕ) (body : List ℕ) → is_points tag body ≡ false → Ok tt ≡ filling_if tag body
+fills_else tag body e = sym (ap (λ (b : Bool). cond b (filling_of (drop 1 body)) (Ok tt)) e)
 
 module _ (entry exit : List ℕ) (count r : ℕ) where
   pub points_if : (at tag : ℕ) (body : List ℕ) → is_points tag body ≡ true
@@ -313,7 +310,7 @@ module _ (entry exit : List ℕ) (count r : ℕ) where
       (ap (point_places_in (at + 3)) (Rattle.combinators.specs.Lists.part_to_end body 1)
       ∙ sym (ap (λ (b : Bool). cond b (point_places_in (at + 3) (drop 1 body)) []) e))
 
-  pub points_by : (base : ℕ) (payload : List ℕ) (head : Head) → Before head ≡ head_of payload
+  pub points_by : (base : ℕ) (payload : List ℕ) (head : Head) → Some head ≡ head_of payload
       → Held entry count (point_places head.operation_points_count (base + head.points_at) (drop head.points_at payload)) r exit
       → Held entry count (point_places_in base payload) r exit
   points_by base payload head e =
@@ -326,5 +323,5 @@ nothing_held entry count list e =
 pub points_else : (at tag : ℕ) (body : List ℕ) → is_points tag body ≡ false → point_places_if at tag body ≡ []
 points_else at tag body e = ap (λ (b : Bool). cond b (point_places_in (at + 3) (drop 1 body)) []) e
 
-pub no_head : (base : ℕ) (payload : List ℕ) → HeadDoesNotFit ≡ head_of payload → point_places_in base payload ≡ []
+pub no_head : (base : ℕ) (payload : List ℕ) → None ≡ head_of payload → point_places_in base payload ≡ []
 no_head base payload e = ap (λ (a : HeadRead). point_places_after a base payload) (sym e)

@@ -1,16 +1,12 @@
 -- The operation point descriptors of a program's own descriptor loop: which descriptors are such, what their payloads are, the verdict on all of them, and
 -- the places of their payloads and of their points in the loop.
 -- Assumes nothing.
-use Rattle.std.specs.Prelude.{ℕ, zero, suc, ◌+◌, Bool, cond, ◌&&◌, List, [], ◌∷◌, ◌++◌, map, eqb, ltb, length, get_or, drop}
+use Rattle.std.specs.Prelude.{ℕ, zero, suc, ◌+◌, Bool, cond, ◌&&◌, List, [], ◌∷◌, ◌++◌, map, eqb, ltb, length, get_or, drop, Err, None, Ok, Some}
 use Rattle.combinators.specs.Padding.{pad_to}
 use Rattle.framing.specs.Pieces.{Item, whole, broken, cut}
 use Rattle.descriptor_heads.specs.Head.{descriptor_tag, descriptor_length}
-use Rattle.operation_points.specs.declared.HeadRead.{HeadRead}
-use Rattle.operation_points.specs.declared.HeadRead.TheVariants.{Before, HeadDoesNotFit}
-use Rattle.operation_points.specs.declared.FirstPoint.{FirstPoint}
-use Rattle.operation_points.specs.declared.FirstPoint.TheVariants.{Read, DoesNotFit, ReservedCount}
-use Rattle.operation_points.specs.declared.Filling.{Filling}
-use Rattle.operation_points.specs.declared.Filling.TheVariants.{Exact, Inexact, Reserved}
+use Rattle.operation_points.specs.Answer.{HeadRead, FirstPoint, Filling}
+use Rattle.operation_points.specs.declared.PointFault.TheVariants.{DoesNotFit, ReservedCount}
 use Rattle.operation_points.specs.Points.{head_of, first_point, filling_of}
 use Rattle.point_descriptors.specs.declared.Found.{Found}
 
@@ -39,19 +35,19 @@ payloads_in program = each payload_if 0 (descriptors_of program)
 -- ---- the verdict
 
 abbrev pub filling_if : ℕ → List ℕ → Filling
-filling_if tag body = cond (is_points tag body) (filling_of (drop 1 body)) Exact
+filling_if tag body = cond (is_points tag body) (filling_of (drop 1 body)) (Ok tt)
 
 abbrev pub filling_in : Item → Filling
 filling_in (whole head body) = filling_if (descriptor_tag head) body
-filling_in broken = Inexact
+filling_in broken = Err DoesNotFit
 
 -- the lower number of two: 40 before 41
 abbrev pub worse : Filling → Filling → Filling
-worse Inexact other = Inexact
-worse Exact other = other
-worse Reserved Inexact = Inexact
-worse Reserved Exact = Reserved
-worse Reserved Reserved = Reserved
+worse (Err DoesNotFit) other = Err DoesNotFit
+worse (Ok _) other = other
+worse (Err ReservedCount) (Err DoesNotFit) = Err DoesNotFit
+worse (Err ReservedCount) (Ok _) = Err ReservedCount
+worse (Err ReservedCount) (Err ReservedCount) = Err ReservedCount
 
 abbrev pub worst : Filling → List Filling → Filling
 worst so_far [] = so_far
@@ -63,7 +59,7 @@ too_long program = ltb 1008 (length program)
 
 -- THE VERDICT on the program's loop: 40, 41, or neither
 abbrev pub program_filling : List ℕ → Filling
-program_filling program = cond (too_long program) Inexact (worst Exact (map filling_in (descriptors_of program)))
+program_filling program = cond (too_long program) (Err DoesNotFit) (worst (Ok tt) (map filling_in (descriptors_of program)))
 
 -- ---- places
 
@@ -73,17 +69,16 @@ payload_place at tag body = cond (is_points tag body) ((at + 3) ∷ []) []
 
 -- of so many points from a place on, which begins these bytes
 abbrev pub places_by : FirstPoint → ℕ → (ℕ → List ℕ) → List ℕ
-places_by (Read point) at behind = at ∷ behind point.size
-places_by DoesNotFit at behind = []
-places_by ReservedCount at behind = []
+places_by (Ok point) at behind = at ∷ behind point.size
+places_by (Err fault) at behind = []
 
 abbrev pub point_places : ℕ → ℕ → List ℕ → List ℕ
 point_places zero at left = []
 point_places (suc count) at left = places_by (first_point left) at (λ size. point_places count (at + size) (drop size left))
 
 abbrev pub point_places_after : HeadRead → ℕ → List ℕ → List ℕ
-point_places_after HeadDoesNotFit base payload = []
-point_places_after (Before head) base payload =
+point_places_after None base payload = []
+point_places_after (Some head) base payload =
     point_places head.operation_points_count (base + head.points_at) (drop head.points_at payload)
 
 -- of the points of a payload that stands at a place
@@ -116,5 +111,5 @@ found_with filling payloads points =
 
 abbrev pub found_in : List ℕ → Found
 found_in program =
-    cond (too_long program) (found_with Inexact [] [])
-    (found_with (worst Exact (map filling_in (descriptors_of program))) (payloads_at program) (points_at program))
+    cond (too_long program) (found_with (Err DoesNotFit) [] [])
+    (found_with (worst (Ok tt) (map filling_in (descriptors_of program))) (payloads_at program) (points_at program))

@@ -8,7 +8,7 @@ ghost use Rattle.point_descriptors.specs.Held.{Held};
 ghost use Rattle.point_descriptors.specs.Descriptors.{is_points, filling_if, worse as worseOf, payload_place, point_places, point_places_in, point_places_if, no_places, found_in};
 
 use descriptor_heads::first_descriptor;
-use operation_points::{Filling, FirstPoint, HeadRead, first_point, judge, read_head};
+use operation_points::{PointFault, first_point, judge, read_head};
 
 pub const EXTENSION_TAG: u8 = 63;
 
@@ -25,7 +25,7 @@ pub const MOST_FOUND: usize = 336;
 // their points, in order, each from the front of its array.
 #[derive(Clone, Copy)]
 pub struct Found {
-    pub filling: Filling,
+    pub filling: Result<(), PointFault>,
     pub descriptors: usize,
     pub payloads: [usize; 336],
     pub count: usize,
@@ -46,33 +46,22 @@ fn is_points(tag: u8, body: &[u8]) -> bool
 }
 
 // The verdict on one descriptor; others are skipped.
-fn filling_if(tag: u8, body: &[u8]) -> Filling
+fn filling_if(tag: u8, body: &[u8]) -> Result<(), PointFault>
     ensures { result ≡ filling_if tag body.now }
 {
     if is_points(tag, body) {
         return judge(&body[1..]);
     }
-    Filling::Exact
+    Ok(())
 }
 
 // The lower number of two verdicts: 40 before 41.
-fn worse(so_far: Filling, other: Filling) -> Filling
+fn worse(so_far: Result<(), PointFault>, other: Result<(), PointFault>) -> Result<(), PointFault>
     ensures { result ≡ worseOf so_far other }
 {
-    match so_far {
-        Filling::Inexact => Filling::Inexact,
-        Filling::Exact => other,
-        Filling::Reserved => reserved_or(other),
-    }
-}
-
-fn reserved_or(other: Filling) -> Filling
-    ensures { result ≡ worseOf Filling.Reserved other }
-{
-    match other {
-        Filling::Inexact => Filling::Inexact,
-        Filling::Exact => Filling::Reserved,
-        Filling::Reserved => Filling::Reserved,
+    match (so_far, other) {
+        (Ok(()), _) | (Err(PointFault::ReservedCount), Err(PointFault::DoesNotFit)) => other,
+        _ => so_far,
     }
 }
 
@@ -102,19 +91,15 @@ fn add_points(
 {
     let mut at = first;
     let mut filled = count;
-    let mut left = points;
-    while 0 < left {
-        let point = first_point(&payload[at..]);
-        match point {
-            FirstPoint::DoesNotFit => return filled,
-            FirstPoint::ReservedCount => return filled,
-            FirstPoint::Read(read) => {
+    for _ in 0..points {
+        match first_point(&payload[at..]) {
+            Err(_) => return filled,
+            Ok(point) => {
                 places[filled] = base + at;
                 filled += 1;
-                at += read.size;
+                at += point.size;
             }
         }
-        left -= 1;
     }
     filled
 }
@@ -124,16 +109,15 @@ fn add_points_in(places: &mut [usize; 336], count: usize, base: usize, payload: 
     requires { (3 * count ≤ base) × (base + length payload.now ≤ 1008) × (length places.old ≡ 336) }
     ensures { Held places.old count (point_places_in base payload.now) result places.new }
 {
-    let head = read_head(payload);
-    match head {
-        HeadRead::HeadDoesNotFit => count,
-        HeadRead::Before(before) => add_points(
+    match read_head(payload) {
+        None => count,
+        Some(head) => add_points(
             places,
             count,
             base,
             payload,
-            before.points_at,
-            before.operation_points_count,
+            head.points_at,
+            head.operation_points_count,
         ),
     }
 }
@@ -160,7 +144,7 @@ fn walk(program: &[u8]) -> Found
     requires { length program.now ≤ 1008 }
     ensures { result ≡ found_in program.now }
 {
-    let mut filling = Filling::Exact;
+    let mut filling = Ok(());
     let mut payloads = no_places();
     let mut descriptors = 0;
     let mut points = no_places();
@@ -168,22 +152,24 @@ fn walk(program: &[u8]) -> Found
     let mut at = 0;
     while at < program.len() {
         let left = &program[at..];
-        let first = first_descriptor(left);
-        if !first.fits {
-            return Found {
-                filling: Filling::Inexact,
-                descriptors,
-                payloads,
-                count,
-                points,
-            };
+        match first_descriptor(left) {
+            None => {
+                return Found {
+                    filling: Err(PointFault::DoesNotFit),
+                    descriptors,
+                    payloads,
+                    count,
+                    points,
+                };
+            }
+            Some(first) => {
+                let body = &left[2..first.end];
+                filling = worse(filling, filling_if(first.tag, body));
+                descriptors = add_payload(&mut payloads, descriptors, at, first.tag, body);
+                count = add_points_if(&mut points, count, at, first.tag, body);
+                at += first.end;
+            }
         }
-        let end = first.end;
-        let body = &left[2..end];
-        filling = worse(filling, filling_if(first.tag, body));
-        descriptors = add_payload(&mut payloads, descriptors, at, first.tag, body);
-        count = add_points_if(&mut points, count, at, first.tag, body);
-        at += end;
     }
     Found {
         filling,
@@ -200,7 +186,7 @@ pub fn find_points(program: &[u8]) -> Found
 {
     if MOST_BYTES < program.len() {
         return Found {
-            filling: Filling::Inexact,
+            filling: Err(PointFault::DoesNotFit),
             descriptors: 0,
             payloads: no_places(),
             count: 0,

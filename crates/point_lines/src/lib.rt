@@ -9,19 +9,13 @@ ghost use Rattle.point_lines.specs.Lines.{front_text, frame_text, rate_text, rat
 use listing::put_labelled;
 use operation_points::Point;
 
-fn wide_byte(byte: u8) -> u64
-    ensures { result ≡ byte }
-{
-    byte as u64
-}
-
 // Which point it is, of which output layer set, and up to which temporal sub-layer.
 fn put_front(out: &mut [u8], at: usize, index: u64, target_ols: u8, temporal_id: u8) -> usize
     ensures { Laid out.old at (front_text index target_ols temporal_id) result out.new }
 {
     let mut place = put_labelled(out, at, b"point ", index);
-    place = put_labelled(out, place, b" target_ols ", target_ols as u64);
-    put_labelled(out, place, b" temporal_id ", temporal_id as u64)
+    place = put_labelled(out, place, b" target_ols ", u64::from(target_ols));
+    put_labelled(out, place, b" temporal_id ", u64::from(temporal_id))
 }
 
 // The frame rate: what its number says is told by constant_frame_rate_info_idc.
@@ -32,12 +26,12 @@ fn put_frame_rate(out: &mut [u8], at: usize, idc: u8, indicator: u16) -> usize
         return text::put(out, at, b" frame_rate none");
     }
     if idc == 1 {
-        return put_labelled(out, at, b" frame_ticks ", indicator as u64);
+        return put_labelled(out, at, b" frame_ticks ", u64::from(indicator));
     }
     if idc == 2 {
-        return put_labelled(out, at, b" frame_rate ", indicator as u64);
+        return put_labelled(out, at, b" frame_rate ", u64::from(indicator));
     }
-    let place = put_labelled(out, at, b" frame_rate ", indicator as u64);
+    let place = put_labelled(out, at, b" frame_rate ", u64::from(indicator));
     text::put(out, place, b"/1.001")
 }
 
@@ -46,7 +40,7 @@ fn put_rate(out: &mut [u8], at: usize, label: &[u8], there: bool, number: u32) -
     ensures { Laid out.old at (rate_text label.now (bit_rate_of there number)) result out.new }
 {
     if there {
-        return put_labelled(out, at, label, number as u64);
+        return put_labelled(out, at, label, u64::from(number));
     }
     let place = text::put(out, at, label);
     text::put(out, place, b"none")
@@ -93,10 +87,8 @@ fn put_members(out: &mut [u8], at: usize, streams: &[u8]) -> usize
     ensures { Laid out.old at (members_text streams.now) result out.new }
 {
     let mut place = text::put(out, at, b"");
-    let mut index = 0;
-    while index < streams.len() {
-        place = put_labelled(out, place, b" ", wide_byte(streams[index]));
-        index += 1;
+    for stream in streams {
+        place = put_labelled(out, place, b" ", u64::from(*stream));
     }
     place
 }

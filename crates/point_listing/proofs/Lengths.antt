@@ -1,5 +1,6 @@
 -- The room that the text needs: 521,166 bytes are enough for every two loops.
 -- Assumes nothing.
+use Rattle.std.specs.Prelude.{Err, Ok}
 use Prim.Native.Nat.{ℕ, suc, ◌*◌, ◌≤◌}
 use mathlib.Core.Bool.{Bool, true, false, cond}
 use mathlib.Core.List.{List, [], ◌∷◌, ◌++◌}
@@ -9,8 +10,7 @@ use native.Mathlib.Omega.{arith}
 use lib.Dec.{eqb}
 use lib.ListN.{length, get_or, take, length-append}
 use Rattle.closure.specs.declared.Layers.{Layers}
-use Rattle.es_loop.specs.declared.reader.Outcome.{Outcome}
-use Rattle.es_loop.specs.declared.reader.Outcome.TheVariants.{Accepted, Refused}
+use Rattle.es_loop.specs.Answer.{Outcome}
 use Rattle.vocabulary.specs.declared.refusal.Refusal.{Refusal}
 use Rattle.vocabulary.specs.Refusals.{number_of, place_of}
 use Rattle.syntax.specs.Table.{AreBytes}
@@ -106,12 +106,12 @@ unfolding points_text
 text_length program bytes b = go (points_read program bytes).outcome refl
   where
     go : (outcome : Outcome) → (points_read program bytes).outcome ≡ outcome → length (read_text outcome (points_read program bytes).layers program) ≤ 521166
-    go Accepted e =
+    go (Ok tt) e =
         let filled = told_filled program bytes (points_read program bytes) refl e in
         told_length (points_read program bytes).layers (points_in program)
         (subst (λ (n : ℕ). n ≤ 336) (told_many (points_read program bytes).layers program b (points_read program bytes).found filled)
         (points_room program b (points_read program bytes).found filled))
-    go (Refused refusal) e = refused_length refusal
+    go (Err refusal) e = refused_length refusal
 
 -- THE PROGRAM'S BUFFER: what was laid in from the front is the whole text, whatever the two loops.
 pub whole_text : (program bytes old : List ℕ) (next : ℕ) (new : List ℕ) → AreBytes program → 521166 ≤ length old → Laid old 0 (points_text program bytes) next new

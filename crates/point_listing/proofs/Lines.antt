@@ -1,5 +1,6 @@
 -- The lines of points laid in one after another, and what was told of an accepted loop.
 -- Assumes nothing.
+use Rattle.std.specs.Prelude.{Err, Ok}
 use Prim.Native.Nat.{ℕ, suc, ◌+◌, ◌≤◌, ◌<◌, min}
 use mathlib.Core.Bool.{Bool, true, false, cond}
 use mathlib.Core.List.{List, [], ◌∷◌, ◌++◌, map, map-append, append-nil, append_assoc}
@@ -9,13 +10,12 @@ use native.Mathlib.Numerals.{add-one}
 use lib.ListN.{length, get_or, take, drop, length-take}
 use lib.Seq.{take-suc, take_all, length-take-le}
 use Rattle.closure.specs.declared.Layers.{Layers}
-use Rattle.es_loop.specs.declared.reader.Outcome.{Outcome}
-use Rattle.es_loop.specs.declared.reader.Outcome.TheVariants.{Accepted, Refused}
+use Rattle.es_loop.specs.Answer.{Outcome}
 use Rattle.vocabulary.specs.declared.stream_types.Reading.TheVariants.{Edition2015}
 use Rattle.vocabulary.specs.declared.refusal.Refusal.TheVariants.{UnknownReference}
 use Rattle.loop_layers.specs.Closures.{loop_layers}
-use Rattle.operation_points.specs.declared.Filling.{Filling}
-use Rattle.operation_points.specs.declared.Filling.TheVariants.{Exact, Inexact, Reserved}
+use Rattle.operation_points.specs.Answer.{Filling}
+use Rattle.operation_points.specs.declared.PointFault.TheVariants.{DoesNotFit, ReservedCount}
 use Rattle.operation_points.specs.declared.Point.{Point}
 use Rattle.operation_points.specs.Values.{PointValue, point_value}
 use Rattle.stream_lists.specs.declared.ListBuilt.{ListBuilt}
@@ -115,8 +115,8 @@ module _ (layers : Layers) (program : List ℕ) (b : AreBytes program) (found : 
 -- ---- an accepted loop: neither 40 nor 41 applies
 
 abbrev refusals : Outcome → ℕ
-refusals Accepted = 0
-refusals (Refused refusal) = 1
+refusals (Ok _) = 0
+refusals (Err refusal) = 1
 
 module _ (program : List ℕ) (layers : Layers) where
   found_by_tally : (tally : Tally) → (by_tally layers program tally).found ≡ found_in program
@@ -124,26 +124,26 @@ module _ (program : List ℕ) (layers : Layers) where
     where
       go : (c : Bool)
           → (cond c (refused_points UnknownReference layers (found_in program))
-          (record { outcome = Accepted; layers = layers; found = found_in program; profile_bytes = length (profiles_in program); tally = tally })).found
+          (record { outcome = Ok tt; layers = layers; found = found_in program; profile_bytes = length (profiles_in program); tally = tally })).found
           ≡ found_in program
       go true = refl
       go false = refl
 
-  filled_by : (read : PointsRead) (filling : Filling) → program_filling program ≡ filling → read ≡ by_filling filling layers program → read.outcome ≡ Accepted
+  filled_by : (read : PointsRead) (filling : Filling) → program_filling program ≡ filling → read ≡ by_filling filling layers program → read.outcome ≡ Ok tt
       → Filled program read.found
-  filled_by read Inexact is e accepted =
+  filled_by read (Err DoesNotFit) is e accepted =
       let two : ◌≡◌ {A = ℕ} 0 1 = ap refusals (sym accepted ∙ ap (λ (r : PointsRead). r.outcome) e) in absurd (omega arith)
-  filled_by read Reserved is e accepted =
+  filled_by read (Err ReservedCount) is e accepted =
       let two : ◌≡◌ {A = ℕ} 0 1 = ap refusals (sym accepted ∙ ap (λ (r : PointsRead). r.outcome) e) in absurd (omega arith)
-  filled_by read Exact is e accepted =
+  filled_by read (Ok _) is e accepted =
       let same : read.found ≡ found_in program = ap (λ (r : PointsRead). r.found) e ∙ found_by_tally (tally_of layers (points_in program)) in
       record { is_found = same; exact = filling_is program read.found same ∙ is }
 
-  filled_after : (read : PointsRead) (outcome : Outcome) → read ≡ by_outcome outcome layers program → read.outcome ≡ Accepted → Filled program read.found
-  filled_after read Accepted e accepted = filled_by read (program_filling program) refl e accepted
-  filled_after read (Refused refusal) e accepted =
+  filled_after : (read : PointsRead) (outcome : Outcome) → read ≡ by_outcome outcome layers program → read.outcome ≡ Ok tt → Filled program read.found
+  filled_after read (Ok _) e accepted = filled_by read (program_filling program) refl e accepted
+  filled_after read (Err refusal) e accepted =
       let two : ◌≡◌ {A = ℕ} 0 1 = ap refusals (sym accepted ∙ ap (λ (r : PointsRead). r.outcome) e) in absurd (omega arith)
 
-pub told_filled : (program bytes : List ℕ) (read : PointsRead) → read ≡ points_read program bytes → read.outcome ≡ Accepted → Filled program read.found
+pub told_filled : (program bytes : List ℕ) (read : PointsRead) → read ≡ points_read program bytes → read.outcome ≡ Ok tt → Filled program read.found
 told_filled program bytes read e accepted =
     let loop = loop_layers Edition2015 bytes in filled_after program loop.layers read loop.outcome e accepted

@@ -1,10 +1,9 @@
 -- All that the program `points` prints: how many points there are, and 'each point: its number, target_ols, stream list, highest temporal id, rates, and whether the list is
 -- closed'; or the refusal.
 -- Assumes nothing.
-use Rattle.std.specs.Prelude.{ℕ, suc, List, [], ◌∷◌, ◌++◌, length}
+use Rattle.std.specs.Prelude.{ℕ, suc, List, [], ◌∷◌, ◌++◌, length, Err, Ok}
 use Rattle.closure.specs.declared.Layers.{Layers}
-use Rattle.es_loop.specs.declared.reader.Outcome.{Outcome}
-use Rattle.es_loop.specs.declared.reader.Outcome.TheVariants.{Accepted, Refused}
+use Rattle.es_loop.specs.Answer.{Outcome}
 use Rattle.operation_points.specs.Values.{PointValue}
 use Rattle.program_points.specs.declared.PointsRead.{PointsRead}
 use Rattle.program_points.specs.Told.{points_in, streams_of, closed_of, points_read}
@@ -27,8 +26,8 @@ told_text layers values = labelled (ascii "accepted ") (length values) ++ ascii 
 
 -- 'A refusal prints only `refused N entry E`', as the program `layers` has it
 abbrev pub read_text : Outcome → Layers → List ℕ → List ℕ
-read_text Accepted layers program = told_text layers (points_in program)
-read_text (Refused refusal) layers program = refused_text refusal
+read_text (Ok tt) layers program = told_text layers (points_in program)
+read_text (Err refusal) layers program = refused_text refusal
 
 abbrev pub answer_text : PointsRead → List ℕ → List ℕ
 answer_text read program = read_text read.outcome read.layers program

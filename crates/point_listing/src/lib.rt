@@ -9,7 +9,6 @@ ghost use Rattle.program_points.specs.Told.{points_in, Filled};
 ghost use Rattle.point_listing.specs.Listing.{line_of, lines_from, told_text, points_text};
 
 use closure::Layers;
-use es_loop::Outcome;
 use listing::put_labelled;
 use point_descriptors::Found;
 
@@ -40,10 +39,8 @@ fn put_lines(out: &mut [u8], at: usize, program: &[u8], places: &[usize], layers
     ensures { Laid out.old at (lines_from layers 0 (map (value_at program.now) places.now)) result out.new }
 {
     let mut place = text::put(out, at, b"");
-    let mut index = 0;
-    while index < places.len() {
-        place = put_point_at(out, place, index as u64, program, places[index], layers);
-        index += 1;
+    for (index, point) in places.iter().enumerate() {
+        place = put_point_at(out, place, index as u64, program, *point, layers);
     }
     place
 }
@@ -69,7 +66,7 @@ pub fn put_points(out: &mut [u8], at: usize, program: &[u8], bytes: &[u8]) -> us
     let layers = read.layers;
     let found = read.found;
     match outcome {
-        Outcome::Accepted => put_told(out, at, program, layers, found),
-        Outcome::Refused(refusal) => listing::put_refused(out, at, refusal),
+        Ok(()) => put_told(out, at, program, layers, found),
+        Err(refusal) => listing::put_refused(out, at, refusal),
     }
 }

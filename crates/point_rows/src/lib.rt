@@ -20,12 +20,9 @@ pub fn put_numbers(out: &mut [u32], at: usize, numbers: &[u32]) -> usize
     requires { at + length numbers.now ≤ length out.old }
     ensures { Laid out.old at numbers.now result out.new }
 {
-    let mut i = 0;
-    while i < numbers.len() {
-        out[at + i] = numbers[i];
-        i += 1;
-    }
-    at + numbers.len()
+    let end = at + numbers.len();
+    out[at..end].copy_from_slice(numbers);
+    end
 }
 
 // Bytes without their first bit, which is reserved in a reference.
@@ -33,24 +30,10 @@ fn put_masked(out: &mut [u8], at: usize, bytes: &[u8]) -> usize
     requires { at + length bytes.now ≤ length out.old }
     ensures { Laid out.old at (map (λ byte. byte % 128) bytes.now) result out.new }
 {
-    let mut i = 0;
-    while i < bytes.len() {
-        out[at + i] = bytes[i] % 128;
-        i += 1;
+    for (i, byte) in bytes.iter().enumerate() {
+        out[at + i] = byte % 128;
     }
     at + bytes.len()
-}
-
-fn wide(byte: u8) -> u32
-    ensures { result ≡ byte }
-{
-    byte as u32
-}
-
-fn bit(flag: bool) -> u32
-    ensures { result ≡ cond flag 1 0 }
-{
-    if flag { 1 } else { 0 }
 }
 
 fn rate(there: bool, number: u32) -> u32
@@ -81,7 +64,10 @@ fn put_counts(out: &mut [u32], at: usize, program: &[u8], place: usize) -> usize
     ensures { Laid out.old at (counts_at program.now place) result out.new }
 {
     let head = head_at(program, place);
-    let counts = [wide(head.num_ptl), wide(head.operation_points_count)];
+    let counts = [
+        u32::from(head.num_ptl),
+        u32::from(head.operation_points_count),
+    ];
     put_numbers(out, at, &counts)
 }
 
@@ -106,13 +92,13 @@ fn row_at(program: &[u8], at: usize, layers: Layers) -> [u32; 12]
     let list = built.list;
     let closed = stream_lists::closed(layers, list.present);
     [
-        wide(point.target_ols),
-        wide(point.es_count),
-        wide(point.num_es_in_op),
-        bit(point.avg_bit_rate_info_flag),
-        bit(point.max_bit_rate_info_flag),
-        wide(point.constant_frame_rate_info_idc),
-        wide(point.applicable_temporal_id),
+        u32::from(point.target_ols),
+        u32::from(point.es_count),
+        u32::from(point.num_es_in_op),
+        u32::from(point.avg_bit_rate_info_flag),
+        u32::from(point.max_bit_rate_info_flag),
+        u32::from(point.constant_frame_rate_info_idc),
+        u32::from(point.applicable_temporal_id),
         indicator(
             point.constant_frame_rate_info_idc,
             point.frame_rate_indicator,
@@ -120,7 +106,7 @@ fn row_at(program: &[u8], at: usize, layers: Layers) -> [u32; 12]
         rate(point.avg_bit_rate_info_flag, point.avg_bit_rate),
         rate(point.max_bit_rate_info_flag, point.max_bit_rate),
         small(list.count),
-        bit(closed),
+        u32::from(closed),
     ]
 }
 
@@ -173,10 +159,8 @@ pub fn lay_descriptors(out: &mut [u32], program: &[u8], places: &[usize]) -> usi
     ensures { Laid out.old 0 (gather (counts_at program.now) places.now) result out.new }
 {
     let mut next = 0;
-    let mut i = 0;
-    while i < places.len() {
-        next = put_counts(out, next, program, places[i]);
-        i += 1;
+    for place in places {
+        next = put_counts(out, next, program, *place);
     }
     next
 }
@@ -187,10 +171,8 @@ pub fn lay_profiles(out: &mut [u8], program: &[u8], places: &[usize]) -> usize
     ensures { Laid out.old 0 (gather (profiles_at program.now) places.now) result out.new }
 {
     let mut next = 0;
-    let mut i = 0;
-    while i < places.len() {
-        next = put_profiles(out, next, program, places[i]);
-        i += 1;
+    for place in places {
+        next = put_profiles(out, next, program, *place);
     }
     next
 }
@@ -202,10 +184,8 @@ pub fn lay_points(out: &mut [u32], program: &[u8], places: &[usize], layers: Lay
     ensures { Laid out.old 0 (gather (λ at. row_in layers (value_at program.now at)) places.now) result out.new }
 {
     let mut next = 0;
-    let mut i = 0;
-    while i < places.len() {
-        next = put_row(out, next, program, places[i], layers);
-        i += 1;
+    for place in places {
+        next = put_row(out, next, program, *place, layers);
     }
     next
 }
@@ -217,10 +197,8 @@ pub fn lay_references(out: &mut [u8], program: &[u8], places: &[usize]) -> usize
     ensures { Laid out.old 0 (gather (λ at. reference_bytes (value_at program.now at)) places.now) result out.new }
 {
     let mut next = 0;
-    let mut i = 0;
-    while i < places.len() {
-        next = put_references(out, next, program, places[i]);
-        i += 1;
+    for place in places {
+        next = put_references(out, next, program, *place);
     }
     next
 }
@@ -231,10 +209,8 @@ pub fn lay_flags(out: &mut [u8], program: &[u8], places: &[usize]) -> usize
     ensures { Laid out.old 0 (gather (λ at. layer_bytes (value_at program.now at)) places.now) result out.new }
 {
     let mut next = 0;
-    let mut i = 0;
-    while i < places.len() {
-        next = put_flags(out, next, program, places[i]);
-        i += 1;
+    for place in places {
+        next = put_flags(out, next, program, *place);
     }
     next
 }
@@ -245,10 +221,8 @@ pub fn lay_streams(out: &mut [u8], program: &[u8], places: &[usize], layers: Lay
     ensures { Laid out.old 0 (gather (λ at. streams_of layers (value_at program.now at)) places.now) result out.new }
 {
     let mut next = 0;
-    let mut i = 0;
-    while i < places.len() {
-        next = put_streams(out, next, program, places[i], layers);
-        i += 1;
+    for place in places {
+        next = put_streams(out, next, program, *place, layers);
     }
     next
 }

@@ -1,8 +1,9 @@
 -- The pass over the rows finds the verdict: a row more, the walk over the rows, and what it comes to.
 -- Assumes nothing.
+use Rattle.std.specs.Prelude.{Err, Ok}
 use Prim.Native.Nat.{ℕ, suc, ◌+◌, ◌-◌, ◌*◌, ◌/◌, ◌%◌, ◌<◌, ◌≤◌}
 use mathlib.Core.Path.{◌≡◌, refl, sym, ap, ap₂, ◌∙◌}
-use mathlib.Core.Bool.{Bool, true, false, not, ◌||◌, or-false, or-true, or_assoc}
+use mathlib.Core.Bool.{Bool, true, false, cond, not, ◌||◌, or-false, or_assoc}
 use mathlib.Core.List.{List, [], ◌∷◌}
 use native.Mathlib.Omega.{arith}
 use native.Mathlib.Nat.{add-zero, zero-add, add_assoc}
@@ -10,14 +11,13 @@ use borrow.Author.Tests.{eq-eqb, ne_eqb, eqb-true, ltb-false, not-false}
 use lib.Dec.{eqb, ltb}
 use lib.ListN.{length, take, drop}
 use lib.Seq.{drop-drop}
-use Rattle.combinators.specs.Bools.{neither_left, neither_right}
+use Rattle.combinators.specs.Bools.{apart, neither_left, neither_right}
 use Rattle.combinators.specs.Lists.{any}
 use Rattle.vocabulary.specs.declared.refusal.Refusal.TheVariants.{TooWide}
 use Rattle.point_fields.specs.Fields.{row_too_wide, reference_too_wide, references_counted, layers_counted, fields_size}
 use Rattle.point_weights.specs.declared.Weighed.{Weighed}
-use Rattle.point_weights.specs.declared.Written.TheVariants.{Refused}
 use Rattle.point_weights.specs.Rows.{twelves, rows_in, total, counts_wrong, is_reserved, judged_points, judged}
-use Rattle.point_weights.specs.Weighing.{nothing_weighed, weigh_next, weighed_after, decided}
+use Rattle.point_weights.specs.Weighing.{nothing_weighed, weigh_next, weighed_after, decided_by}
 
 -- ---- a reference of seven bits
 
@@ -47,70 +47,65 @@ rows_none points count i h = let none : count - i ≡ 0 = omega arith in ap (λ 
 
 -- ---- what the rows come to
 
-pub wide_after : (seen : Weighed) (rows : List (List ℕ)) → (weighed_after seen rows).wide ≡ seen.wide || any row_too_wide rows
-wide_after seen [] = sym (or-false seen.wide)
-wide_after seen (row ∷ rows) =
-    wide_after (weigh_next seen row) rows ∙ ap (λ (b : Bool). b || any row_too_wide rows) (here (row_too_wide row) refl) ∙ or_assoc seen.wide (row_too_wide row) (any row_too_wide rows)
+pub wide_after : (seen : Weighed) (rows : List (List ℕ)) → any row_too_wide rows ≡ true → weighed_after seen rows ≡ Err TooWide
+wide_after seen [] e = absurd (apart e)
+wide_after seen (row ∷ rows) e = go (row_too_wide row) e (wide_after (weigh_next seen row) rows)
   where
-    here : (b : Bool) → row_too_wide row ≡ b → (weigh_next seen row).wide ≡ seen.wide || b
-    here true e = rw e (sym (or-true seen.wide))
-    here false e = rw e (sym (or-false seen.wide))
+    go : (b : Bool) → b || any row_too_wide rows ≡ true → (any row_too_wide rows ≡ true → weighed_after (weigh_next seen row) rows ≡ Err TooWide)
+        → cond b (Err TooWide) (weighed_after (weigh_next seen row) rows) ≡ Err TooWide
+    go true e later = refl
+    go false e later = later e
 
 pub counted_after : (seen : Weighed) (rows : List (List ℕ)) → any row_too_wide rows ≡ false
     → weighed_after seen rows
-    ≡ record {
-      wide = seen.wide;
+    ≡ Ok (record {
       reserved = seen.reserved || any is_reserved rows;
       references = seen.references + total references_counted rows;
       layers = seen.layers + total layers_counted rows;
       size = seen.size + total fields_size rows;
-    }
+    })
 counted_after seen [] e = rw (or-false seen.reserved, add-zero seen.references, add-zero seen.layers, add-zero seen.size)
 counted_after seen (row ∷ rows) e =
-    ap (λ (w : Weighed). weighed_after w rows) here
-    ∙ counted_after after rows (neither_right (row_too_wide row) (any row_too_wide rows) e)
+    ap (λ (b : Bool). cond b (Err TooWide) (weighed_after (weigh_next seen row) rows)) (neither_left (row_too_wide row) (any row_too_wide rows) e)
+    ∙ counted_after (weigh_next seen row) rows (neither_right (row_too_wide row) (any row_too_wide rows) e)
     ∙ rw (
       or_assoc seen.reserved (is_reserved row) (any is_reserved rows),
       add_assoc seen.references (references_counted row) (total references_counted rows),
       add_assoc seen.layers (layers_counted row) (total layers_counted rows),
       add_assoc seen.size (fields_size row) (total fields_size rows),
     )
-  where
-    after : Weighed
-    after =
-        record {
-          wide = seen.wide;
-          reserved = seen.reserved || is_reserved row;
-          references = seen.references + references_counted row;
-          layers = seen.layers + layers_counted row;
-          size = seen.size + fields_size row;
-        }
 
-    here : weigh_next seen row ≡ after
-    here = rw (neither_left (row_too_wide row) (any row_too_wide rows) e)
+-- a row of those that are left is too wide
+pub wide_here : (seen : Weighed) (row : List ℕ) (rows : List (List ℕ)) → row_too_wide row ≡ true → Err TooWide ≡ weighed_after seen (row ∷ rows)
+wide_here seen row rows e = sym (rw e)
+
+-- or it is not, and is counted
+pub fine_here : (seen : Weighed) (row : List ℕ) (rows : List (List ℕ)) → row_too_wide row ≡ false
+    → weighed_after (weigh_next seen row) rows ≡ weighed_after seen (row ∷ rows)
+fine_here seen row rows e = sym (rw e)
 
 -- THE VERDICT, of rows beside references of which none is too wide.
 pub weighed_decides : (rows : List (List ℕ)) (profiles : ℕ) (references : List ℕ) (layers : ℕ) → any reference_too_wide references ≡ false
-    → decided (weighed_after nothing_weighed rows) profiles (length references) layers ≡ judged_points rows profiles references layers
+    → decided_by (weighed_after nothing_weighed rows) profiles (length references) layers ≡ judged_points rows profiles references layers
 weighed_decides rows profiles references layers fine = go (any row_too_wide rows) refl
   where
     go : (b : Bool) → any row_too_wide rows ≡ b
-        → decided (weighed_after nothing_weighed rows) profiles (length references) layers ≡ judged_points rows profiles references layers
-    go true e = rw (wide_after nothing_weighed rows, e, fine)
+        → decided_by (weighed_after nothing_weighed rows) profiles (length references) layers ≡ judged_points rows profiles references layers
+    go true e = rw (wide_after nothing_weighed rows e, e, fine)
     go false e = rw (counted_after nothing_weighed rows e, zero-add (total references_counted rows), zero-add (total layers_counted rows), zero-add (total fields_size rows), fine, e)
 
 module _ (profiles : ℕ) (points references : List ℕ) (layers : ℕ) where
-  pub counts_decide : counts_wrong profiles (length points) ≡ true → Refused TooWide ≡ judged profiles points references layers
+  pub counts_decide : counts_wrong profiles (length points) ≡ true → Err TooWide ≡ judged profiles points references layers
   unfolding judged
   counts_decide e = sym (rw e)
 
   pub references_decide : counts_wrong profiles (length points) ≡ false → any reference_too_wide references ≡ true
-      → Refused TooWide ≡ judged profiles points references layers
+      → Err TooWide ≡ judged profiles points references layers
   unfolding judged
   references_decide e f = sym (rw (e, f))
 
   pub points_decide : counts_wrong profiles (length points) ≡ false → any reference_too_wide references ≡ false
-      → decided (weighed_after nothing_weighed (rows_in points)) profiles (length references) layers ≡ judged profiles points references layers
+      → decided_by (weighed_after nothing_weighed (rows_in points)) profiles (length references) layers ≡ judged profiles points references layers
   unfolding judged
   points_decide e f = weighed_decides (rows_in points) profiles references layers f ∙ sym (rw e)
 

@@ -1,11 +1,10 @@
 -- MANY POINTS AS THEIR CALLER GIVES THEM: rows of 12 numbers one after another, and the references and the layers of all of them in order.
 -- Assumes nothing.
-use Rattle.std.specs.Prelude.{ℕ, zero, suc, ◌+◌, ◌/◌, ◌%◌, Bool, cond, not, ◌||◌, List, [], ◌∷◌, eqb, ltb, length, take, drop}
+use Rattle.std.specs.Prelude.{ℕ, zero, suc, ◌+◌, ◌/◌, ◌%◌, Bool, cond, not, ◌||◌, List, [], ◌∷◌, eqb, ltb, length, take, drop, Err, Ok}
 use Rattle.combinators.specs.Lists.{any}
 use Rattle.vocabulary.specs.declared.refusal.Refusal.TheVariants.{TooWide, ReservedEsCount}
 use Rattle.point_fields.specs.Fields.{row_too_wide, reference_too_wide, references_counted, layers_counted, fields_size}
-use Rattle.point_weights.specs.declared.Written.{Written}
-use Rattle.point_weights.specs.declared.Written.TheVariants.{Bytes, Refused}
+use Rattle.point_weights.specs.Answer.{Written}
 
 -- pieces of twelve, one after another: the rows of points, and the profile structures
 abbrev pub twelves : ℕ → List ℕ → List (List ℕ)
@@ -46,10 +45,10 @@ length_for rows profiles = 3 + profiles + total references_counted rows + total 
 
 abbrev pub judged_points : List (List ℕ) → ℕ → List ℕ → ℕ → Written
 judged_points rows profiles references layers =
-    cond (points_wrong rows references layers) (Refused TooWide)
-    (cond (any is_reserved rows) (Refused ReservedEsCount)
-    (cond (ltb 255 (length_for rows profiles)) (Refused TooWide) (Bytes (2 + length_for rows profiles))))
+    cond (points_wrong rows references layers) (Err TooWide)
+    (cond (any is_reserved rows) (Err ReservedEsCount)
+    (cond (ltb 255 (length_for rows profiles)) (Err TooWide) (Ok (2 + length_for rows profiles))))
 
 unfoldable pub judged : ℕ → List ℕ → List ℕ → ℕ → Written
 judged profiles points references layers =
-    cond (counts_wrong profiles (length points)) (Refused TooWide) (judged_points (rows_in points) profiles references layers)
+    cond (counts_wrong profiles (length points)) (Err TooWide) (judged_points (rows_in points) profiles references layers)

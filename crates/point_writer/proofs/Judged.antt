@@ -1,5 +1,6 @@
 -- From the verdict to the answer: what an accepted descriptor is known to be, its bytes, and each way of the code.
 -- Assumes nothing.
+use Rattle.std.specs.Prelude.{Err, Ok}
 use Prim.Native.Nat.{ℕ, ◌+◌, ◌-◌, ◌/◌, ◌≤◌, ◌<◌}
 use mathlib.Core.Path.{◌≡◌, refl, sym, ap, ◌∙◌}
 use mathlib.Core.Bool.{Bool, true, false, cond, ◌||◌}
@@ -18,8 +19,7 @@ use Rattle.descriptor_heads.specs.Head.{head_table}
 use Rattle.vocabulary.specs.declared.refusal.Refusal.{Refusal}
 use Rattle.vocabulary.specs.declared.refusal.Refusal.TheVariants.{NoRoom, TooWide, ReservedEsCount}
 use Rattle.point_fields.specs.Fields.{row_too_wide, reference_too_wide, references_counted, layers_counted}
-use Rattle.point_weights.specs.declared.Written.{Written}
-use Rattle.point_weights.specs.declared.Written.TheVariants.{Bytes, Refused}
+use Rattle.point_weights.specs.Answer.{Written}
 use Rattle.point_weights.specs.Rows.{rows_in, total, counts_wrong, points_wrong, is_reserved, length_for, judged}
 use Rattle.point_weights.proofs.Weights.{WholeRows, whole_rows}
 use Rattle.point_writer.specs.Layout.{extension_tag, head_bytes, points_bytes, before_points, payload_bytes, descriptor_bytes}
@@ -61,7 +61,7 @@ module _ (profiles points references layers : List ℕ) where
     pub short : length_for rows (length profiles) ≤ 255
     pub sized : size ≡ 2 + length_for rows (length profiles)
 
-  pub accepted : (size : ℕ) → judged (length profiles) points references (length layers) ≡ Bytes size → Accepted size
+  pub accepted : (size : ℕ) → judged (length profiles) points references (length layers) ≡ Ok size → Accepted size
   unfolding judged
   accepted size =
       go (counts_wrong (length profiles) (length points)) (points_wrong rows references (length layers)) (any is_reserved rows) (ltb 255 (length_for rows (length profiles)))
@@ -69,8 +69,8 @@ module _ (profiles points references layers : List ℕ) where
     where
       go : (a b c d : Bool) → counts_wrong (length profiles) (length points) ≡ a → points_wrong rows references (length layers) ≡ b → any is_reserved rows ≡ c
           → ltb 255 (length_for rows (length profiles)) ≡ d
-          → cond a (Refused TooWide) (cond b (Refused TooWide) (cond c (Refused ReservedEsCount) (cond d (Refused TooWide) (Bytes (2 + length_for rows (length profiles))))))
-          ≡ Bytes size
+          → cond a (Err TooWide) (cond b (Err TooWide) (cond c (Err ReservedEsCount) (cond d (Err TooWide) (Ok (2 + length_for rows (length profiles))))))
+          ≡ Ok size
           → Accepted size
       go true b c d p q r s e = let z : ◌≡◌ {A = ℕ} 0 1 = cc in absurd (omega arith)
       go false true c d p q r s e = let z : ◌≡◌ {A = ℕ} 0 1 = cc in absurd (omega arith)
@@ -106,25 +106,25 @@ module _ (profiles points references layers : List ℕ) where
       pub answers : written ≡ answer (length old) profiles points references layers
       pub holds : new ≡ content profiles points references layers old
 
-    pub refused : (refusal : Refusal) → judged (length profiles) points references (length layers) ≡ Refused refusal → Answered (Refused refusal) old
+    pub refused : (refusal : Refusal) → judged (length profiles) points references (length layers) ≡ Err refusal → Answered (Err refusal) old
     refused refusal e =
         record {
           answers = sym (ap (in_room (length old)) e);
           holds = sym (ap (λ (w : Written). content_after (in_room (length old) w) (descriptor_bytes profiles points references layers) old) e);
         }
 
-    room : (size : ℕ) (b : Bool) → judged (length profiles) points references (length layers) ≡ Bytes size → ltb (length old) size ≡ b
-        → cond b (Refused NoRoom) (Bytes size) ≡ answer (length old) profiles points references layers
-    room size b e f = sym (ap (in_room (length old)) e ∙ ap (λ (x : Bool). cond x (Refused NoRoom) (Bytes size)) f)
+    room : (size : ℕ) (b : Bool) → judged (length profiles) points references (length layers) ≡ Ok size → ltb (length old) size ≡ b
+        → cond b (Err NoRoom) (Ok size) ≡ answer (length old) profiles points references layers
+    room size b e f = sym (ap (in_room (length old)) e ∙ ap (λ (x : Bool). cond x (Err NoRoom) (Ok size)) f)
 
-    pub no_room : (size : ℕ) → judged (length profiles) points references (length layers) ≡ Bytes size → length old < size → Answered (Refused NoRoom) old
+    pub no_room : (size : ℕ) → judged (length profiles) points references (length layers) ≡ Ok size → length old < size → Answered (Err NoRoom) old
     no_room size e h =
         let is = room size true e (lt-ltb (length old) size h) in
         record { answers = is; holds = ap (λ (w : Written). content_after w (descriptor_bytes profiles points references layers) old) is }
 
-    pub written : (size : ℕ) (place next : ℕ) (mid new : List ℕ) → judged (length profiles) points references (length layers) ≡ Bytes size → size ≤ length old
+    pub written : (size : ℕ) (place next : ℕ) (mid new : List ℕ) → judged (length profiles) points references (length layers) ≡ Ok size → size ≤ length old
         → Laid old 0 (before_points profiles (length points / 12) (size - 2)) place mid → Laid mid place (points_bytes rows references layers) next new
-        → Answered (Bytes size) new
+        → Answered (Ok size) new
     written size place next mid new e h p q =
         let known = accepted size e in
         let is = room size false e (le-ltb (length old) size h) in

@@ -1,5 +1,6 @@
 -- The laws that join the meaning of writing a descriptor to what is computed, both ways: `answer_meant`, `answer_only`.
 -- Assumes nothing.
+use Rattle.std.specs.Prelude.{Err, Ok}
 use Prim.Native.Nat.{ℕ, ◌+◌, ◌*◌, ◌/◌, ◌%◌, ◌≤◌, ◌<◌}
 use mathlib.Core.Path.{◌≡◌, refl, sym, ap, ap₂, ◌∙◌, subst}
 use mathlib.Core.Bool.{Bool, true, false, cond, not, ◌||◌}
@@ -22,8 +23,7 @@ use Rattle.operation_points.specs.Values.{PointValue, DescriptorValue}
 use Rattle.vocabulary.specs.declared.refusal.Refusal.TheVariants.{TooWide, ReservedEsCount, NoRoom}
 use Rattle.point_fields.specs.WrittenParts.{parts_bytes, EachFits, FitParts}
 use Rattle.point_fields.specs.Fields.{references_counted, layers_counted}
-use Rattle.point_weights.specs.declared.Written.{Written as Answer}
-use Rattle.point_weights.specs.declared.Written.TheVariants.{Bytes, Refused}
+use Rattle.point_weights.specs.Answer.{Written as Answer}
 use Rattle.point_weights.specs.Rows.{twelves, rows_in, total, counts_wrong, points_wrong, is_reserved, length_for, judged}
 use Rattle.point_writer.specs.Layout.{extension_tag, head_given, head_lists, head_bytes, points_bytes, payload_bytes, descriptor_bytes}
 use Rattle.point_writer.specs.Writing.{in_room, answer, content_after, content}
@@ -199,7 +199,7 @@ module _ (profiles points references layers : List ℕ) where
 
   abbrev chain : Bool → Bool → Bool → Bool → Answer
   chain a b c d =
-      cond a (Refused TooWide) (cond b (Refused TooWide) (cond c (Refused ReservedEsCount) (cond d (Refused TooWide) (Bytes (2 + length_for rows (length profiles))))))
+      cond a (Err TooWide) (cond b (Err TooWide) (cond c (Err ReservedEsCount) (cond d (Err TooWide) (Ok (2 + length_for rows (length profiles))))))
 
   verdict : {a b c d : Bool} → counts_wrong (length profiles) (length points) ≡ a → points_wrong rows references (length layers) ≡ b → any is_reserved rows ≡ c
       → ltb 255 (length_for rows (length profiles)) ≡ d → judged (length profiles) points references (length layers) ≡ chain a b c d
@@ -227,7 +227,7 @@ module _ (profiles points references layers : List ℕ) where
         here w e m = subst (λ (x : Answer). Meets (in_room (length old) x)) (sym e) m
 
         in_room_lem : (known-sound : Sound profiles points references layers) → any is_reserved rows ≡ false → length_for rows (length profiles) ≤ 255 → (b : Bool)
-            → ltb (length old) (2 + length_for rows (length profiles)) ≡ b → Meets (cond b (Refused NoRoom) (Bytes (2 + length_for rows (length profiles))))
+            → ltb (length old) (2 + length_for rows (length profiles)) ≡ b → Meets (cond b (Err NoRoom) (Ok (2 + length_for rows (length profiles))))
         in_room_lem s r short true e =
             let long = descriptor_long profiles points references layers s in
             let c = counted profiles points references layers s in
@@ -235,24 +235,24 @@ module _ (profiles points references layers : List ℕ) where
         in_room_lem s r short false e =
             let long = descriptor_long profiles points references layers s in
             let c = counted profiles points references layers s in
-            subst (λ (n : ℕ). Answers profiles points references layers old (Bytes n) (bytes ++ drop (length bytes) old)) long
+            subst (λ (n : ℕ). Answers profiles points references layers old (Ok n) (bytes ++ drop (length bytes) old)) long
             (accepts (given s) (not_reserved (given s) r) (descriptor_written (given s) (omega arith))
             (omega (arith, ltb-false (length old) (2 + length_for rows (length profiles)) e)))
 
         go : (a b c d : Bool) → counts_wrong (length profiles) (length points) ≡ a → points_wrong rows references (length layers) ≡ b → any is_reserved rows ≡ c
             → ltb 255 (length_for rows (length profiles)) ≡ d → Meets (answer (length old) profiles points references layers)
-        go true b c d p q r s = here (Refused TooWide) (verdict p q r s) (no_value (λ v g. both_ways p (known g).counts_fine))
-        go false true c d p q r s = here (Refused TooWide) (verdict p q r s) (no_value (λ v g. both_ways q (known g).points_fine))
+        go true b c d p q r s = here (Err TooWide) (verdict p q r s) (no_value (λ v g. both_ways p (known g).counts_fine))
+        go false true c d p q r s = here (Err TooWide) (verdict p q r s) (no_value (λ v g. both_ways q (known g).points_fine))
         go false false true d p q r s =
             let g = given (sound profiles points references layers p q) in
-            here (Refused ReservedEsCount) (verdict p q r s) (reserves g (reserved_some (values_in rows references layers) (sym (known g).reserved_alike ∙ r)))
+            here (Err ReservedEsCount) (verdict p q r s) (reserves g (reserved_some (values_in rows references layers) (sym (known g).reserved_alike ∙ r)))
         go false false false true p q r s =
             let fine = sound profiles points references layers p q in
             let c = counted profiles points references layers fine in
-            here (Refused TooWide) (verdict p q r s)
+            here (Err TooWide) (verdict p q r s)
             (too_long_lem (given fine) (not_reserved (given fine) r) (payload_written (given fine)) (omega (arith, ltb-true 255 (length_for rows (length profiles)) s)))
         go false false false false p q r s =
-            here (Bytes (2 + length_for rows (length profiles))) (verdict p q r s)
+            here (Ok (2 + length_for rows (length profiles))) (verdict p q r s)
             (in_room_lem (sound profiles points references layers p q) r (ltb-false 255 (length_for rows (length profiles)) s)
             (ltb (length old) (2 + length_for rows (length profiles))) refl)
 
@@ -273,10 +273,10 @@ module _ (profiles points references layers : List ℕ) where
 
         by_room : {v : DescriptorValue} (g : Gives profiles points references layers v) → (SomeReserved v.points → ⊥) → length_for rows (length profiles) ≤ 255 → (b : Bool)
             → ltb (length old) (2 + length_for rows (length profiles)) ≡ b
-            → in_room (length old) (judged (length profiles) points references (length layers)) ≡ cond b (Refused NoRoom) (Bytes (2 + length_for rows (length profiles)))
+            → in_room (length old) (judged (length profiles) points references (length layers)) ≡ cond b (Err NoRoom) (Ok (2 + length_for rows (length profiles)))
         by_room g unreserved small b e =
             ap (in_room (length old)) (verdict (known g).counts_fine (known g).points_fine (not_reserved g unreserved) (le-ltb 255 (length_for rows (length profiles)) small))
-            ∙ ap (λ (x : Bool). cond x (Refused NoRoom) (Bytes (2 + length_for rows (length profiles)))) e
+            ∙ ap (λ (x : Bool). cond x (Err NoRoom) (Ok (2 + length_for rows (length profiles)))) e
 
         fine : {v : DescriptorValue} → Gives profiles points references layers v → Sound profiles points references layers
         fine g = sound profiles points references layers (known g).counts_fine (known g).points_fine
@@ -294,24 +294,24 @@ module _ (profiles points references layers : List ℕ) where
         go : {w : Answer} {new : List ℕ} → Answers profiles points references layers old w new → Only w new
         go (no_value unlike) = wrong (counts_wrong (length profiles) (length points)) (points_wrong rows references (length layers)) refl refl
           where
-            wrong : (a b : Bool) → counts_wrong (length profiles) (length points) ≡ a → points_wrong rows references (length layers) ≡ b → Only (Refused TooWide) old
-            wrong true b p q = only (Refused TooWide) (ap (in_room (length old)) (verdict p q refl refl))
-            wrong false true p q = only (Refused TooWide) (ap (in_room (length old)) (verdict p q refl refl))
+            wrong : (a b : Bool) → counts_wrong (length profiles) (length points) ≡ a → points_wrong rows references (length layers) ≡ b → Only (Err TooWide) old
+            wrong true b p q = only (Err TooWide) (ap (in_room (length old)) (verdict p q refl refl))
+            wrong false true p q = only (Err TooWide) (ap (in_room (length old)) (verdict p q refl refl))
             wrong false false p q = absurd (unlike _ (given (sound profiles points references layers p q)))
         go (reserves {v} g s) =
-            only (Refused ReservedEsCount)
+            only (Err ReservedEsCount)
             (ap (in_room (length old)) (verdict (known g).counts_fine (known g).points_fine ((known g).reserved_alike ∙ some_reserved s) refl))
         go (too_long_lem {v} {payload} g unreserved w h) =
             let is = payload_only g w in
             let c = counted profiles points references layers (fine g) in
             let long : length payload ≡ length (payload_bytes profiles points references layers) = ap length is in
-            only (Refused TooWide)
+            only (Err TooWide)
             (ap (in_room (length old)) (verdict (known g).counts_fine (known g).points_fine (not_reserved g unreserved) (lt-ltb 255 (length_for rows (length profiles)) (omega arith))))
         go (no_room {v} {bytes = l} g unreserved w h) =
             let long : length l ≡ 2 + length_for rows (length profiles) = ap length (descriptor_only g w) ∙ descriptor_long profiles points references layers (fine g) in
-            only (Refused NoRoom) (by_room g unreserved (short g w) true (lt-ltb (length old) (2 + length_for rows (length profiles)) (omega arith)))
+            only (Err NoRoom) (by_room g unreserved (short g w) true (lt-ltb (length old) (2 + length_for rows (length profiles)) (omega arith)))
         go (accepts {v} {bytes = l} g unreserved w h) =
             let is : l ≡ bytes = descriptor_only g w in
             let long : length l ≡ 2 + length_for rows (length profiles) = ap length is ∙ descriptor_long profiles points references layers (fine g) in
-            let o = only (Bytes (2 + length_for rows (length profiles))) (by_room g unreserved (short g w) false (le-ltb (length old) (2 + length_for rows (length profiles)) (omega arith))) in
-            record { answers = ap Bytes long ∙ o.answers; holds = ap (λ (m : List ℕ). m ++ drop (length m) old) is ∙ o.holds }
+            let o = only (Ok (2 + length_for rows (length profiles))) (by_room g unreserved (short g w) false (le-ltb (length old) (2 + length_for rows (length profiles)) (omega arith))) in
+            record { answers = ap Ok long ∙ o.answers; holds = ap (λ (m : List ℕ). m ++ drop (length m) old) is ∙ o.holds }

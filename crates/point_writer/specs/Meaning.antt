@@ -2,7 +2,7 @@
 -- rows of a value, the bytes of a value, and the answer with what the buffer then holds. proofs/Meant.antt has the law that joins this to what is computed: the
 -- computed answer has this meaning, and no other answer has it.
 -- Assumes nothing.
-use Rattle.std.specs.Prelude.{ℕ, ◌+◌, ◌%◌, ◌≤◌, ◌<◌, cond, ◌≡◌, List, [], ◌∷◌, ◌++◌, map, length, drop}
+use Rattle.std.specs.Prelude.{ℕ, ◌+◌, ◌%◌, ◌≤◌, ◌<◌, cond, ◌≡◌, List, [], ◌∷◌, ◌++◌, map, length, drop, Err, Ok}
 use lib.Text.{eqt}
 use Rattle.combinators.specs.Lists.{Nth}
 use Rattle.syntax.specs.Table.{Written}
@@ -16,8 +16,7 @@ use Rattle.operation_points.specs.Values.{FrameRate, no_frame_rate, constant, Po
 use Rattle.vocabulary.specs.declared.refusal.Refusal.TheVariants.{TooWide, ReservedEsCount, NoRoom}
 use Rattle.point_fields.specs.WrittenParts.{Lists, FitParts, WritesParts}
 use Rattle.point_fields.specs.Fields.{given_in}
-use Rattle.point_weights.specs.declared.Written.{Written as Answer}
-use Rattle.point_weights.specs.declared.Written.TheVariants.{Bytes, Refused}
+use Rattle.point_weights.specs.Answer.{Written as Answer}
 use Rattle.point_writer.specs.Layout.{extension_tag, head_given, head_lists}
 
 -- ---- what a value gives to the names of the table's lines
@@ -101,16 +100,16 @@ pub data WritesDescriptor (v : DescriptorValue) : List ℕ → Type 0 where
 
 pub data Answers (profiles points references layers old : List ℕ) : Answer → List ℕ → Type 0 where
   -- 25 'for given values and counts'
-  no_value : ((v : DescriptorValue) → Gives profiles points references layers v → ⊥) → Answers profiles points references layers old (Refused TooWide) old
+  no_value : ((v : DescriptorValue) → Gives profiles points references layers v → ⊥) → Answers profiles points references layers old (Err TooWide) old
   -- 'then 41 for 255 references'
   reserves : {v : DescriptorValue} → Gives profiles points references layers v → SomeReserved v.points
-      → Answers profiles points references layers old (Refused ReservedEsCount) old
+      → Answers profiles points references layers old (Err ReservedEsCount) old
   -- 'then 25 for a length above 255'
   too_long_lem : {v : DescriptorValue} {payload : List ℕ} → Gives profiles points references layers v → (SomeReserved v.points → ⊥) → WritesPayload v payload
-      → 255 < 1 + length payload → Answers profiles points references layers old (Refused TooWide) old
+      → 255 < 1 + length payload → Answers profiles points references layers old (Err TooWide) old
   -- 'then 17'
   no_room : {v : DescriptorValue} {bytes : List ℕ} → Gives profiles points references layers v → (SomeReserved v.points → ⊥) → WritesDescriptor v bytes
-      → length old < length bytes → Answers profiles points references layers old (Refused NoRoom) old
+      → length old < length bytes → Answers profiles points references layers old (Err NoRoom) old
   -- the number of bytes written
   accepts : {v : DescriptorValue} {bytes : List ℕ} → Gives profiles points references layers v → (SomeReserved v.points → ⊥) → WritesDescriptor v bytes
-      → length bytes ≤ length old → Answers profiles points references layers old (Bytes (length bytes)) (bytes ++ drop (length bytes) old)
+      → length bytes ≤ length old → Answers profiles points references layers old (Ok (length bytes)) (bytes ++ drop (length bytes) old)

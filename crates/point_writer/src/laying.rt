@@ -38,8 +38,7 @@ pub fn put_points(
     let mut reference = 0;
     let mut layer = 0;
     let count = points.len() / ROW;
-    let mut i = 0;
-    while i < count {
+    for i in 0..count {
         let start = i * ROW;
         let end = start + ROW;
         let references_end = reference + points[start + 1] as usize;
@@ -53,7 +52,6 @@ pub fn put_points(
         );
         reference = references_end;
         layer = layers_end;
-        i += 1;
     }
     place
 }

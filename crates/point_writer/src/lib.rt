@@ -5,5 +5,4 @@
 mod laying;
 mod writer;
 
-pub use point_weights::Written;
 pub use writer::write_points;

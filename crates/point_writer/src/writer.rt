@@ -4,7 +4,7 @@ ghost use Rattle.point_writer.specs.Writing.{answer, content};
 
 use super::laying::{put_before_points, put_points};
 use point_fields::ROW;
-use point_weights::{Written, judge};
+use point_weights::judge;
 use vocabulary::Refusal;
 
 // Writes the descriptor into `out`, from its front on.
@@ -14,19 +14,14 @@ pub fn write_points(
     references: &[u8],
     layers: &[u8],
     out: &mut [u8],
-) -> Written
+) -> Result<usize, Refusal>
     ensures { (result ≡ answer (length out.old) profiles.now points.now references.now layers.now) × (out.new ≡ content profiles.now points.now references.now layers.now out.old) }
 {
-    let judged = judge(profiles.len(), points, references, layers.len());
-    match judged {
-        Written::Refused(refusal) => Written::Refused(refusal),
-        Written::Bytes(size) => {
-            if out.len() < size {
-                return Written::Refused(Refusal::NoRoom);
-            }
-            let place = put_before_points(out, profiles, points.len() / ROW, size - 2);
-            put_points(out, place, points, references, layers);
-            Written::Bytes(size)
-        }
+    let size = judge(profiles.len(), points, references, layers.len())?;
+    if out.len() < size {
+        return Err(Refusal::NoRoom);
     }
+    let place = put_before_points(out, profiles, points.len() / ROW, size - 2);
+    put_points(out, place, points, references, layers);
+    Ok(size)
 }

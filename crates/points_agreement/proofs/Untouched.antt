@@ -1,5 +1,6 @@
 -- Demand 3 is untouched: `untouched`, of every two loops; and so the layers are the same beside any two programs' loops, `same_beside`.
 -- Assumes nothing.
+use Rattle.std.specs.Prelude.{Err, Ok}
 use Prim.Native.Nat.{ℕ, ◌≤◌}
 use mathlib.Core.Bool.{Bool, true, false, cond}
 use mathlib.Core.List.{List, map}
@@ -11,12 +12,11 @@ use Rattle.vocabulary.specs.declared.refusal.Refusal.TheVariants.{UnknownReferen
 use Rattle.vocabulary.specs.declared.stream_types.Reading.TheVariants.{Edition2015}
 use Rattle.vocabulary.specs.Refusals.{number_of}
 use Rattle.closure.specs.declared.Layers.{Layers}
-use Rattle.closure.specs.declared.Closure.{Closure}
+use Rattle.closure.specs.Answer.{Closure}
 use Rattle.closure.specs.Meaning as Target
 use Rattle.loop_entries.specs.declared.Entry.{Entry}
 use Rattle.loop_entries.specs.declared.Stream.{Stream}
-use Rattle.es_loop.specs.declared.reader.Outcome.{Outcome}
-use Rattle.es_loop.specs.declared.reader.Outcome.TheVariants.{Accepted, Refused}
+use Rattle.es_loop.specs.Answer.{Outcome}
 use Rattle.es_loop.specs.declared.reader.LoopRead.{LoopRead}
 use Rattle.loop_entries.specs.Entries.{entry_of}
 use Rattle.es_loop.specs.Reading.{refused_with, accepted}
@@ -27,13 +27,13 @@ use Rattle.loop_layers.specs.Meaning.{LayersOf}
 use Rattle.loop_layers.specs.Meaning as LoopClosure
 use Rattle.rows.specs.Table.{Table, most_rows}
 use Rattle.unit_lists.specs.Sequence.{Lists}
-use Rattle.join_answers.specs.declared.answer.Joined.{Joined}
+use Rattle.join_answers.specs.Answer.{Joined}
 use Rattle.join_answers.specs.Meaning as Joining
 use Rattle.importing.specs.Meaning as Import
 use Rattle.agreement.specs.Meaning.{Accepts, Agrees}
 use Rattle.agreement.proofs.Agreement.{agreement}
-use Rattle.operation_points.specs.declared.Filling.{Filling}
-use Rattle.operation_points.specs.declared.Filling.TheVariants.{Exact, Inexact, Reserved}
+use Rattle.operation_points.specs.Answer.{Filling}
+use Rattle.operation_points.specs.declared.PointFault.TheVariants.{DoesNotFit, ReservedCount}
 use Rattle.point_descriptors.specs.Descriptors.{program_filling, found_in}
 use Rattle.program_points.specs.Told.{points_in, profiles_in, is_absent, tally_of, refused_points, by_filling, by_outcome, points_read}
 use Rattle.combinators.specs.Lists.{any}
@@ -45,20 +45,20 @@ use Rattle.points_agreement.specs.Untouched.{Untouched}
 -- ---- the layers that are given back
 
 filling_layers : (f : Filling) (layers : Layers) (program : List ℕ) → (by_filling f layers program).layers ≡ layers
-filling_layers Inexact layers program = refl
-filling_layers Reserved layers program = refl
-filling_layers Exact layers program = go (any (is_absent layers) (points_in program))
+filling_layers (Err DoesNotFit) layers program = refl
+filling_layers (Err ReservedCount) layers program = refl
+filling_layers (Ok _) layers program = go (any (is_absent layers) (points_in program))
   where
     go : (b : Bool)
         → (cond b (refused_points UnknownReference layers (found_in program))
-        (record { outcome = Accepted; layers = layers; found = found_in program; profile_bytes = length (profiles_in program); tally = tally_of layers (points_in program) })).layers
+        (record { outcome = Ok tt; layers = layers; found = found_in program; profile_bytes = length (profiles_in program); tally = tally_of layers (points_in program) })).layers
         ≡ layers
     go true = refl
     go false = refl
 
 outcome_layers : (o : Outcome) (layers : Layers) (program : List ℕ) → (by_outcome o layers program).layers ≡ layers
-outcome_layers (Refused refusal) layers program = refl
-outcome_layers Accepted layers program = filling_layers (program_filling program) layers program
+outcome_layers (Err refusal) layers program = refl
+outcome_layers (Ok _) layers program = filling_layers (program_filling program) layers program
 
 pub layers_back : (program bytes : List ℕ) → (points_read program bytes).layers ≡ (loop_layers Edition2015 bytes).layers
 layers_back program bytes = outcome_layers (loop_layers Edition2015 bytes).outcome (loop_layers Edition2015 bytes).layers program
@@ -75,7 +75,7 @@ accepted_layers {layers = layers} a =
 never_refused : {bytes : List ℕ} {layers : Layers} {refusal : Refusal} → InLayers bytes layers → Loop.Answers Edition2015 bytes (refused_with refusal) → ⊥
 never_refused {bytes} {refusal = refusal} l r =
     let same : refused_with refusal ≡ accepted l.streams = answer_only Edition2015 bytes r ∙ sym (answer_only Edition2015 bytes l.accepts) in
-    let other : ◌≡◌ {A = Outcome} (Refused refusal) Accepted = ap (λ (x : LoopRead). x.outcome) same in
+    let other : ◌≡◌ {A = Outcome} (Err refusal) (Ok tt) = ap (λ (x : LoopRead). x.outcome) same in
     let z : ◌≡◌ {A = ℕ} 0 1 = cc in omega arith
 
 module _ (program bytes : List ℕ) where

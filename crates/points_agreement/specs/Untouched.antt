@@ -11,7 +11,7 @@ use Rattle.vocabulary.specs.declared.refusal.Refusal.{Refusal}
 use Rattle.vocabulary.specs.declared.stream_types.Reading.TheVariants.{Edition2015}
 use Rattle.vocabulary.specs.Refusals.{number_of}
 use Rattle.closure.specs.declared.Layers.{Layers}
-use Rattle.closure.specs.declared.Closure.{Closure}
+use Rattle.closure.specs.Answer.{Closure}
 use Rattle.closure.specs.Meaning as Target
 use Rattle.loop_entries.specs.declared.Entry.{Entry}
 use Rattle.es_loop.specs.Reading.{refused_with}
@@ -20,7 +20,7 @@ use Rattle.loop_layers.specs.Closures.{loop_layers}
 use Rattle.loop_layers.specs.Meaning as LoopClosure
 use Rattle.rows.specs.Table.{Table, most_rows}
 use Rattle.unit_lists.specs.Sequence.{Lists}
-use Rattle.join_answers.specs.declared.answer.Joined.{Joined}
+use Rattle.join_answers.specs.Answer.{Joined}
 use Rattle.join_answers.specs.Meaning as Joining
 use Rattle.importing.specs.Meaning as Import
 use Rattle.agreement.specs.Meaning.{Accepts, Agrees}

@@ -1,5 +1,6 @@
 -- The values that are computed are what the fields say, and nothing else is: `points_meant` and `points_only`, `payload_meant` and `payload_only`.
 -- Assumes nothing.
+use Rattle.std.specs.Prelude.{None, Some}
 use Prim.Native.Nat.{ℕ, zero, suc, ◌+◌, ◌*◌, ◌≤◌, ◌<◌}
 use Prim.Native.String.{String}
 use mathlib.Core.Bool.{Bool, true, false, cond}
@@ -15,10 +16,8 @@ use Rattle.combinators.specs.Bools.{both_ways}
 use Rattle.combinators.specs.Lists.{Nth, here, there, nth_inside, nth_get_d, nth_of_map}
 use Rattle.syntax.specs.Table.{Table, bytes}
 use Rattle.syntax.specs.Named.{Given, given_to, read_by}
-use Rattle.operation_points.specs.declared.HeadRead.{HeadRead}
-use Rattle.operation_points.specs.declared.HeadRead.TheVariants.{Before, HeadDoesNotFit}
+use Rattle.operation_points.specs.Answer.{HeadRead, FirstPoint}
 use Rattle.operation_points.specs.declared.Point.{Point}
-use Rattle.operation_points.specs.declared.FirstPoint.{FirstPoint}
 use Rattle.operation_points.specs.Parts.{Part, Parses, nothing, lines_then, repeated_then, when_there, when_not}
 use Rattle.operation_points.specs.Tables.{head_syntax, point_syntax, point_head, reference, flags_count, flags, profiles_count}
 use Rattle.operation_points.specs.Points.{head_from, head_in, head_of, point_from, reference_from, flags_from}
@@ -183,11 +182,11 @@ points_only {left = left} (PointsHave.point_then {count} {given} point behind w 
 -- ---- a payload
 
 module _ {given : Given} (payload head points : List ℕ) (split : payload ≡ head ++ points) (p : Parses head_syntax [] head given) where
-  head_is : head_of payload ≡ Before (head_from (record { end = length head; given = given }))
+  head_is : head_of payload ≡ Some (head_from (record { end = length head; given = given }))
   unfolding head_of
   head_is =
       ap (head_in payload) (parses_walk points payload split p)
-      ∙ ap (λ (b : Bool). cond b (Before (head_from (record { end = length head; given = given }))) HeadDoesNotFit)
+      ∙ ap (λ (b : Bool). cond b (Some (head_from (record { end = length head; given = given }))) None)
       (le-leb (length head) (length payload) (omega (arith, ap length split, length-append head points)))
 
   value_is : value_of payload

@@ -15,8 +15,9 @@ use Rattle.framing.specs.Pieces.{Item, whole, broken, Cuts, nothing_left, does_n
 use Rattle.framing.proofs.Pieces.{cut_cuts}
 use Rattle.descriptor_heads.specs.Head.{descriptor_tag, descriptor_length}
 use Rattle.descriptor_heads.proofs.Heads.{by_tag}
-use Rattle.operation_points.specs.declared.Filling.{Filling}
-use Rattle.operation_points.specs.declared.Filling.TheVariants.{Exact, Inexact, Reserved}
+use Rattle.std.specs.Prelude.{Err, Ok}
+use Rattle.operation_points.specs.Answer.{Filling}
+use Rattle.operation_points.specs.declared.PointFault.TheVariants as PointFault
 use Rattle.operation_points.specs.Points.{filling_of}
 use Rattle.operation_points.specs.Values.{DescriptorValue, value_of}
 use Rattle.operation_points.specs.Meaning.{Points, Descriptor, Fills, exact, reserved, inexact}
@@ -57,7 +58,7 @@ holds_one broken a b p q = absurd (holds_only p)
 holds_filling : (item : Item) (payload : List ℕ) → HoldsPoints item payload → filling_in item ≡ filling_of payload
 holds_filling (whole head body) payload p =
     let w = holds_only p in
-    ap (λ (b : Bool). cond b (filling_of (drop 1 body)) Exact) w.0 ∙ ap filling_of (sym w.1)
+    ap (λ (b : Bool). cond b (filling_of (drop 1 body)) (Ok tt)) w.0 ∙ ap filling_of (sym w.1)
 holds_filling broken payload p = absurd (holds_only p)
 
 -- ---- their payloads
@@ -83,23 +84,23 @@ payloads_one (holds {item} {payload = x} h p) (holds {payload = y} k q) =
 
 -- ---- the verdict
 
-worst_from : (f : Filling) (fs : List Filling) → worst f fs ≡ worse f (worst Exact fs)
+worst_from : (f : Filling) (fs : List Filling) → worst f fs ≡ worse f (worst (Ok tt) fs)
 worst_from f [] = last f
   where
-    last : (g : Filling) → g ≡ worse g Exact
-    last Exact = refl
-    last Inexact = refl
-    last Reserved = refl
-worst_from f (g ∷ fs) = worst_from (worse f g) fs ∙ grouped f g (worst Exact fs) ∙ ap (worse f) (sym (worst_from g fs))
+    last : (g : Filling) → g ≡ worse g (Ok tt)
+    last (Ok _) = refl
+    last (Err PointFault.DoesNotFit) = refl
+    last (Err PointFault.ReservedCount) = refl
+worst_from f (g ∷ fs) = worst_from (worse f g) fs ∙ grouped f g (worst (Ok tt) fs) ∙ ap (worse f) (sym (worst_from g fs))
   where
     grouped : (a b c : Filling) → worse (worse a b) c ≡ worse a (worse b c)
-    grouped Inexact b c = refl
-    grouped Exact b c = refl
-    grouped Reserved Inexact c = refl
-    grouped Reserved Exact c = refl
-    grouped Reserved Reserved Inexact = refl
-    grouped Reserved Reserved Exact = refl
-    grouped Reserved Reserved Reserved = refl
+    grouped (Err PointFault.DoesNotFit) b c = refl
+    grouped (Ok _) b c = refl
+    grouped (Err PointFault.ReservedCount) (Err PointFault.DoesNotFit) c = refl
+    grouped (Err PointFault.ReservedCount) (Ok _) c = refl
+    grouped (Err PointFault.ReservedCount) (Err PointFault.ReservedCount) (Err PointFault.DoesNotFit) = refl
+    grouped (Err PointFault.ReservedCount) (Err PointFault.ReservedCount) (Ok _) = refl
+    grouped (Err PointFault.ReservedCount) (Err PointFault.ReservedCount) (Err PointFault.ReservedCount) = refl
 
 abbrev Each : List Item → (Filling → Type 0) → Type 0
 Each items P = (k : ℕ) (item : Item) → Nth items k item → P (filling_in item)
@@ -109,75 +110,75 @@ each_first P x items p f k item here = p
 each_first P x items p f k item (there {k = j} n) = f j item n
 
 data Verdict (items : List Item) : Filling → Type 0 where
-  all_exact : Each items (λ f. f ≡ Exact) → Verdict items Exact
-  some_inexact : {k : ℕ} {item : Item} → Nth items k item → filling_in item ≡ Inexact → Verdict items Inexact
-  some_reserved : {k : ℕ} {item : Item} → Each items (λ f. f ≡ Inexact → ⊥) → Nth items k item → filling_in item ≡ Reserved → Verdict items Reserved
+  all_exact : Each items (λ f. f ≡ Ok tt) → Verdict items (Ok tt)
+  some_inexact : {k : ℕ} {item : Item} → Nth items k item → filling_in item ≡ Err PointFault.DoesNotFit → Verdict items (Err PointFault.DoesNotFit)
+  some_reserved : {k : ℕ} {item : Item} → Each items (λ f. f ≡ Err PointFault.DoesNotFit → ⊥) → Nth items k item → filling_in item ≡ Err PointFault.ReservedCount → Verdict items (Err PointFault.ReservedCount)
 
-not_inexact : {f : Filling} → f ≡ Exact → f ≡ Inexact → ⊥
+not_inexact : {f : Filling} → f ≡ Ok tt → f ≡ Err PointFault.DoesNotFit → ⊥
 not_inexact e p = let z : ◌≡◌ {A = ℕ} 0 1 = cc in omega arith
 
-not_reserved : {f : Filling} → f ≡ Exact → f ≡ Reserved → ⊥
+not_reserved : {f : Filling} → f ≡ Ok tt → f ≡ Err PointFault.ReservedCount → ⊥
 not_reserved e p = let z : ◌≡◌ {A = ℕ} 0 1 = cc in omega arith
 
-inexact_reserved : {f : Filling} → f ≡ Reserved → f ≡ Inexact → ⊥
+inexact_reserved : {f : Filling} → f ≡ Err PointFault.ReservedCount → f ≡ Err PointFault.DoesNotFit → ⊥
 inexact_reserved e p = let z : ◌≡◌ {A = ℕ} 0 1 = cc in omega arith
 
-verdict : (items : List Item) → Verdict items (worst Exact (map filling_in items))
+verdict : (items : List Item) → Verdict items (worst (Ok tt) (map filling_in items))
 verdict [] = all_exact (λ k item n. absurd (not-suc-le-zero (nth_inside n)))
 verdict (x ∷ items) =
     subst (Verdict (x ∷ items)) (sym (worst_from (filling_in x) (map filling_in items))) (go (filling_in x) refl (verdict items))
   where
-    later : {g : Filling} → filling_in x ≡ Exact → Verdict items g → Verdict (x ∷ items) g
-    later e (all_exact f) = all_exact (each_first (λ g. g ≡ Exact) x items e f)
+    later : {g : Filling} → filling_in x ≡ Ok tt → Verdict items g → Verdict (x ∷ items) g
+    later e (all_exact f) = all_exact (each_first (λ g. g ≡ Ok tt) x items e f)
     later e (some_inexact n p) = some_inexact (there n) p
-    later e (some_reserved f n p) = some_reserved (each_first (λ g. g ≡ Inexact → ⊥) x items (not_inexact e) f) (there n) p
+    later e (some_reserved f n p) = some_reserved (each_first (λ g. g ≡ Err PointFault.DoesNotFit → ⊥) x items (not_inexact e) f) (there n) p
 
-    first : {g : Filling} → filling_in x ≡ Reserved → Verdict items g → Verdict (x ∷ items) (worse Reserved g)
-    first e (all_exact f) = some_reserved (each_first (λ g. g ≡ Inexact → ⊥) x items (inexact_reserved e) (λ k item n. not_inexact (f k item n))) here e
+    first : {g : Filling} → filling_in x ≡ Err PointFault.ReservedCount → Verdict items g → Verdict (x ∷ items) (worse (Err PointFault.ReservedCount) g)
+    first e (all_exact f) = some_reserved (each_first (λ g. g ≡ Err PointFault.DoesNotFit → ⊥) x items (inexact_reserved e) (λ k item n. not_inexact (f k item n))) here e
     first e (some_inexact n p) = some_inexact (there n) p
-    first e (some_reserved f n p) = some_reserved (each_first (λ g. g ≡ Inexact → ⊥) x items (inexact_reserved e) f) here e
+    first e (some_reserved f n p) = some_reserved (each_first (λ g. g ≡ Err PointFault.DoesNotFit → ⊥) x items (inexact_reserved e) f) here e
 
     go : (f : Filling) → filling_in x ≡ f → {g : Filling} → Verdict items g → Verdict (x ∷ items) (worse f g)
-    go Inexact e v = some_inexact here e
-    go Exact e v = later e v
-    go Reserved e v = first e v
+    go (Err PointFault.DoesNotFit) e v = some_inexact here e
+    go (Ok _) e v = later e v
+    go (Err PointFault.ReservedCount) e v = first e v
 
 -- what stands behind a verdict of a descriptor
 module _ (program : List ℕ) (items : List Item) where
-  inexact_means : {k : ℕ} (item : Item) → Nth items k item → filling_in item ≡ Inexact → DoesNotFit program items
+  inexact_means : {k : ℕ} (item : Item) → Nth items k item → filling_in item ≡ Err PointFault.DoesNotFit → DoesNotFit program items
   inexact_means broken n e = runs_past n
   inexact_means (whole head body) n e = go (is_points (descriptor_tag head) body) refl e
     where
-      go : (b : Bool) → is_points (descriptor_tag head) body ≡ b → cond b (filling_of (drop 1 body)) Exact ≡ Inexact → DoesNotFit program items
+      go : (b : Bool) → is_points (descriptor_tag head) body ≡ b → cond b (filling_of (drop 1 body)) (Ok tt) ≡ Err PointFault.DoesNotFit → DoesNotFit program items
       go true p e = not_filled n (holds_meant head body p) (subst (Fills (drop 1 body)) e (filling_meant (drop 1 body)))
       go false p e = absurd (not_inexact refl e)
 
-  reserved_means : {k : ℕ} (item : Item) → Nth items k item → filling_in item ≡ Reserved → ReservedCount items
+  reserved_means : {k : ℕ} (item : Item) → Nth items k item → filling_in item ≡ Err PointFault.ReservedCount → ReservedCount items
   reserved_means broken n e = absurd (inexact_reserved e refl)
   reserved_means (whole head body) n e = go (is_points (descriptor_tag head) body) refl e
     where
-      go : (b : Bool) → is_points (descriptor_tag head) body ≡ b → cond b (filling_of (drop 1 body)) Exact ≡ Reserved → ReservedCount items
+      go : (b : Bool) → is_points (descriptor_tag head) body ≡ b → cond b (filling_of (drop 1 body)) (Ok tt) ≡ Err PointFault.ReservedCount → ReservedCount items
       go true p e = reserved_count n (holds_meant head body p) (subst (Fills (drop 1 body)) e (filling_meant (drop 1 body)))
       go false p e = absurd (not_reserved refl e)
 
-  fits : too_long program ≡ false → Each items (λ f. f ≡ Inexact → ⊥) → DoesNotFit program items → ⊥
+  fits : too_long program ≡ false → Each items (λ f. f ≡ Err PointFault.DoesNotFit → ⊥) → DoesNotFit program items → ⊥
   fits short f (too_long_lem h) = both_ways (lt-ltb 1008 (length program) h) short
   fits short f (runs_past {k} n) = f k broken n refl
   fits short f (not_filled {k} {item} {payload} n h x) = f k item n (holds_filling item payload h ∙ sym (filling_only payload x))
 
-  none_reserved : Each items (λ f. f ≡ Reserved → ⊥) → ReservedCount items → ⊥
+  none_reserved : Each items (λ f. f ≡ Err PointFault.ReservedCount → ⊥) → ReservedCount items → ⊥
   none_reserved f (reserved_count {k} {item} {payload} n h x) = f k item n (holds_filling item payload h ∙ sym (filling_only payload x))
 
 -- THE VERDICT, as it is meant
 pub data Judged (program : List ℕ) (items : List Item) : Filling → Type 0 where
-  judged_40 : DoesNotFit program items → Judged program items Inexact
-  judged_41 : (DoesNotFit program items → ⊥) → ReservedCount items → Judged program items Reserved
-  judged_fine : (DoesNotFit program items → ⊥) → (ReservedCount items → ⊥) → Each items (λ f. f ≡ Exact) → Judged program items Exact
+  judged_40 : DoesNotFit program items → Judged program items (Err PointFault.DoesNotFit)
+  judged_41 : (DoesNotFit program items → ⊥) → ReservedCount items → Judged program items (Err PointFault.ReservedCount)
+  judged_fine : (DoesNotFit program items → ⊥) → (ReservedCount items → ⊥) → Each items (λ f. f ≡ Ok tt) → Judged program items (Ok tt)
 
 pub judged : (program : List ℕ) → Judged program (descriptors_of program) (program_filling program)
 judged program = go (too_long program) refl (verdict (descriptors_of program))
   where
-    go : (t : Bool) → too_long program ≡ t → {f : Filling} → Verdict (descriptors_of program) f → Judged program (descriptors_of program) (cond t Inexact f)
+    go : (t : Bool) → too_long program ≡ t → {f : Filling} → Verdict (descriptors_of program) f → Judged program (descriptors_of program) (cond t (Err PointFault.DoesNotFit) f)
     go true e v = judged_40 (too_long_lem (ltb-true 1008 (length program) e))
     go false e (some_inexact {item = item} n p) = judged_40 (inexact_means program (descriptors_of program) item n p)
     go false e (some_reserved {item = item} f n p) =
@@ -188,15 +189,15 @@ judged program = go (too_long program) refl (verdict (descriptors_of program))
 
 -- ---- the values
 
-filled : (payload : List ℕ) → filling_of payload ≡ Exact → Descriptor Points payload
+filled : (payload : List ℕ) → filling_of payload ≡ Ok tt → Descriptor Points payload
 filled payload e = go (filling_meant payload) e
   where
-    go : {f : Filling} → Fills payload f → f ≡ Exact → Descriptor Points payload
+    go : {f : Filling} → Fills payload f → f ≡ Ok tt → Descriptor Points payload
     go (exact d) e = d
     go (reserved d) e = absurd (not_reserved e refl)
     go (inexact p q) e = absurd (not_inexact e refl)
 
-pub values_meant : {items : List Item} {payloads : List (List ℕ)} → Payloads items payloads → Each items (λ f. f ≡ Exact)
+pub values_meant : {items : List Item} {payloads : List (List ℕ)} → Payloads items payloads → Each items (λ f. f ≡ Ok tt)
     → InOrder PayloadHas payloads (map value_of payloads)
 values_meant no_more f = nothing
 values_meant (skips g p) f = values_meant p (λ k item n. f (suc k) item (there n))

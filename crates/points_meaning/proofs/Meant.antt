@@ -1,6 +1,7 @@
 -- The laws that join the meaning of a program's points to what is computed: the computed answer has it, `points_meant`, and nothing else has, `points_only`; so
 -- that two answers which have it are equal, `one_answer`.
 -- Assumes nothing.
+use Rattle.std.specs.Prelude.{Ok}
 use Prim.Native.Nat.{ℕ}
 use mathlib.Core.Bool.{Bool, true, false, cond}
 use mathlib.Core.List.{List, map}
@@ -18,8 +19,7 @@ use Rattle.descriptor_heads.proofs.Heads.{by_tag}
 use Rattle.closure.specs.declared.Layers.{Layers}
 use Rattle.loop_entries.specs.declared.Entry.{Entry}
 use Rattle.loop_entries.specs.declared.Stream.{Stream}
-use Rattle.es_loop.specs.declared.reader.Outcome.{Outcome}
-use Rattle.es_loop.specs.declared.reader.Outcome.TheVariants.{Accepted}
+use Rattle.es_loop.specs.Answer.{Outcome}
 use Rattle.es_loop.specs.declared.reader.LoopRead.{LoopRead}
 use Rattle.loop_entries.specs.Entries.{stream_of, marked_streams, entry_of}
 use Rattle.es_loop.specs.Meaning as Loop
@@ -27,7 +27,7 @@ use Rattle.es_loop.proofs.Meant.{answer_meant, answer_only}
 use Rattle.loop_layers.specs.Layers.{layers_of}
 use Rattle.loop_layers.specs.Closures.{entries_read, layers_in, loop_layers}
 use Rattle.loop_layers.proofs.Meant.{layers_meant, layers_only, entries_read_lem}
-use Rattle.operation_points.specs.declared.Filling.{Filling}
+use Rattle.operation_points.specs.Answer.{Filling}
 use Rattle.operation_points.specs.Values.{DescriptorValue}
 use Rattle.point_descriptors.specs.Descriptors.{descriptors_of, payloads_in, program_filling, found_in}
 use Rattle.program_points.specs.declared.PointsRead.{PointsRead}
@@ -56,7 +56,7 @@ module _ (layers : Layers) (program : List ℕ) where
           by_absent b =
               cond b (refused_points UnknownReference layers (found_in program))
               (record {
-                outcome = Accepted;
+                outcome = Ok tt;
                 layers = layers;
                 found = found_in program;
                 profile_bytes = length (profiles_in program);
@@ -103,7 +103,7 @@ layers_read {bytes} {layers} l =
     ∙ ap layers_of (sym (entries_read_lem l.streams))
     ∙ ap (λ (r : LoopRead). layers_of (entries_read r)) (answer_only Edition2015 bytes l.accepts)
 
-pub is_accepted : {bytes : List ℕ} {layers : Layers} → InLayers bytes layers → (loop_layers Edition2015 bytes).outcome ≡ Accepted
+pub is_accepted : {bytes : List ℕ} {layers : Layers} → InLayers bytes layers → (loop_layers Edition2015 bytes).outcome ≡ Ok tt
 is_accepted {bytes} l = sym (ap (λ (r : LoopRead). r.outcome) (answer_only Edition2015 bytes l.accepts))
 
 -- THE ANSWER: what is computed is right,

@@ -1,5 +1,6 @@
 -- The places of an accepted answer are those of what is told: `placed`, of every program's loop that is bytes.
 -- Assumes nothing.
+use Rattle.std.specs.Prelude.{Err, Ok}
 use Prim.Native.Nat.{ℕ}
 use mathlib.Core.Bool.{Bool, true, false, cond}
 use mathlib.Core.List.{List, [], ◌∷◌, map}
@@ -11,11 +12,10 @@ use Rattle.syntax.specs.Table.{AreBytes}
 use Rattle.vocabulary.specs.declared.refusal.Refusal.TheVariants.{UnknownReference}
 use Rattle.vocabulary.specs.declared.stream_types.Reading.TheVariants.{Edition2015}
 use Rattle.closure.specs.declared.Layers.{Layers}
-use Rattle.es_loop.specs.declared.reader.Outcome.{Outcome}
-use Rattle.es_loop.specs.declared.reader.Outcome.TheVariants.{Accepted, Refused}
+use Rattle.es_loop.specs.Answer.{Outcome}
 use Rattle.loop_layers.specs.Closures.{loop_layers}
-use Rattle.operation_points.specs.declared.Filling.{Filling}
-use Rattle.operation_points.specs.declared.Filling.TheVariants.{Exact, Inexact, Reserved}
+use Rattle.operation_points.specs.Answer.{Filling}
+use Rattle.operation_points.specs.declared.PointFault.TheVariants as PointFault
 use Rattle.operation_points.specs.Values.{PointValue, reference_bytes, layer_bytes}
 use Rattle.point_descriptors.specs.Descriptors.{program_filling, found_in}
 use Rattle.program_points.specs.declared.PointsRead.{PointsRead}
@@ -37,8 +37,8 @@ module _ (program : List ℕ) (b : AreBytes program) where
     told_fields [] = refl
     told_fields (x ∷ points) = ap (λ (l : List PointValue). x ∷ l) (told_fields points)
 
-    right : program_filling program ≡ Exact
-        → Right (record { outcome = Accepted; layers = layers; found = found_in program; profile_bytes = length (profiles_in program); tally = tally_of layers (points_in program) })
+    right : program_filling program ≡ Ok tt
+        → Right (record { outcome = Ok tt; layers = layers; found = found_in program; profile_bytes = length (profiles_in program); tally = tally_of layers (points_in program) })
     right e =
         let filled : Filled program (found_in program) = record { is_found = refl; exact = filling_is program (found_in program) refl ∙ e } in
         let values = values_taken program b (found_in program) filled in
@@ -55,37 +55,37 @@ module _ (program : List ℕ) (b : AreBytes program) where
           streams = ap length (sym (gather_map (λ (p : PointTold). p.streams) (point_told layers) (points_in program)));
         }
 
-    by_filling_lem : (f : Filling) → program_filling program ≡ f → (by_filling f layers program).outcome ≡ Accepted → Right (by_filling f layers program)
-    by_filling_lem Inexact e o = let z : ◌≡◌ {A = ℕ} 0 1 = cc in absurd (omega arith)
-    by_filling_lem Reserved e o = let z : ◌≡◌ {A = ℕ} 0 1 = cc in absurd (omega arith)
-    by_filling_lem Exact e o = go (any (is_absent layers) (points_in program)) o
+    by_filling_lem : (f : Filling) → program_filling program ≡ f → (by_filling f layers program).outcome ≡ Ok tt → Right (by_filling f layers program)
+    by_filling_lem (Err PointFault.DoesNotFit) e o = let z : ◌≡◌ {A = ℕ} 0 1 = cc in absurd (omega arith)
+    by_filling_lem (Err PointFault.ReservedCount) e o = let z : ◌≡◌ {A = ℕ} 0 1 = cc in absurd (omega arith)
+    by_filling_lem (Ok _) e o = go (any (is_absent layers) (points_in program)) o
       where
         by_absent : Bool → PointsRead
         by_absent c =
             cond c (refused_points UnknownReference layers (found_in program))
-            (record { outcome = Accepted; layers = layers; found = found_in program; profile_bytes = length (profiles_in program); tally = tally_of layers (points_in program) })
+            (record { outcome = Ok tt; layers = layers; found = found_in program; profile_bytes = length (profiles_in program); tally = tally_of layers (points_in program) })
 
-        go : (c : Bool) → (by_absent c).outcome ≡ Accepted → Right (by_absent c)
+        go : (c : Bool) → (by_absent c).outcome ≡ Ok tt → Right (by_absent c)
         go true o = let z : ◌≡◌ {A = ℕ} 0 1 = cc in absurd (omega arith)
         go false o = right e
 
-  by_outcome_lem : (outcome : Outcome) (layers : Layers) → (by_outcome outcome layers program).outcome ≡ Accepted → Right (by_outcome outcome layers program)
-  by_outcome_lem (Refused refusal) layers o = let z : ◌≡◌ {A = ℕ} 0 1 = cc in absurd (omega arith)
-  by_outcome_lem Accepted layers o = by_filling_lem layers (program_filling program) refl o
+  by_outcome_lem : (outcome : Outcome) (layers : Layers) → (by_outcome outcome layers program).outcome ≡ Ok tt → Right (by_outcome outcome layers program)
+  by_outcome_lem (Err refusal) layers o = let z : ◌≡◌ {A = ℕ} 0 1 = cc in absurd (omega arith)
+  by_outcome_lem (Ok _) layers o = by_filling_lem layers (program_filling program) refl o
 
   -- by what is computed,
-  placed_read : (bytes : List ℕ) → (points_read program bytes).outcome ≡ Accepted → Right (points_read program bytes)
+  placed_read : (bytes : List ℕ) → (points_read program bytes).outcome ≡ Ok tt → Right (points_read program bytes)
   placed_read bytes o = by_outcome_lem (loop_layers Edition2015 bytes).outcome (loop_layers Edition2015 bytes).layers o
 
   -- and so of what is told
   pub placed : {bytes : List ℕ} {t : ProgramTold} → Answers program bytes (told t) → Placed program (points_read program bytes) t
   placed {bytes} {t} a = go (points_read program bytes) (points_only program bytes a) (placed_read bytes)
     where
-      go : (read : PointsRead) → told t ≡ telling program read → (read.outcome ≡ Accepted → Right read) → Placed program read t
+      go : (read : PointsRead) → told t ≡ telling program read → (read.outcome ≡ Ok tt → Right read) → Placed program read t
       go read e f = by read.outcome refl e
         where
           by : (o : Outcome) → read.outcome ≡ o → told t ≡ Telling.by_outcome o read.layers program → Placed program read t
-          by (Refused refusal) p e = let z : ◌≡◌ {A = ℕ} 0 1 = cc in absurd (omega arith)
-          by Accepted p e =
+          by (Err refusal) p e = let z : ◌≡◌ {A = ℕ} 0 1 = cc in absurd (omega arith)
+          by (Ok _) p e =
               let same : t ≡ program_told read.layers program = cc in
               subst (Placed program read) (sym same) (f p)

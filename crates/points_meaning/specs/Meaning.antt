@@ -1,7 +1,7 @@
 -- WHAT IS RIGHT, in the words of W-205, with no word of how it is found. proofs/Meant.antt has the laws that join this to what is computed: the computed answer
 -- has this meaning, and no other answer has it.
 -- Assumes nothing.
-use Rattle.std.specs.Prelude.{ℕ, ◌<◌, true, List, [], ◌∷◌, map, ◌↔◌, ◌≡◌, length}
+use Rattle.std.specs.Prelude.{ℕ, ◌<◌, true, List, [], ◌∷◌, map, ◌↔◌, ◌≡◌, length, Err}
 use Rattle.combinators.specs.Lists.{Nth, gather}
 use Rattle.framing.specs.Pieces.{Item, whole, broken, Cuts}
 use Rattle.vocabulary.specs.declared.refusal.Refusal.{Refusal}
@@ -16,7 +16,7 @@ use Rattle.es_loop.specs.Meaning as Loop
 use Rattle.loop_layers.specs.Meaning.{LayersOf}
 use Rattle.stream_lists.specs.Lists.{set_of}
 use Rattle.stream_lists.specs.Meaning.{Lists, NoLayer, Closed}
-use Rattle.operation_points.specs.declared.Filling.TheVariants.{Inexact, Reserved}
+use Rattle.operation_points.specs.declared.PointFault.TheVariants as PointFault
 use Rattle.operation_points.specs.Values.{PointValue, DescriptorValue, reference_bytes}
 use Rattle.operation_points.specs.Meaning.{Fills}
 use Rattle.points_meaning.specs.Fields.{PayloadHas}
@@ -48,11 +48,11 @@ pub data Payloads : List Item → List (List ℕ) → Type 0 where
 pub data DoesNotFit (program : List ℕ) (items : List Item) : Type 0 where
   too_long_lem : 1008 < length program → DoesNotFit program items
   runs_past : {k : ℕ} → Nth items k broken → DoesNotFit program items
-  not_filled : {k : ℕ} {item : Item} {payload : List ℕ} → Nth items k item → HoldsPoints item payload → Fills payload Inexact → DoesNotFit program items
+  not_filled : {k : ℕ} {item : Item} {payload : List ℕ} → Nth items k item → HoldsPoints item payload → Fills payload (Err PointFault.DoesNotFit) → DoesNotFit program items
 
 -- 41: 'ES_count 0xFF', which 'ends that descriptor without a 40 of its own for what stands behind it'
 pub data ReservedCount (items : List Item) : Type 0 where
-  reserved_count : {k : ℕ} {item : Item} {payload : List ℕ} → Nth items k item → HoldsPoints item payload → Fills payload Reserved → ReservedCount items
+  reserved_count : {k : ℕ} {item : Item} {payload : List ℕ} → Nth items k item → HoldsPoints item payload → Fills payload (Err PointFault.ReservedCount) → ReservedCount items
 
 -- 42: 'a reference, or a dependency to be prepended, that is no layer of the loop', of any point
 pub data NotInLoop (layers : Layers) (points : List PointValue) : Type 0 where

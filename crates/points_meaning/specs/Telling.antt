@@ -1,11 +1,10 @@
 -- What reading a program's points tells a caller: the refusal, or the descriptors with their profile structures, and every point with its fields, its stream
 -- list and whether that is closed. And what the answer of `program_points` tells so.
 -- Assumes nothing.
-use Rattle.std.specs.Prelude.{ℕ, Bool, List, map}
+use Rattle.std.specs.Prelude.{ℕ, Bool, List, map, Err, Ok}
 use Rattle.vocabulary.specs.declared.refusal.Refusal.{Refusal}
 use Rattle.closure.specs.declared.Layers.{Layers}
-use Rattle.es_loop.specs.declared.reader.Outcome.{Outcome}
-use Rattle.es_loop.specs.declared.reader.Outcome.TheVariants.{Accepted, Refused}
+use Rattle.es_loop.specs.Answer.{Outcome}
 use Rattle.operation_points.specs.Values.{PointValue, DescriptorValue}
 use Rattle.program_points.specs.declared.PointsRead.{PointsRead}
 use Rattle.program_points.specs.Told.{values_in, points_in, profiles_in, streams_of, closed_of}
@@ -36,8 +35,8 @@ program_told layers program =
     record { descriptors = values_in program; profiles = profiles_in program; points = map (point_told layers) (points_in program) }
 
 abbrev pub by_outcome : Outcome → Layers → List ℕ → Answer
-by_outcome (Refused refusal) layers program = refused refusal
-by_outcome Accepted layers program = told (program_told layers program)
+by_outcome (Err refusal) layers program = refused refusal
+by_outcome (Ok tt) layers program = told (program_told layers program)
 
 -- the answer of `program_points`, told
 abbrev pub telling : List ℕ → PointsRead → Answer

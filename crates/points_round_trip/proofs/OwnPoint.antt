@@ -1,6 +1,6 @@
 -- A point of the writer's own shape: it is read, its value can be written, and is written as these bytes.
 -- Assumes nothing.
-use Rattle.std.specs.Prelude.{ℕ, ◌+◌, ◌*◌, ◌<◌, ◌≡◌, refl, Bool, true, false, cond, not, ◌&&◌, List, [], ◌∷◌, ◌++◌, map, eqb, leb, ltb, length, get_or, take, drop}
+use Rattle.std.specs.Prelude.{ℕ, ◌+◌, ◌*◌, ◌<◌, ◌≡◌, refl, Bool, true, false, cond, not, ◌&&◌, List, [], ◌∷◌, ◌++◌, map, eqb, leb, ltb, length, get_or, take, drop, Err, Ok}
 use Rattle.std.proofs.Common.{sym, ap, ap₂, ◌∙◌, subst, append_assoc, arith, le-leb, lt-ltb, ne_eqb, length-append, take_at, drop_at, drop-drop}
 use Rattle.std.proofs.lemmas.List.{length-map}
 use Rattle.syntax.specs.Table.{Table, AreBytes, bytes, read_table}
@@ -11,7 +11,7 @@ use Rattle.operation_points.specs.Parts.{Part, when, Walked}
 use Rattle.operation_points.specs.Tables.{point_head, reference, flags_count, flags, rates, frame_rate, average_rate, maximum_rate, has_frame_rate, has_average_rate, has_maximum_rate, point_syntax}
 use Rattle.operation_points.specs.Points.{point_from, is_reserved, point_in, first_point}
 use Rattle.operation_points.specs.Values.{PointValue, reference_in, point_value}
-use Rattle.operation_points.specs.declared.FirstPoint.TheVariants.{Read, DoesNotFit, ReservedCount}
+use Rattle.operation_points.specs.declared.PointFault.TheVariants.{DoesNotFit, ReservedCount}
 use Rattle.operation_points.proofs.Parsed.{parses_walk}
 use Rattle.point_fields.specs.WrittenParts.{Lists, WritesParts}
 use Rattle.point_fields.specs.Fields.{given_in, item_in, row_too_wide}
@@ -140,7 +140,7 @@ point_plain =
 
 pub record Again (point rest : List ℕ) (all : Given) : Type 0 where
   pub value : PointValue
-  pub first : first_point (point ++ rest) ≡ Read (point_from (record { end = length point; given = all }))
+  pub first : first_point (point ++ rest) ≡ Ok (point_from (record { end = length point; given = all }))
   pub read : point_value (point_from (record { end = length point; given = all })) (point ++ rest) ≡ value
   pub fits : PointFits value
   pub allowed : length value.references ≡ 255 → ⊥
@@ -287,7 +287,7 @@ again {all = all}
     record {
       value = v;
       first = ap (point_in (point ++ rest)) (parses_walk rest (point ++ rest) refl (own_parses p))
-          ∙ ap₂ (λ (x y : Bool). cond x ReservedCount (cond y (Read (point_from w)) DoesNotFit)) unreserved
+          ∙ ap₂ (λ (x y : Bool). cond x (Err ReservedCount) (cond y (Ok (point_from w)) (Err DoesNotFit))) unreserved
           (le-leb (length point) (length (point ++ rest)) (omega (arith, length-append point rest)));
       read = known.found head count (some ++ others) rest (length point) long-head long-count;
       fits = known.fits;

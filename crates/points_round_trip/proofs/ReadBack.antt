@@ -1,7 +1,7 @@
 -- READING WHAT WAS WRITTEN gives back the value that was given: of a payload, whose fields fill it exactly, and of a program's loop that is this descriptor alone.
 -- Assumes nothing.
 use Prim.Native.Nat.{ℕ, ◌+◌, ◌*◌, ◌/◌, ◌≤◌, ◌<◌}
-use Rattle.std.specs.Prelude.{◌≡◌, Bool, true, false, ◌&&◌, ltb, length, take, drop}
+use Rattle.std.specs.Prelude.{◌≡◌, Bool, true, false, ◌&&◌, ltb, length, take, drop, Err, None, Ok, Some}
 use Rattle.std.proofs.Math.Path.{refl, ap}
 use Rattle.std.proofs.Common.{sym, ap₂, ◌∙◌, subst, arith, le-leb, le-ltb, lt-ltb, take_at, drop_at}
 use Rattle.std.proofs.Math.Bool.{cond}
@@ -23,16 +23,13 @@ use Rattle.operation_points.specs.Tables.{profile, points_count, head_syntax}
 use Rattle.operation_points.specs.Points.{head_in, head_of, filling_by, points_filling, filling_after, filling_of}
 use Rattle.operation_points.specs.Values.{PointValue, DescriptorValue, point_value, points_by, points_in, value_after, value_of}
 use Rattle.operation_points.specs.declared.Head.{Head}
-use Rattle.operation_points.specs.declared.HeadRead.{HeadRead}
-use Rattle.operation_points.specs.declared.HeadRead.TheVariants.{Before, HeadDoesNotFit}
-use Rattle.operation_points.specs.declared.FirstPoint.{FirstPoint}
-use Rattle.operation_points.specs.declared.Filling.TheVariants.{Exact, Inexact}
+use Rattle.operation_points.specs.Answer.{HeadRead, FirstPoint}
+use Rattle.operation_points.specs.declared.PointFault.TheVariants.{DoesNotFit}
 use Rattle.operation_points.proofs.Parsed.{parses_walk}
 use Rattle.point_descriptors.specs.Descriptors.{descriptors_of, each, is_points, payload_if, filling_in, worst}
 use Rattle.point_fields.specs.WrittenParts.{parts_bytes}
 use Rattle.point_weights.specs.Rows.{twelves, judged}
-use Rattle.point_weights.specs.declared.Written.{Written}
-use Rattle.point_weights.specs.declared.Written.TheVariants.{Bytes, Refused}
+use Rattle.point_weights.specs.Answer.{Written}
 use Rattle.point_writer.specs.Layout.{head_given, head_lists, descriptor_bytes}
 use Rattle.point_writer.specs.Writing.{in_room, answer, content_after, content}
 use Rattle.point_writer.specs.Meaning.{EachFits, ValueFits, Gives, SomeReserved, reserved_at, WritesPayload, head_then, WritesDescriptor, descriptor}
@@ -55,7 +52,7 @@ module _ {v : PointValue} {vs : List PointValue} (none : SomeReserved (v ∷ vs)
   others_allowed : SomeReserved vs → ⊥
   others_allowed (reserved_at n e) = none (reserved_at (there n) e)
 
-pub points_fill : {vs : List PointValue} → EachFits vs → (SomeReserved vs → ⊥) → points_filling (length vs) (values_bytes vs) ≡ Exact
+pub points_fill : {vs : List PointValue} → EachFits vs → (SomeReserved vs → ⊥) → points_filling (length vs) (values_bytes vs) ≡ Ok tt
 points_fill EachFits.none a = refl
 points_fill (EachFits.point_then {v} {vs} fits others) a =
     ap (λ (p : FirstPoint). filling_by p (λ size. points_filling (length vs) (drop size (bytes_of v fits ++ values_bytes vs)))) (read_first v fits (first_allowed a) (values_bytes vs))
@@ -89,14 +86,14 @@ module _ (v : DescriptorValue) (fits : ValueFits v) (in_bytes : AreBytes v.profi
   abbrev head_read : Head
   head_read = record { num_ptl = structures; operation_points_count = length v.points; points_at = length head_written }
 
-  read_head : head_of payload_for ≡ Before head_read
+  read_head : head_of payload_for ≡ Some head_read
   unfolding head_of
   read_head =
       ap (head_in payload_for)
       (parses_walk (values_bytes v.points) payload_for refl
       (written_parses (head_given (length v.profiles) (length v.points)) (head_lists v.profiles) [] head_sounds fits.counts
       (sym (length-map (twelves structures v.profiles) (read_by profile) ∙ length_pieces structures v.profiles), tt)))
-      ∙ ap (λ (b : Bool). cond b (Before head_read) HeadDoesNotFit)
+      ∙ ap (λ (b : Bool). cond b (Some head_read) None)
       (le-leb (length head_written) (length payload_for) (omega (arith, length-append head_written (values_bytes v.points))))
 
   past_head : drop (length head_written) payload_for ≡ values_bytes v.points
@@ -112,7 +109,7 @@ module _ (v : DescriptorValue) (fits : ValueFits v) (in_bytes : AreBytes v.profi
 
   module _ (none : SomeReserved v.points → ⊥) where
     -- its fields fill it exactly
-    pub payload_fills : filling_of payload_for ≡ Exact
+    pub payload_fills : filling_of payload_for ≡ Ok tt
     payload_fills =
         ap (λ (h : HeadRead). filling_after h payload_for) read_head ∙ ap (points_filling (length v.points)) past_head ∙ points_fill fits.points none
 
@@ -142,14 +139,14 @@ module _ (v : DescriptorValue) (fits : ValueFits v) (in_bytes : AreBytes v.profi
         let found : is_points (descriptor_tag head) body ≡ true =
         ap₂ (λ (n : ℕ) (l : List ℕ). is_points n l) head_tag is_body ∙ ap (λ (b : Bool). b && true) (lt-ltb 0 (length (5 ∷ payload)) (omega arith)) in
         let behind : drop 1 body ≡ payload = ap (drop 1) is_body in
-        let exact : filling_of payload ≡ Exact = ap filling_of is_payload ∙ payload_fills in
+        let exact : filling_of payload ≡ Ok tt = ap filling_of is_payload ∙ payload_fills in
         let short : length (head ++ body) ≤ 1008 = omega (arith, length-append head body, h.written.as_long) in
         record {
           payload = payload;
           alone = ap (each payload_if 0) items ∙ ap (λ (b : Bool). cond b (drop 1 body ∷ []) [] ++ []) found ∙ ap (λ (l : List ℕ). l ∷ []) behind;
-          accepted = ap (λ (b : Bool). cond b Inexact (worst Exact (map filling_in (descriptors_of (head ++ body))))) (le-ltb 1008 (length (head ++ body)) short)
-              ∙ ap (λ (l : List Item). worst Exact (map filling_in l)) items
-              ∙ ap (λ (b : Bool). cond b (filling_of (drop 1 body)) Exact) found
+          accepted = ap (λ (b : Bool). cond b (Err DoesNotFit) (worst (Ok tt) (map filling_in (descriptors_of (head ++ body))))) (le-ltb 1008 (length (head ++ body)) short)
+              ∙ ap (λ (l : List Item). worst (Ok tt) (map filling_in l)) items
+              ∙ ap (λ (b : Bool). cond b (filling_of (drop 1 body)) (Ok tt)) found
               ∙ ap filling_of behind
               ∙ exact;
           fills = exact;
@@ -158,7 +155,7 @@ module _ (v : DescriptorValue) (fits : ValueFits v) (in_bytes : AreBytes v.profi
 
 -- THE CALL: where it counts bytes, those in the buffer are read as the value of which it was given the rows.
 module _ (profiles points references layers old : List ℕ) (v : DescriptorValue) (g : Gives profiles points references layers v) (in_bytes : AreBytes v.profiles) where
-  pub written_read : (n : ℕ) → answer (length old) profiles points references layers ≡ Bytes n → ReadBack v (take n (content profiles points references layers old))
+  pub written_read : (n : ℕ) → answer (length old) profiles points references layers ≡ Ok n → ReadBack v (take n (content profiles points references layers old))
   written_read n e =
       let judged-bytes = in_room_lem (judged (length profiles) points references (length layers)) e in
       let known-accepted = accepted profiles points references layers n judged-bytes in
@@ -173,10 +170,10 @@ module _ (profiles points references layers old : List ℕ) (v : DescriptorValue
       ∙ take_at (descriptor_bytes profiles points references layers) (drop (length (descriptor_bytes profiles points references layers)) old) n long in
       subst (ReadBack v) (sym holds) (read_back v g.fits in_bytes none_reserved whole-descriptor)
     where
-      in_room_lem : (w : Written) → in_room (length old) w ≡ Bytes n → w ≡ Bytes n
-      in_room_lem (Bytes size) e = go (ltb (length old) size) e
+      in_room_lem : (w : Written) → in_room (length old) w ≡ Ok n → w ≡ Ok n
+      in_room_lem (Ok size) e = go (ltb (length old) size) e
         where
-          go : (b : Bool) → cond b (Refused NoRoom) (Bytes size) ≡ Bytes n → Bytes size ≡ Bytes n
+          go : (b : Bool) → ◌≡◌ {A = Written} (cond b (Err NoRoom) (Ok size)) (Ok n) → ◌≡◌ {A = Written} (Ok size) (Ok n)
           go true e = let z : ◌≡◌ {A = ℕ} 0 1 = cc in absurd (omega arith)
           go false e = e
-      in_room_lem (Refused refusal) e = let z : ◌≡◌ {A = ℕ} 0 1 = cc in absurd (omega arith)
+      in_room_lem (Err refusal) e = let z : ◌≡◌ {A = ℕ} 0 1 = cc in absurd (omega arith)

@@ -1,6 +1,6 @@
 -- READING A POINT THAT WAS WRITTEN gives back its value, whatever stands behind it.
 -- Assumes nothing.
-use Rattle.std.specs.Prelude.{ℕ, ◌+◌, ◌*◌, ◌≡◌, Bool, true, false, ◌&&◌, eqb, leb, ltb, take, drop}
+use Rattle.std.specs.Prelude.{ℕ, ◌+◌, ◌*◌, ◌≡◌, Bool, true, false, ◌&&◌, eqb, leb, ltb, take, drop, Err, Ok}
 use Rattle.std.proofs.Math.Path.{refl, ap, ap₂}
 use Rattle.std.proofs.Common.{sym, ◌∙◌, arith, le-leb, lt-ltb, ne_eqb, take_at, drop_at, drop-drop}
 use Rattle.std.proofs.Math.Bool.{cond}
@@ -18,7 +18,7 @@ use Rattle.operation_points.specs.Points.{point_from, is_reserved, point_in, fir
 use Rattle.operation_points.specs.Values.{FrameRate, no_frame_rate, constant, BitRate, no_bit_rate, rate, PointValue, frame_rate_of, bit_rate_of, reference_in, flags_in, idc_of, indicator_of, flag_of, number_of, point_value}
 use Rattle.operation_points.specs.declared.Reference.{Reference}
 use Rattle.operation_points.specs.declared.LayerFlags.{LayerFlags}
-use Rattle.operation_points.specs.declared.FirstPoint.TheVariants.{Read, DoesNotFit, ReservedCount}
+use Rattle.operation_points.specs.declared.PointFault.TheVariants.{DoesNotFit, ReservedCount}
 use Rattle.operation_points.proofs.Parsed.{parses_walk}
 use Rattle.point_fields.specs.WrittenParts.{parts_bytes, EachFits, FitParts}
 use Rattle.point_fields.specs.Fields.{rate_parts}
@@ -101,13 +101,13 @@ module _ (v : PointValue) (known : PointFits v) where
         never false = refl
 
     -- IT IS FOUND
-    pub read_first : first_point ((bytes_of v known) ++ rest) ≡ Read (point_read v known)
+    pub read_first : first_point ((bytes_of v known) ++ rest) ≡ Ok (point_read v known)
     unfolding first_point
     read_first =
         ap (point_in ((bytes_of v known) ++ rest)) (parses_walk rest ((bytes_of v known) ++ rest) refl parses)
-        ∙ ap₂ (λ (r f : Bool). cond r ReservedCount (cond f (Read (point_from (record { end = length (bytes_of v known); given = shown (value_given v) (value_lists v) [] point_syntax }))) DoesNotFit))
+        ∙ ap₂ (λ (r f : Bool). cond r (Err ReservedCount) (cond f (Ok (point_from (record { end = length (bytes_of v known); given = shown (value_given v) (value_lists v) [] point_syntax }))) (Err DoesNotFit)))
         not_reserved (le-leb (length (bytes_of v known)) (length ((bytes_of v known) ++ rest)) (omega (arith, length-append (bytes_of v known) rest)))
-        ∙ ap Read from_walk
+        ∙ ap Ok from_walk
 
   -- AND HAS THE VALUE
   pub value_read : (rest : List ℕ) → point_value (point_read v known) ((bytes_of v known) ++ rest) ≡ v

@@ -1,7 +1,7 @@
 -- WRITING WHAT WAS READ gives the same bytes: of a payload in the writer's own shape the value can be written, is written as this payload, and its own lists are
 -- taken by the call.
 -- Assumes nothing.
-use Rattle.std.specs.Prelude.{ℕ, suc, ◌+◌, ◌*◌, ◌/◌, ◌%◌, ◌^◌, ◌≤◌, ◌<◌, ◌≡◌, refl, Bool, true, false, cond, List, [], ◌∷◌, ◌++◌, map, eqb, length, take, drop}
+use Rattle.std.specs.Prelude.{ℕ, suc, ◌+◌, ◌*◌, ◌/◌, ◌%◌, ◌^◌, ◌≤◌, ◌<◌, ◌≡◌, refl, Bool, true, false, cond, List, [], ◌∷◌, ◌++◌, map, eqb, length, take, drop, None, Ok, Some}
 use Rattle.std.proofs.Common.{sym, ap, ap₂, ◌∙◌, subst, append_assoc, arith, not-suc-le-zero, le-leb, length-append, take_at, drop_at}
 use Rattle.combinators.specs.Lists.{here, there, nth_inside, gather}
 use Rattle.syntax.specs.Table.{AreBytes, write_table, none, at_value, at_reserved}
@@ -17,13 +17,9 @@ use Rattle.operation_points.specs.Tables.{profiles_count, profile, points_count,
 use Rattle.operation_points.specs.Points.{head_in, head_of, filling_by, points_filling, filling_after, filling_of}
 use Rattle.operation_points.specs.Values.{PointValue, DescriptorValue, point_value, points_by, points_in, value_after, value_of, flags_in, flags_byte, reference_bytes, layer_bytes}
 use Rattle.operation_points.specs.declared.Head.{Head}
-use Rattle.operation_points.specs.declared.HeadRead.{HeadRead}
-use Rattle.operation_points.specs.declared.HeadRead.TheVariants.{Before, HeadDoesNotFit}
-use Rattle.operation_points.specs.declared.FirstPoint.{FirstPoint}
-use Rattle.operation_points.specs.declared.Filling.TheVariants.{Exact}
+use Rattle.operation_points.specs.Answer.{HeadRead, FirstPoint}
 use Rattle.operation_points.proofs.Parsed.{parses_walk}
 use Rattle.point_fields.specs.WrittenParts.{EachFits, FitParts}
-use Rattle.point_weights.specs.declared.Written.TheVariants.{Bytes}
 use Rattle.point_weights.specs.Rows.{twelves}
 use Rattle.point_writer.specs.Layout.{extension_tag, head_given, head_lists}
 use Rattle.point_writer.specs.Writing.{answer, content}
@@ -45,7 +41,7 @@ pub record PointsAgain (count : ℕ) (l : List ℕ) : Type 0 where
   pub fits : Meaning.EachFits values
   pub unreserved : SomeReserved values → ⊥
   pub written : WritesPoints values l
-  pub filled : points_filling count l ≡ Exact
+  pub filled : points_filling count l ≡ Ok tt
   pub read : points_in count l ≡ values
 
 pub points_again : {count : ℕ} {l : List ℕ} → OwnPoints count l → AreBytes l → PointsAgain count l
@@ -91,7 +87,7 @@ head_plain = (λ x. refl, (λ x. refl, λ l. refl, (λ x. refl, tt)))
 
 -- THE SAME AGAIN, of a payload.
 pub record PayloadAgain (payload : List ℕ) : Type 0 where
-  pub fills : filling_of payload ≡ Exact
+  pub fills : filling_of payload ≡ Ok tt
   pub fits : ValueFits (value_of payload)
   pub unreserved : SomeReserved (value_of payload).points → ⊥
   pub written : WritesPayload (value_of payload) payload
@@ -122,12 +118,12 @@ module _ (num count : ℕ) (first structures second points : List ℕ) (few : nu
       ∙ ap (take (num * 12)) (drop_at first ((structures ++ (second ++ [])) ++ points) 1 one ∙ append_assoc structures (second ++ []) points)
       ∙ take_at structures ((second ++ []) ++ points) (num * 12) structures_long
 
-  value_is : head_of payload_of ≡ Before head_read → value_of payload_of ≡ v
+  value_is : head_of payload_of ≡ Some head_read → value_of payload_of ≡ v
   value_is e =
       ap (λ (h : HeadRead). value_after h payload_of) e
       ∙ (λ i. record { profiles = profiles_there i; points = (ap (points_in count) past ∙ behind.read) i })
 
-  fills_is : head_of payload_of ≡ Before head_read → filling_of payload_of ≡ Exact
+  fills_is : head_of payload_of ≡ Some head_read → filling_of payload_of ≡ Ok tt
   fills_is e = ap (λ (h : HeadRead). filling_after h payload_of) e ∙ ap (points_filling count) past ∙ behind.filled
 
   value_fits : ValueFits v
@@ -155,7 +151,7 @@ own_payload (OwnPayload.head_then _ points
     let h = bounds (read_fits profiles_count first) in
     let k = bounds (read_fits points_count second) in
     let headed = ap (head_in (head ++ points)) (parses_walk points (head ++ points) refl (own_parses p))
-    ∙ ap (λ (x : Bool). cond x (Before (head_read _ _ first structures second points h.0 k.0 long-first each behind)) HeadDoesNotFit)
+    ∙ ap (λ (x : Bool). cond x (Some (head_read _ _ first structures second points h.0 k.0 long-first each behind)) None)
     (le-leb (length head) (length (head ++ points)) (omega (arith, length-append head points))) in
     let is = value_is _ _ first structures second points h.0 k.0 long-first each behind headed in
     let fine = value_fits _ _ first structures second points h.0 k.0 long-first each behind in
@@ -229,7 +225,7 @@ module _ (profiles points references layers old payload : List ℕ) (own : OwnPa
   three_more = omega arith
 
   only : Gives profiles points references layers (value_of payload) → 3 + length payload ≤ length old
-      → Only profiles points references layers old (Bytes (length (63 ∷ (1 + length payload) ∷ 5 ∷ payload)))
+      → Only profiles points references layers old (Ok (length (63 ∷ (1 + length payload) ∷ 5 ∷ payload)))
       ((63 ∷ (1 + length payload) ∷ 5 ∷ payload) ++ drop (length (63 ∷ (1 + length payload) ∷ 5 ∷ payload)) old)
   only g room =
       answer_only profiles points references layers old
@@ -239,6 +235,6 @@ module _ (profiles points references layers old payload : List ℕ) (own : OwnPa
       → Rewritten profiles points references layers old payload
   rewritten g room =
       record {
-        answers = subst (λ (n : ℕ). Bytes n ≡ answer (length old) profiles points references layers) three_more (only g room).answers;
+        answers = subst (λ (n : ℕ). Ok n ≡ answer (length old) profiles points references layers) three_more (only g room).answers;
         holds = subst (λ (n : ℕ). (63 ∷ (1 + length payload) ∷ 5 ∷ payload) ++ drop n old ≡ content profiles points references layers old) three_more (only g room).holds;
       }

@@ -1,6 +1,7 @@
 -- What was found of a loop in which neither 40 nor 41 applies: its places are those of the definitions, there is room for them, and what stands at them is
 -- what the payloads have.
 -- Assumes nothing.
+use Rattle.std.specs.Prelude.{Err, Ok}
 use Prim.Native.Nat.{ℕ, ◌+◌, ◌-◌, ◌*◌, ◌≤◌, ◌<◌}
 use mathlib.Core.Bool.{Bool, true, false, cond}
 use mathlib.Core.List.{List, [], ◌∷◌, ◌++◌, map}
@@ -17,14 +18,13 @@ use Rattle.descriptor_heads.specs.Head.{descriptor_tag, descriptor_length}
 use Rattle.descriptor_heads.proofs.Heads.{by_tag}
 use Rattle.vocabulary.specs.declared.refusal.Refusal.TheVariants.{UnknownReference}
 use Rattle.closure.specs.declared.Layers.{Layers}
-use Rattle.es_loop.specs.declared.reader.Outcome.{Outcome}
-use Rattle.es_loop.specs.declared.reader.Outcome.TheVariants.{Accepted, Refused}
+use Rattle.es_loop.specs.Answer.{Outcome}
 use Rattle.vocabulary.specs.declared.stream_types.Reading.TheVariants.{Edition2015}
 use Rattle.vocabulary.specs.declared.refusal.Refusal.{Refusal}
 use Rattle.loop_layers.specs.declared.layer_sets.LayersRead.{LayersRead}
 use Rattle.loop_layers.specs.Closures.{loop_layers}
-use Rattle.operation_points.specs.declared.Filling.{Filling}
-use Rattle.operation_points.specs.declared.Filling.TheVariants.{Exact, Inexact, Reserved}
+use Rattle.operation_points.specs.Answer.{Filling}
+use Rattle.operation_points.specs.declared.PointFault.TheVariants.{DoesNotFit, ReservedCount}
 use Rattle.operation_points.specs.Values.{value_of, counts_of}
 use Rattle.point_descriptors.specs.declared.Found.{Found}
 use Rattle.point_descriptors.specs.Descriptors.{descriptors_of, each, is_points, payload_if, filling_in, worst, too_long, payload_place, point_places_if, payloads_in, payloads_at, points_at, program_filling, found_with, found_in}
@@ -63,21 +63,21 @@ module _ (program : List ℕ) (b : AreBytes program) (found : Found) (filled : F
   -- not too long, and every descriptor exact
   record Sound : Type 0 where
     pub short : too_long program ≡ false
-    pub exact : worst Exact (map filling_in (descriptors_of program)) ≡ Exact
+    pub exact : worst (Ok tt) (map filling_in (descriptors_of program)) ≡ Ok tt
 
   accepted : Sound
   accepted = go (too_long program) refl (sym (ap (λ (f : Found). f.filling) filled.is_found) ∙ filled.exact)
     where
       go : (t : Bool) → too_long program ≡ t
-          → (cond t (found_with Inexact [] []) (found_with (worst Exact (map filling_in (descriptors_of program))) (payloads_at program) (points_at program))).filling ≡ Exact
+          → (cond t (found_with (Err DoesNotFit) [] []) (found_with (worst (Ok tt) (map filling_in (descriptors_of program))) (payloads_at program) (points_at program))).filling ≡ Ok tt
           → Sound
       go true p e = let z : ◌≡◌ {A = ℕ} 0 1 = cc in absurd (omega arith)
       go false p e = record { short = p; exact = e }
 
-  pub found_is : found ≡ found_with (worst Exact (map filling_in (descriptors_of program))) (payloads_at program) (points_at program)
+  pub found_is : found ≡ found_with (worst (Ok tt) (map filling_in (descriptors_of program))) (payloads_at program) (points_at program)
   found_is =
       filled.is_found
-      ∙ ap (λ (t : Bool). cond t (found_with Inexact [] []) (found_with (worst Exact (map filling_in (descriptors_of program))) (payloads_at program) (points_at program)))
+      ∙ ap (λ (t : Bool). cond t (found_with (Err DoesNotFit) [] []) (found_with (worst (Ok tt) (map filling_in (descriptors_of program))) (payloads_at program) (points_at program)))
       accepted.short
 
   within : length program ≤ 1008
@@ -181,10 +181,10 @@ module _ (program : List ℕ) (b : AreBytes program) (found : Found) (filled : F
     by : {c : Bool} → tally.absent ≡ c
         → by_tally layers program (tally_of layers (points_in program))
         ≡ cond c (refused_points UnknownReference layers (found_in program))
-        (record { outcome = Accepted; layers = layers; found = found_in program; profile_bytes = length (profiles_in program); tally = tally_of layers (points_in program) })
+        (record { outcome = Ok tt; layers = layers; found = found_in program; profile_bytes = length (profiles_in program); tally = tally_of layers (points_in program) })
     by p =
         ap (λ (c : Bool). cond c (refused_points UnknownReference layers (found_in program))
-        (record { outcome = Accepted; layers = layers; found = found_in program; profile_bytes = length (profiles_in program); tally = tally_of layers (points_in program) }))
+        (record { outcome = Ok tt; layers = layers; found = found_in program; profile_bytes = length (profiles_in program); tally = tally_of layers (points_in program) }))
         (sym (ap (λ (t : Tally). t.absent) tally_is) ∙ p)
 
     pub tell_absent : {r : PointsRead} → r ≡ refused_points UnknownReference layers found → tally.absent ≡ true
@@ -192,10 +192,10 @@ module _ (program : List ℕ) (b : AreBytes program) (found : Found) (filled : F
     tell_absent is p = is ∙ ap (refused_points UnknownReference layers) filled.is_found ∙ sym (by p)
 
     pub tell_told : {bytes : ℕ} → bytes ≡ length (gather (profiles_at program) (take found.descriptors found.payloads)) → tally.absent ≡ false
-        → record { outcome = Accepted; layers = layers; found = found; profile_bytes = bytes; tally = tally } ≡ by_tally layers program (tally_of layers (points_in program))
+        → record { outcome = Ok tt; layers = layers; found = found; profile_bytes = bytes; tally = tally } ≡ by_tally layers program (tally_of layers (points_in program))
     tell_told {bytes} f p =
         let many : bytes ≡ length (profiles_in program) = f ∙ ap length profiles_taken in
-        (λ i. record { outcome = Accepted; layers = layers; found = filled.is_found i; profile_bytes = many i; tally = tally_is i }) ∙ sym (by p)
+        (λ i. record { outcome = Ok tt; layers = layers; found = filled.is_found i; profile_bytes = many i; tally = tally_is i }) ∙ sym (by p)
 
 -- ---- by the verdict
 
@@ -203,8 +203,8 @@ pub filling_is : (program : List ℕ) (found : Found) → found ≡ found_in pro
 filling_is program found e = ap (λ (f : Found). f.filling) e ∙ go (too_long program)
   where
     go : (t : Bool)
-        → (cond t (found_with Inexact [] []) (found_with (worst Exact (map filling_in (descriptors_of program))) (payloads_at program) (points_at program))).filling
-        ≡ cond t Inexact (worst Exact (map filling_in (descriptors_of program)))
+        → (cond t (found_with (Err DoesNotFit) [] []) (found_with (worst (Ok tt) (map filling_in (descriptors_of program))) (payloads_at program) (points_at program))).filling
+        ≡ cond t (Err DoesNotFit) (worst (Ok tt) (map filling_in (descriptors_of program)))
     go true = refl
     go false = refl
 
@@ -215,11 +215,11 @@ module _ (program : List ℕ) (layers : Layers) (found : Found) (e : found ≡ f
 -- ---- by the elementary-stream loop
 
 module _ (program bytes : List ℕ) (read : LayersRead) (e : read ≡ loop_layers Edition2015 bytes) where
-  pub loop_accepted : {r : PointsRead} → read.outcome ≡ Accepted → r ≡ by_filling (program_filling program) read.layers program → r ≡ points_read program bytes
+  pub loop_accepted : {r : PointsRead} → read.outcome ≡ Ok tt → r ≡ by_filling (program_filling program) read.layers program → r ≡ points_read program bytes
   loop_accepted o answer =
       answer ∙ ap (λ (x : Outcome). by_outcome x read.layers program) (sym o) ∙ ap (λ (x : LayersRead). read_with x program) e
 
-  pub loop_refused : {r : PointsRead} (refusal : Refusal) (found : Found) → read.outcome ≡ Refused refusal → found ≡ found_in program
+  pub loop_refused : {r : PointsRead} (refusal : Refusal) (found : Found) → read.outcome ≡ Err refusal → found ≡ found_in program
       → r ≡ refused_points refusal read.layers found → r ≡ points_read program bytes
   loop_refused refusal found o f answer =
       answer ∙ ap (refused_points refusal read.layers) f ∙ ap (λ (x : Outcome). by_outcome x read.layers program) (sym o)
@@ -233,27 +233,27 @@ pub record Read (program : List ℕ) (read : PointsRead) : Type 0 where
   pub tally_is : read.tally ≡ tally_of read.layers (points_in program)
   pub known : (tally_of read.layers (points_in program)).absent ≡ false
 
-pub accepted_read : (program bytes : List ℕ) (read : PointsRead) → read ≡ points_read program bytes → read.outcome ≡ Accepted → Read program read
+pub accepted_read : (program bytes : List ℕ) (read : PointsRead) → read ≡ points_read program bytes → read.outcome ≡ Ok tt → Read program read
 accepted_read program bytes read e o =
     subst (Read program) (sym e) (go (loop_layers Edition2015 bytes).outcome (program_filling program) refl (tally_of layers (points_in program)).absent refl (sym (ap (λ (r : PointsRead). r.outcome) e) ∙ o))
   where
     layers : Layers
     layers = (loop_layers Edition2015 bytes).layers
 
-    told : (c : Bool) → (tally_of layers (points_in program)).absent ≡ c → program_filling program ≡ Exact
+    told : (c : Bool) → (tally_of layers (points_in program)).absent ≡ c → program_filling program ≡ Ok tt
         → (cond c (refused_points UnknownReference layers (found_in program))
-        (record { outcome = Accepted; layers = layers; found = found_in program; profile_bytes = length (profiles_in program); tally = tally_of layers (points_in program) })).outcome ≡ Accepted
+        (record { outcome = Ok tt; layers = layers; found = found_in program; profile_bytes = length (profiles_in program); tally = tally_of layers (points_in program) })).outcome ≡ Ok tt
         → Read program (cond c (refused_points UnknownReference layers (found_in program))
-        (record { outcome = Accepted; layers = layers; found = found_in program; profile_bytes = length (profiles_in program); tally = tally_of layers (points_in program) }))
+        (record { outcome = Ok tt; layers = layers; found = found_in program; profile_bytes = length (profiles_in program); tally = tally_of layers (points_in program) }))
     told true p f o = let z : ◌≡◌ {A = ℕ} 0 1 = cc in absurd (omega arith)
     told false p f o =
         record { filled = record { is_found = refl; exact = filling_is program (found_in program) refl ∙ f }; bytes = refl; tally_is = refl; known = p }
 
     go : (x : Outcome) (v : Filling) → program_filling program ≡ v → (c : Bool) → (tally_of layers (points_in program)).absent ≡ c
-        → (by_outcome x layers program).outcome ≡ Accepted → Read program (by_outcome x layers program)
-    go (Refused r) v f c p o = let z : ◌≡◌ {A = ℕ} 0 1 = cc in absurd (omega arith)
-    go Accepted Inexact f c p o = let q = ap (λ (w : Filling). (by_filling w layers program).outcome) f in let z : ◌≡◌ {A = ℕ} 0 1 = cc in absurd (omega arith)
-    go Accepted Reserved f c p o = let q = ap (λ (w : Filling). (by_filling w layers program).outcome) f in let z : ◌≡◌ {A = ℕ} 0 1 = cc in absurd (omega arith)
-    go Accepted Exact f c p o =
+        → (by_outcome x layers program).outcome ≡ Ok tt → Read program (by_outcome x layers program)
+    go (Err r) v f c p o = let z : ◌≡◌ {A = ℕ} 0 1 = cc in absurd (omega arith)
+    go (Ok _) (Err DoesNotFit) f c p o = let q = ap (λ (w : Filling). (by_filling w layers program).outcome) f in let z : ◌≡◌ {A = ℕ} 0 1 = cc in absurd (omega arith)
+    go (Ok _) (Err ReservedCount) f c p o = let q = ap (λ (w : Filling). (by_filling w layers program).outcome) f in let z : ◌≡◌ {A = ℕ} 0 1 = cc in absurd (omega arith)
+    go (Ok _) (Ok _) f c p o =
         subst (λ (w : Filling). Read program (by_filling w layers program)) (sym f)
         (told (tally_of layers (points_in program)).absent refl f (sym (ap (λ (w : Filling). (by_filling w layers program).outcome) f) ∙ o))

@@ -1,5 +1,6 @@
 -- What stands at the places that were found is what the payloads have: the values of the points, the profile structures and the counts.
 -- Assumes nothing.
+use Rattle.std.specs.Prelude.{Err, None, Ok, Some}
 use Prim.Native.Nat.{ℕ, zero, suc, ◌+◌, ◌-◌, ◌*◌, ◌/◌, ◌≤◌, ◌<◌}
 use mathlib.Core.Bool.{Bool, true, false, cond, ◌&&◌}
 use mathlib.Core.List.{List, [], ◌∷◌, ◌++◌, map, map-append, append_assoc}
@@ -22,13 +23,9 @@ use Rattle.descriptor_heads.proofs.Heads.{by_tag}
 use Rattle.operation_points.specs.Parts.{Part, Walked, walked}
 use Rattle.operation_points.specs.Tables.{head_syntax, point_syntax, point_head}
 use Rattle.operation_points.specs.declared.Head.{Head}
-use Rattle.operation_points.specs.declared.HeadRead.{HeadRead}
-use Rattle.operation_points.specs.declared.HeadRead.TheVariants.{Before, HeadDoesNotFit}
+use Rattle.operation_points.specs.Answer.{HeadRead, FirstPoint, Filling}
 use Rattle.operation_points.specs.declared.Point.{Point}
-use Rattle.operation_points.specs.declared.FirstPoint.{FirstPoint}
-use Rattle.operation_points.specs.declared.FirstPoint.TheVariants.{Read, DoesNotFit, ReservedCount}
-use Rattle.operation_points.specs.declared.Filling.{Filling}
-use Rattle.operation_points.specs.declared.Filling.TheVariants.{Exact, Inexact, Reserved}
+use Rattle.operation_points.specs.declared.PointFault.TheVariants.{DoesNotFit, ReservedCount}
 use Rattle.operation_points.specs.Points.{head_from, head_of, is_reserved, point_from, first_point, filling_by, points_filling, filling_after, filling_of}
 use Rattle.operation_points.specs.Values.{PointValue, point_value, points_by, each_point, profiles_in, value_after, value_of, counts_of, reference_in, flags_in, frame_rate_of, bit_rate_of}
 use Rattle.operation_points.proofs.Parsed.{walk_grows, walk_parses, parses_walk}
@@ -73,12 +70,12 @@ module _ (left rest : List ℕ) where
       ap₂ (λ (a : Bool) (n : ℕ). a && eqb n 0xFF) (le-leb 2 (length (left ++ rest)) (omega (arith, longer)) ∙ sym (le-leb 2 (length left) h))
       (ap (λ (vs : List ℕ). given_to "ES_count" (by_names point_head vs)) (read_before point_head left rest h))
 
-  pub read_more : (point : Point) → first_point left ≡ Read point → first_point (left ++ rest) ≡ Read point
+  pub read_more : (point : Point) → first_point left ≡ Ok point → first_point (left ++ rest) ≡ Ok point
   unfolding first_point
   read_more point = go (is_reserved left) refl (leb (walked point_syntax [] 0 left).end (length left)) refl
     where
       go : (r : Bool) → is_reserved left ≡ r → (f : Bool) → leb (walked point_syntax [] 0 left).end (length left) ≡ f
-          → cond r ReservedCount (cond f (Read (point_from (walked point_syntax [] 0 left))) DoesNotFit) ≡ Read point → first_point (left ++ rest) ≡ Read point
+          → cond r (Err ReservedCount) (cond f (Ok (point_from (walked point_syntax [] 0 left))) (Err DoesNotFit)) ≡ Ok point → first_point (left ++ rest) ≡ Ok point
       go true p f q e = let z : ◌≡◌ {A = ℕ} 0 1 = cc in absurd (omega arith)
       go false p false q e = let z : ◌≡◌ {A = ℕ} 0 1 = cc in absurd (omega arith)
       go false p true q e =
@@ -86,9 +83,9 @@ module _ (left rest : List ℕ) where
           let two : 2 ≤ (walked point_syntax [] 0 left).end = head_first in
           let same = walk_more point_syntax h in
           let still : leb (walked point_syntax [] 0 left).end (length (left ++ rest)) ≡ true = le-leb (walked point_syntax [] 0 left).end (length (left ++ rest)) (omega (arith, longer)) in
-          ap₂ (λ (b : Bool) (w : Walked). cond b ReservedCount (cond (leb w.end (length (left ++ rest))) (Read (point_from w)) DoesNotFit))
+          ap₂ (λ (b : Bool) (w : Walked). cond b (Err ReservedCount) (cond (leb w.end (length (left ++ rest))) (Ok (point_from w)) (Err DoesNotFit)))
           (reserved_more (omega arith) ∙ p) same
-          ∙ ap (λ (b : Bool). cond b (Read (point_from (walked point_syntax [] 0 left))) DoesNotFit) still
+          ∙ ap (λ (b : Bool). cond b (Ok (point_from (walked point_syntax [] 0 left))) (Err DoesNotFit)) still
           ∙ e
         where
           head_first : 2 ≤ (walked point_syntax [] 0 left).end
@@ -103,23 +100,23 @@ module _ (left rest : List ℕ) where
                   tail [] = []
                   tail (p ∷ ps) = ps
 
-  pub head_more : (head : Head) → head_of left ≡ Before head → head_of (left ++ rest) ≡ Before head
+  pub head_more : (head : Head) → head_of left ≡ Some head → head_of (left ++ rest) ≡ Some head
   unfolding head_of
   head_more head = go (leb (walked head_syntax [] 0 left).end (length left)) refl
     where
       go : (f : Bool) → leb (walked head_syntax [] 0 left).end (length left) ≡ f
-          → cond f (Before (head_from (walked head_syntax [] 0 left))) HeadDoesNotFit ≡ Before head → head_of (left ++ rest) ≡ Before head
+          → cond f (Some (head_from (walked head_syntax [] 0 left))) None ≡ Some head → head_of (left ++ rest) ≡ Some head
       go false q e = let z : ◌≡◌ {A = ℕ} 0 1 = cc in absurd (omega arith)
       go true q e =
           let h = leb-true (walked head_syntax [] 0 left).end (length left) q in
           let still : leb (walked head_syntax [] 0 left).end (length (left ++ rest)) ≡ true = le-leb (walked head_syntax [] 0 left).end (length (left ++ rest)) (omega (arith, longer)) in
-          ap (λ (w : Walked). cond (leb w.end (length (left ++ rest))) (Before (head_from w)) HeadDoesNotFit) (walk_more head_syntax h)
-          ∙ ap (λ (b : Bool). cond b (Before (head_from (walked head_syntax [] 0 left))) HeadDoesNotFit) still
+          ap (λ (w : Walked). cond (leb w.end (length (left ++ rest))) (Some (head_from w)) None) (walk_more head_syntax h)
+          ∙ ap (λ (b : Bool). cond b (Some (head_from (walked head_syntax [] 0 left))) None) still
           ∙ e
 
 -- ---- a point's value is its own bytes'
 
-value_more : (left rest : List ℕ) → AreBytes left → (point : Point) → first_point left ≡ Read point → point_value point (left ++ rest) ≡ point_value point left
+value_more : (left rest : List ℕ) → AreBytes left → (point : Point) → first_point left ≡ Ok point → point_value point (left ++ rest) ≡ point_value point left
 value_more left rest b point e =
     let w = lists_within left b point e in
     let inside = read_within left point e in
@@ -169,8 +166,8 @@ module _ (program : List ℕ) where
       go : (a : FirstPoint) → first_point left ≡ a
           → ((size : ℕ) → size ≤ length left → Told (point_places count (at + size) (drop size left)) (each_point point_value count (drop size left)))
           → Told (places_by a at (λ size. point_places count (at + size) (drop size left))) (points_by a (λ point. point_value point left) (λ size. each_point point_value count (drop size left)))
-      go (Read point) p later =
-          let here : first_point (drop at program) ≡ Read point = ap first_point e ∙ read_more left rest point p in
+      go (Ok point) p later =
+          let here : first_point (drop at program) ≡ Ok point = ap first_point e ∙ read_more left rest point p in
           let others = later point.size (read_within left point p) in
           record {
             stand = (record { point = point; reads = here }, others.stand);
@@ -178,20 +175,20 @@ module _ (program : List ℕ) where
                 (ap₂ (λ (a : FirstPoint) (l : List ℕ). point_value (point_or a) l) here e ∙ value_more left rest b point p)
                 others.values_are;
           }
-      go DoesNotFit p later = record { stand = tt; values_are = refl }
-      go ReservedCount p later = record { stand = tt; values_are = refl }
+      go (Err DoesNotFit) p later = record { stand = tt; values_are = refl }
+      go (Err ReservedCount) p later = record { stand = tt; values_are = refl }
 
   -- as many as the head counts, where they fill it
-  points_many : (count : ℕ) (left : List ℕ) → points_filling count left ≡ Exact → length (each_point point_value count left) ≡ count
+  points_many : (count : ℕ) (left : List ℕ) → points_filling count left ≡ Ok tt → length (each_point point_value count left) ≡ count
   points_many zero left e = refl
   points_many (suc count) left e = go (first_point left) (λ size f. points_many count (drop size left) f) e
     where
-      go : (a : FirstPoint) → ((size : ℕ) → points_filling count (drop size left) ≡ Exact → length (each_point point_value count (drop size left)) ≡ count)
-          → filling_by a (λ size. points_filling count (drop size left)) ≡ Exact
+      go : (a : FirstPoint) → ((size : ℕ) → points_filling count (drop size left) ≡ Ok tt → length (each_point point_value count (drop size left)) ≡ count)
+          → filling_by a (λ size. points_filling count (drop size left)) ≡ Ok tt
           → length (points_by a (λ point. point_value point left) (λ size. each_point point_value count (drop size left))) ≡ suc count
-      go (Read point) later e = ap suc (later point.size e)
-      go DoesNotFit later e = let z : ◌≡◌ {A = ℕ} 0 1 = cc in absurd (omega arith)
-      go ReservedCount later e = let z : ◌≡◌ {A = ℕ} 0 1 = cc in absurd (omega arith)
+      go (Ok point) later e = ap suc (later point.size e)
+      go (Err DoesNotFit) later e = let z : ◌≡◌ {A = ℕ} 0 1 = cc in absurd (omega arith)
+      go (Err ReservedCount) later e = let z : ◌≡◌ {A = ℕ} 0 1 = cc in absurd (omega arith)
 
   -- ---- one payload
 
@@ -201,13 +198,13 @@ module _ (program : List ℕ) where
     pub counts_are : counts_at program at ≡ counts_of (value_of payload)
     pub points_are : Told (point_places_in at payload) (value_of payload).points
 
-  payload_stands : (at : ℕ) (payload rest : List ℕ) → AreBytes payload → drop at program ≡ payload ++ rest → filling_of payload ≡ Exact → OnePayload at payload
+  payload_stands : (at : ℕ) (payload rest : List ℕ) → AreBytes payload → drop at program ≡ payload ++ rest → filling_of payload ≡ Ok tt → OnePayload at payload
   payload_stands at payload rest b e = go (head_of payload) refl
     where
-      go : (a : HeadRead) → head_of payload ≡ a → filling_after a payload ≡ Exact → OnePayload at payload
-      go HeadDoesNotFit p f = let z : ◌≡◌ {A = ℕ} 0 1 = cc in absurd (omega arith)
-      go (Before head) p f =
-          let here : head_of (drop at program) ≡ Before head = ap head_of e ∙ head_more payload rest head p in
+      go : (a : HeadRead) → head_of payload ≡ a → filling_after a payload ≡ Ok tt → OnePayload at payload
+      go None p f = let z : ◌≡◌ {A = ℕ} 0 1 = cc in absurd (omega arith)
+      go (Some head) p f =
+          let here : head_of (drop at program) ≡ Some head = ap head_of e ∙ head_more payload rest head p in
           let inside = head_within payload head p in
           let between = profiles_between payload b head p in
           let room : 1 + head.num_ptl * 12 ≤ length payload = omega (arith, inside, between) in
@@ -253,27 +250,27 @@ module _ (program : List ℕ) where
       }
 
   -- neither 40 nor 41 applies to the first, nor to any behind it
-  after_inexact : (others : List Filling) → worst Inexact others ≡ Inexact
+  after_inexact : (others : List Filling) → worst (Err DoesNotFit) others ≡ Err DoesNotFit
   after_inexact [] = refl
   after_inexact (x ∷ others) = after_inexact others
 
-  after_reserved : (others : List Filling) → (worst Reserved others ≡ Reserved) ⊎ (worst Reserved others ≡ Inexact)
+  after_reserved : (others : List Filling) → (worst (Err ReservedCount) others ≡ Err ReservedCount) ⊎ (worst (Err ReservedCount) others ≡ Err DoesNotFit)
   after_reserved [] = inl refl
-  after_reserved (Inexact ∷ others) = inr (after_inexact others)
-  after_reserved (Exact ∷ others) = after_reserved others
-  after_reserved (Reserved ∷ others) = after_reserved others
+  after_reserved (Err DoesNotFit ∷ others) = inr (after_inexact others)
+  after_reserved (Ok tt ∷ others) = after_reserved others
+  after_reserved (Err ReservedCount ∷ others) = after_reserved others
 
-  stays : (f : Filling) (others : List Filling) → worst f others ≡ Exact → (f ≡ Exact) × (worst Exact others ≡ Exact)
-  stays Exact others e = (refl, e)
-  stays Inexact others e = let p = after_inexact others in let z : ◌≡◌ {A = ℕ} 0 1 = cc in absurd (omega arith)
-  stays Reserved others e = go (after_reserved others)
+  stays : (f : Filling) (others : List Filling) → worst f others ≡ Ok tt → (f ≡ Ok tt) × (worst (Ok tt) others ≡ Ok tt)
+  stays (Ok _) others e = (refl, e)
+  stays (Err DoesNotFit) others e = let p = after_inexact others in let z : ◌≡◌ {A = ℕ} 0 1 = cc in absurd (omega arith)
+  stays (Err ReservedCount) others e = go (after_reserved others)
     where
-      go : (worst Reserved others ≡ Reserved) ⊎ (worst Reserved others ≡ Inexact) → (Reserved ≡ Exact) × (worst Exact others ≡ Exact)
+      go : (worst (Err ReservedCount) others ≡ Err ReservedCount) ⊎ (worst (Err ReservedCount) others ≡ Err DoesNotFit) → (◌≡◌ {A = Filling} (Err ReservedCount) (Ok tt)) × (worst (Ok tt) others ≡ Ok tt)
       go (inl p) = let z : ◌≡◌ {A = ℕ} 0 1 = cc in absurd (omega arith)
       go (inr p) = let z : ◌≡◌ {A = ℕ} 0 1 = cc in absurd (omega arith)
 
   all_stand_from : {l : List ℕ} {items : List Item} → Cuts 2 descriptor_length l items → (at : ℕ) → drop at program ≡ l → AreBytes l
-      → worst Exact (map filling_in items) ≡ Exact → AllStand (each payload_place at items) (each payload_if at items) (each point_places_if at items)
+      → worst (Ok tt) (map filling_in items) ≡ Ok tt → AllStand (each payload_place at items) (each payload_if at items) (each point_places_if at items)
   all_stand_from nothing_left at e b w = none_stand
   all_stand_from (does_not_fit h f) at e b w = none_stand
   all_stand_from (piece {head} {body} {rest} {items} eh eb c) at e b w =
@@ -286,7 +283,7 @@ module _ (program : List ℕ) where
       let bytes_rest : AreBytes rest = subst AreBytes (drop_at body rest (length body) refl) (bytes_behind (body ++ rest) (length body) bytes_body) in
       go (is_points (descriptor_tag head) body) refl two at_body bytes_body (all_stand_from c (at + (2 + length body)) later bytes_rest two.1)
     where
-      go : (p : Bool) → is_points (descriptor_tag head) body ≡ p → (filling_if (descriptor_tag head) body ≡ Exact) × (worst Exact (map filling_in items) ≡ Exact)
+      go : (p : Bool) → is_points (descriptor_tag head) body ≡ p → (filling_if (descriptor_tag head) body ≡ Ok tt) × (worst (Ok tt) (map filling_in items) ≡ Ok tt)
           → drop (at + 2) program ≡ body ++ rest → AreBytes (body ++ rest)
           → AllStand (each payload_place (at + (2 + length body)) items) (each payload_if (at + (2 + length body)) items) (each point_places_if (at + (2 + length body)) items)
           → AllStand (cond p ((at + 3) ∷ []) [] ++ each payload_place (at + (2 + length body)) items)
@@ -294,7 +291,7 @@ module _ (program : List ℕ) where
           (cond p (point_places_in (at + 3) (drop 1 body)) [] ++ each point_places_if (at + (2 + length body)) items)
       go true p two at_body bytes_body others =
           let some = has_body (descriptor_tag head) body p in
-          let exact : filling_of (drop 1 body) ≡ Exact = sym (ap (λ (x : Bool). cond x (filling_of (drop 1 body)) Exact) p) ∙ two.0 in
+          let exact : filling_of (drop 1 body) ≡ Ok tt = sym (ap (λ (x : Bool). cond x (filling_of (drop 1 body)) (Ok tt)) p) ∙ two.0 in
           let at_payload : drop (at + 3) program ≡ drop 1 body ++ rest =
           sym (ap (λ (n : ℕ). drop n program) (add_assoc at 2 1)) ∙ sym (drop-drop 1 (at + 2) program) ∙ ap (drop 1) at_body ∙ drop_more 1 body rest some in
           one_more (payload_stands (at + 3) (drop 1 body) rest (bytes_front (drop 1 body) rest (subst AreBytes (drop_more 1 body rest some) (bytes_behind (body ++ rest) 1 bytes_body))) at_payload exact) others
@@ -306,6 +303,6 @@ module _ (program : List ℕ) where
       go false p two at_body bytes_body others = others
 
   -- ALL OF A LOOP that is neither 40 nor 41
-  pub all_stand : AreBytes program → worst Exact (map filling_in (descriptors_of program)) ≡ Exact
+  pub all_stand : AreBytes program → worst (Ok tt) (map filling_in (descriptors_of program)) ≡ Ok tt
       → AllStand (each payload_place 0 (descriptors_of program)) (each payload_if 0 (descriptors_of program)) (each point_places_if 0 (descriptors_of program))
   all_stand b w = all_stand_from (cut_cuts 2 descriptor_length (omega arith) by_tag program) 0 refl b w

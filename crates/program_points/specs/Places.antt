@@ -1,12 +1,9 @@
 -- What stands at a place of the program's loop: the head of a payload, and a point, with its value.
 -- Assumes nothing.
-use Rattle.std.specs.Prelude.{ℕ, ◌<◌, false, List, [], ◌∷◌, ◌≡◌, length, get_or, drop}
+use Rattle.std.specs.Prelude.{ℕ, ◌<◌, false, List, [], ◌∷◌, ◌≡◌, length, get_or, drop, Err, None, Ok, Some}
 use Rattle.operation_points.specs.declared.Head.{Head}
-use Rattle.operation_points.specs.declared.HeadRead.{HeadRead}
-use Rattle.operation_points.specs.declared.HeadRead.TheVariants.{Before, HeadDoesNotFit}
+use Rattle.operation_points.specs.Answer.{HeadRead, FirstPoint}
 use Rattle.operation_points.specs.declared.Point.{Point}
-use Rattle.operation_points.specs.declared.FirstPoint.{FirstPoint}
-use Rattle.operation_points.specs.declared.FirstPoint.TheVariants.{Read, DoesNotFit, ReservedCount}
 use Rattle.operation_points.specs.Points.{head_of, first_point}
 use Rattle.operation_points.specs.Values.{PointValue, point_value, profiles_in}
 
@@ -28,13 +25,12 @@ blank_point =
     }
 
 abbrev pub point_or : FirstPoint → Point
-point_or (Read point) = point
-point_or DoesNotFit = blank_point
-point_or ReservedCount = blank_point
+point_or (Ok point) = point
+point_or (Err fault) = blank_point
 
 abbrev pub head_or : HeadRead → Head
-head_or (Before head) = head
-head_or HeadDoesNotFit = record { num_ptl = 0; operation_points_count = 0; points_at = 0 }
+head_or (Some head) = head
+head_or None = record { num_ptl = 0; operation_points_count = 0; points_at = 0 }
 
 -- ---- at a place
 
@@ -57,11 +53,11 @@ counts_at program at = (head_at program at).num_ptl ∷ (head_at program at).ope
 
 pub record IsPoint (program : List ℕ) (at : ℕ) : Type 0 where
   pub point : Point
-  pub reads : first_point (drop at program) ≡ Read point
+  pub reads : first_point (drop at program) ≡ Ok point
 
 pub record IsPayload (program : List ℕ) (at : ℕ) : Type 0 where
   pub head : Head
-  pub reads : head_of (drop at program) ≡ Before head
+  pub reads : head_of (drop at program) ≡ Some head
 
 abbrev pub AllPoints : List ℕ → List ℕ → Type 0
 AllPoints program places = (k : ℕ) → k < length places → IsPoint program (get_or places k 0)

@@ -1,20 +1,20 @@
 -- WHAT IS TOLD of a program's operation points: the values of its descriptors in order, each point's stream list in the layers of the elementary-stream loop,
 -- and how much of it there is; or the refusal.
 -- Assumes nothing.
-use Rattle.std.specs.Prelude.{ℕ, ◌+◌, ◌≤◌, Bool, false, cond, ◌||◌, List, map, ◌≡◌, length, take}
+use Rattle.std.specs.Prelude.{ℕ, ◌+◌, ◌≤◌, Bool, false, cond, ◌||◌, List, map, ◌≡◌, length, take, Err, Ok}
 use Rattle.combinators.specs.Lists.{any, gather}
 use Rattle.vocabulary.specs.declared.refusal.Refusal.{Refusal}
 use Rattle.vocabulary.specs.declared.refusal.Refusal.TheVariants.{PointsDoNotFit, ReservedEsCount, UnknownReference}
 use Rattle.vocabulary.specs.declared.stream_types.Reading.TheVariants.{Edition2015}
 use Rattle.closure.specs.declared.Layers.{Layers}
-use Rattle.es_loop.specs.declared.reader.Outcome.{Outcome}
-use Rattle.es_loop.specs.declared.reader.Outcome.TheVariants.{Accepted, Refused}
+use Rattle.es_loop.specs.Answer.{Outcome}
 use Rattle.loop_layers.specs.declared.layer_sets.LayersRead.{LayersRead}
 use Rattle.loop_layers.specs.Closures.{loop_layers}
 use Rattle.stream_lists.specs.declared.ListBuilt.{ListBuilt}
 use Rattle.stream_lists.specs.Lists.{list_built, is_closed}
-use Rattle.operation_points.specs.declared.Filling.{Filling}
-use Rattle.operation_points.specs.declared.Filling.TheVariants.{Exact, Inexact, Reserved}
+use Rattle.operation_points.specs.Answer.{Filling}
+use Rattle.operation_points.specs.declared.PointFault.{PointFault}
+use Rattle.operation_points.specs.declared.PointFault.TheVariants.{DoesNotFit, ReservedCount}
 use Rattle.operation_points.specs.Values.{PointValue, DescriptorValue, value_of, reference_bytes, layer_bytes, row_of}
 use Rattle.point_descriptors.specs.declared.Found.{Found}
 use Rattle.point_descriptors.specs.Descriptors.{payloads_in, program_filling, found_in}
@@ -86,7 +86,7 @@ pub record Grows (before after : Tally) : Type 0 where
 -- what was found of a loop in which neither 40 nor 41 applies
 pub record Filled (program : List ℕ) (found : Found) : Type 0 where
   pub is_found : found ≡ found_in program
-  pub exact : found.filling ≡ Exact
+  pub exact : found.filling ≡ Ok tt
 
 -- ---- the answer: the elementary-stream loop's own refusal, then 40, 41, 42
 
@@ -95,21 +95,24 @@ no_tally = record { absent = false; references = 0; flags = 0; streams = 0 }
 
 abbrev pub refused_points : Refusal → Layers → Found → PointsRead
 refused_points refusal layers found =
-    record { outcome = Refused refusal; layers = layers; found = found; profile_bytes = 0; tally = no_tally }
+    record { outcome = Err refusal; layers = layers; found = found; profile_bytes = 0; tally = no_tally }
 
 abbrev pub by_tally : Layers → List ℕ → Tally → PointsRead
 by_tally layers program tally =
     cond tally.absent (refused_points UnknownReference layers (found_in program))
-    (record { outcome = Accepted; layers = layers; found = found_in program; profile_bytes = length (profiles_in program); tally = tally })
+    (record { outcome = Ok tt; layers = layers; found = found_in program; profile_bytes = length (profiles_in program); tally = tally })
+
+abbrev pub refusal_of : PointFault → Refusal
+refusal_of DoesNotFit = PointsDoNotFit
+refusal_of ReservedCount = ReservedEsCount
 
 abbrev pub by_filling : Filling → Layers → List ℕ → PointsRead
-by_filling Inexact layers program = refused_points PointsDoNotFit layers (found_in program)
-by_filling Reserved layers program = refused_points ReservedEsCount layers (found_in program)
-by_filling Exact layers program = by_tally layers program (tally_of layers (points_in program))
+by_filling (Err fault) layers program = refused_points (refusal_of fault) layers (found_in program)
+by_filling (Ok _) layers program = by_tally layers program (tally_of layers (points_in program))
 
 abbrev pub by_outcome : Outcome → Layers → List ℕ → PointsRead
-by_outcome (Refused refusal) layers program = refused_points refusal layers (found_in program)
-by_outcome Accepted layers program = by_filling (program_filling program) layers program
+by_outcome (Err refusal) layers program = refused_points refusal layers (found_in program)
+by_outcome (Ok _) layers program = by_filling (program_filling program) layers program
 
 abbrev pub read_with : LayersRead → List ℕ → PointsRead
 read_with read program = by_outcome read.outcome read.layers program

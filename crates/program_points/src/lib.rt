@@ -9,11 +9,10 @@ ghost use Rattle.std.specs.Prelude.{◌≡◌, map, ◌≤◌, length};
 ghost use Rattle.combinators.specs.Lists.{gather};
 ghost use Rattle.point_descriptors.specs.Descriptors.{program_filling, found_in};
 ghost use Rattle.program_points.specs.Places.{blank_point, point_or, head_or, point_at, value_at, head_at, profiles_at, IsPoint, AllPoints, AllPayloads};
-ghost use Rattle.program_points.specs.Told.{list_of, tally_of, tally_with, Small, Grows, no_tally, refused_points, points_in, Filled, by_tally, by_filling, points_read};
+ghost use Rattle.program_points.specs.Told.{list_of, tally_of, tally_with, Small, Grows, no_tally, refused_points, points_in, Filled, by_tally, refusal_of, by_filling, points_read};
 
 use closure::Layers;
-use es_loop::Outcome;
-use operation_points::{Filling, FirstPoint, Head, HeadRead, Point, first_point, read_head};
+use operation_points::{Head, Point, PointFault, first_point, read_head};
 use point_descriptors::Found;
 use stream_lists::ListBuilt;
 use vocabulary::{Reading, Refusal};
@@ -31,7 +30,7 @@ pub struct Tally {
 // how much there is of them.
 #[derive(Clone, Copy)]
 pub struct PointsRead {
-    pub outcome: Outcome,
+    pub outcome: Result<(), Refusal>,
     pub layers: Layers,
     pub found: Found,
     pub profile_bytes: usize,
@@ -57,22 +56,21 @@ fn blank_point() -> Point
     }
 }
 
-fn point_or(read: FirstPoint) -> Point
+fn point_or(read: Result<Point, PointFault>) -> Point
     ensures { result ≡ point_or read }
 {
     match read {
-        FirstPoint::Read(point) => point,
-        FirstPoint::DoesNotFit => blank_point(),
-        FirstPoint::ReservedCount => blank_point(),
+        Ok(point) => point,
+        Err(_) => blank_point(),
     }
 }
 
-fn head_or(read: HeadRead) -> Head
+fn head_or(read: Option<Head>) -> Head
     ensures { result ≡ head_or read }
 {
     match read {
-        HeadRead::Before(head) => head,
-        HeadRead::HeadDoesNotFit => Head {
+        Some(head) => head,
+        None => Head {
             num_ptl: 0,
             operation_points_count: 0,
             points_at: 0,
@@ -128,16 +126,9 @@ fn tally_points(program: &[u8], places: &[usize], layers: Layers) -> Tally
     requires { AllPoints program.now places.now × (length places.now ≤ 336) }
     ensures { result ≡ tally_of layers (map (value_at program.now) places.now) }
 {
-    let mut tally = Tally {
-        absent: false,
-        references: 0,
-        flags: 0,
-        streams: 0,
-    };
-    let mut i = 0;
-    while i < places.len() {
-        tally = tally_with(tally, program, places[i], layers);
-        i += 1;
+    let mut tally = no_tally();
+    for place in places {
+        tally = tally_with(tally, program, *place, layers);
     }
     tally
 }
@@ -148,11 +139,9 @@ fn profile_bytes(program: &[u8], places: &[usize]) -> usize
     ensures { result ≡ length (gather (profiles_at program.now) places.now) }
 {
     let mut bytes = 0;
-    let mut i = 0;
-    while i < places.len() {
-        let head = head_at(program, places[i]);
-        bytes += head.num_ptl as usize * 12;
-        i += 1;
+    for place in places {
+        let head = head_at(program, *place);
+        bytes += usize::from(head.num_ptl) * 12;
     }
     bytes
 }
@@ -173,7 +162,7 @@ fn refused(refusal: Refusal, layers: Layers, found: Found) -> PointsRead
     ensures { result ≡ refused_points refusal layers found }
 {
     PointsRead {
-        outcome: Outcome::Refused(refusal),
+        outcome: Err(refusal),
         layers,
         found,
         profile_bytes: 0,
@@ -195,11 +184,21 @@ fn tell(program: &[u8], layers: Layers, found: Found) -> PointsRead
         return refused(Refusal::UnknownReference, layers, found);
     }
     PointsRead {
-        outcome: Outcome::Accepted,
+        outcome: Ok(()),
         layers,
         found,
         profile_bytes: profile_bytes(program, &payloads[..descriptors]),
         tally,
+    }
+}
+
+// 40 or 41.
+fn refusal_of(fault: PointFault) -> Refusal
+    ensures { result ≡ refusal_of fault }
+{
+    match fault {
+        PointFault::DoesNotFit => Refusal::PointsDoNotFit,
+        PointFault::ReservedCount => Refusal::ReservedEsCount,
     }
 }
 
@@ -208,11 +207,9 @@ fn read_in(program: &[u8], layers: Layers, found: Found) -> PointsRead
     requires { found ≡ found_in program.now }
     ensures { result ≡ by_filling (program_filling program.now) layers program.now }
 {
-    let filling = found.filling;
-    match filling {
-        Filling::Inexact => refused(Refusal::PointsDoNotFit, layers, found),
-        Filling::Reserved => refused(Refusal::ReservedEsCount, layers, found),
-        Filling::Exact => tell(program, layers, found),
+    match found.filling {
+        Err(fault) => refused(refusal_of(fault), layers, found),
+        Ok(()) => tell(program, layers, found),
     }
 }
 
@@ -225,7 +222,7 @@ pub fn read_points(program: &[u8], bytes: &[u8]) -> PointsRead
     let layers = read.layers;
     let found = point_descriptors::find_points(program);
     match outcome {
-        Outcome::Accepted => read_in(program, layers, found),
-        Outcome::Refused(refusal) => refused(refusal, layers, found),
+        Ok(()) => read_in(program, layers, found),
+        Err(refusal) => refused(refusal, layers, found),
     }
 }

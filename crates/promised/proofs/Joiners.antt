@@ -1,13 +1,13 @@
 -- The promises of the calls that join rows to units, each of its function. The calls, and the numbers that they refuse with, stand in specs/Joiners.antt.
 -- Assumes nothing.
-use Rattle.std.specs.Prelude.{ℕ, true, List, ◌≡◌, refl}
+use Rattle.std.specs.Prelude.{ℕ, true, List, ◌≡◌, refl, Err, Ok}
 use Rattle.std.proofs.Math.Option.{some}
 use Rattle.std.proofs.Common.{sym, ◌∙◌, ap, subst}
 use Rattle.vocabulary.specs.declared.refusal.Refusal.{Refusal}
 use Rattle.vocabulary.specs.Refusals.{number_of}
 use Rattle.vocabulary.specs.declared.stream_types.Reading.{Reading}
 use Rattle.closure.specs.declared.Layers.{Layers}
-use Rattle.join_answers.specs.declared.answer.Joined.{Joined}
+use Rattle.join_answers.specs.Answer.{Joined}
 use Rattle.rows.specs.Table.{Table}
 use Rattle.unit_lists.specs.Sequence.{Lists}
 use Rattle.join_answers.specs.Joining.{frame_of, room_of, table_joined, joined_of, lists_after}
@@ -39,10 +39,10 @@ module _ {Given : Type 0} (j : Joiner Given) where
   equals given e f = (e, f ∙ ap (after given) e)
 
   -- after a refusal the lists are as they were
-  kept : (given : Given) → ((refusal : Refusal) → after given (Joined.Refused refusal) ≡ j.before given) → (answer : Joined) (number : ℕ)
+  kept : (given : Given) → ((refusal : Refusal) → after given (Err refusal) ≡ j.before given) → (answer : Joined) (number : ℕ)
       → joined_number answer ≡ some number → after given answer ≡ j.before given
-  kept given k (Joined.Units closure units rows) number e = not_refused e
-  kept given k (Joined.Refused r) number e = k r
+  kept given k (Ok joined) number e = not_refused e
+  kept given k (Err r) number e = k r
 
 table_listed : {most : ℕ} {layers : Layers} {target closure : ℕ} {rows : Table} {before after : Lists} {answer : Joined}
     → Joining.AnswersOver most layers target closure rows before answer after → is_listed joining_numbers (joined_number answer) ≡ true

@@ -1,13 +1,13 @@
 -- The calls that join rows to units, and their promises: over a closure that was found, over layers, with work space of the caller's, and from the bytes of a
 -- loop. Each has three lists for its output.
 -- Assumes nothing.
-use Rattle.std.specs.Prelude.{ℕ, List, [], ◌∷◌, ◌++◌, length}
+use Rattle.std.specs.Prelude.{ℕ, List, [], ◌∷◌, ◌++◌, length, Err, Ok}
 use Rattle.std.proofs.Math.Option.{Option, none, some}
 use Rattle.vocabulary.specs.Refusals.{number_of}
 use Rattle.vocabulary.specs.declared.stream_types.Reading.{Reading}
 use Rattle.closure.specs.declared.Layers.{Layers}
 use Rattle.heads.specs.Orderly.{Closed}
-use Rattle.join_answers.specs.declared.answer.Joined.{Joined}
+use Rattle.join_answers.specs.Answer.{Joined}
 use Rattle.rows.specs.Table.{Table, table, most_rows}
 use Rattle.unit_lists.specs.Sequence.{Lists, lists}
 use Rattle.join_answers.specs.Joining.{most_long}
@@ -26,8 +26,8 @@ use Rattle.promised.specs.Calls.{Run, Call}
 use Rattle.promised.specs.Readers.{read_loop, closure_of_target}
 
 abbrev pub joined_number : Joined → Option ℕ
-joined_number (Joined.Units closure units rows) = none
-joined_number (Joined.Refused refusal) = some (number_of refusal)
+joined_number (Ok joined) = none
+joined_number (Err refusal) = some (number_of refusal)
 
 -- ---- `joining::join_table`: 13 to 18, of a table over the whole closure of a target, with work space lent
 

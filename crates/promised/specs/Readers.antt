@@ -1,10 +1,10 @@
 -- The calls that read, and their promises: a loop's entries, a target's closure, a PES header's times. None of them has an output buffer.
 -- Assumes nothing.
-use Rattle.std.specs.Prelude.{ℕ, true, List, [], ◌∷◌, ◌++◌, ◌≡◌, refl}
+use Rattle.std.specs.Prelude.{ℕ, true, List, [], ◌∷◌, ◌++◌, ◌≡◌, refl, Err, Ok}
 use Rattle.std.proofs.Math.Option.{Option, none, some}
 use Rattle.vocabulary.specs.declared.stream_types.Reading.{Reading}
 use Rattle.vocabulary.specs.Refusals.{number_of}
-use Rattle.es_loop.specs.declared.reader.Outcome.{Outcome}
+use Rattle.es_loop.specs.Answer.{Outcome}
 use Rattle.es_loop.specs.declared.reader.LoopRead.{LoopRead}
 use Rattle.es_loop.specs.Reading.{loop_read}
 use Rattle.es_loop.proofs.read_loop.Kinds as read-loop-kinds
@@ -14,7 +14,7 @@ use Rattle.framing.specs.Pieces.{Item}
 use Rattle.es_loop.specs.Meaning as Loop
 use Rattle.es_loop.proofs.Meant as loop
 use Rattle.closure.specs.declared.Layers.{Layers}
-use Rattle.closure.specs.declared.Closure.{Closure}
+use Rattle.closure.specs.Answer.{Closure}
 use Rattle.closure.specs.Closures.{closure_of}
 use Rattle.closure.proofs.closure_of.Kinds as closure-of-kinds
 use Rattle.closure.proofs.closure_of.Reads as closure-of
@@ -25,7 +25,7 @@ use Rattle.loop_layers.proofs.closure_of_loop.Kinds as closure-of-loop-kinds
 use Rattle.loop_layers.proofs.closure_of_loop.Reads as closure-of-loop
 use Rattle.loop_layers.specs.Meaning as LoopTarget
 use Rattle.loop_layers.proofs.Meant as loop-target
-use Rattle.pes_reader.specs.declared.Answer.{Answer}
+use Rattle.pes_reader.specs.Answer.{Answer}
 use Rattle.pes_reader.specs.Reading.{read_of}
 use Rattle.pes_reader.proofs.read.Kinds as read-times-kinds
 use Rattle.pes_reader.proofs.read.Reads as read-times
@@ -41,8 +41,8 @@ pub record LoopGiven : Type 0 where
   pub bytes : List ℕ
 
 abbrev pub outcome_number : Outcome → Option ℕ
-outcome_number Outcome.Accepted = none
-outcome_number (Outcome.Refused refusal) = some (number_of refusal)
+outcome_number (Ok tt) = none
+outcome_number (Err refusal) = some (number_of refusal)
 
 abbrev pub read_loop : Call
 read_loop =
@@ -98,8 +98,8 @@ pub record TargetGiven : Type 0 where
   pub target : ℕ
 
 abbrev pub closure_number : Closure → Option ℕ
-closure_number (Closure.Complete set) = none
-closure_number (Closure.Refused refusal) = some (number_of refusal)
+closure_number (Ok set) = none
+closure_number (Err refusal) = some (number_of refusal)
 
 abbrev pub closure_of_target : Call
 closure_of_target =
@@ -183,8 +183,8 @@ loop_closure_computed =
 -- ---- `pes::read`: 'The PES reader uses 20 to 24'
 
 abbrev pub times_number : Answer → Option ℕ
-times_number (Answer.Read header) = none
-times_number (Answer.Refused refusal) = some (number_of refusal)
+times_number (Ok header) = none
+times_number (Err refusal) = some (number_of refusal)
 
 abbrev pub read_times : Call
 read_times =

@@ -1,11 +1,11 @@
 -- The calls that write bytes into a buffer, and their promises.
 -- Assumes nothing.
-use Rattle.std.specs.Prelude.{ℕ, Bool, true, List, [], ◌∷◌, ◌≡◌, refl, length, take}
+use Rattle.std.specs.Prelude.{ℕ, Bool, true, List, [], ◌∷◌, ◌≡◌, refl, length, take, Err, Ok}
 use Rattle.std.proofs.Math.Option.{Option, none, some}
 use Rattle.std.proofs.Common.{◌∙◌, ap}
 use Rattle.vocabulary.specs.Refusals.{number_of}
 use Rattle.loop_entries.specs.declared.Entry.{Entry}
-use Rattle.loop_writer.specs.declared.writer.Written.{Written}
+use Rattle.loop_writer.specs.Answer.{Written}
 use Rattle.loop_writer.specs.Layout.{loop_bytes}
 use Rattle.loop_writer.specs.Writing.{answer, content_after, content}
 use Rattle.loop_writer.proofs.write_loop.Kinds as write-loop-kinds
@@ -14,7 +14,7 @@ use Rattle.combinators.specs.Members.{member}
 use Rattle.loop_writer.specs.Meaning as Loop
 use Rattle.loop_writer.proofs.Meant as loop
 use Rattle.stamps.specs.declared.Times.{Times as HeaderTimes}
-use Rattle.pes_writer.specs.declared.Written.{Written as TimesWritten}
+use Rattle.pes_writer.specs.Answer.{Written as TimesWritten}
 use Rattle.pes_writer.specs.Writing.{header_of, write_of, buffer_of}
 use Rattle.pes_writer.proofs.write.Kinds as write-times-kinds
 use Rattle.pes_writer.proofs.write.Reads as write-times
@@ -31,8 +31,8 @@ pub record EntriesGiven : Type 0 where
   pub out : List ℕ
 
 abbrev pub written_number : Written → Option ℕ
-written_number (Written.Bytes n) = none
-written_number (Written.Refused refusal) = some (number_of refusal)
+written_number (Ok n) = none
+written_number (Err refusal) = some (number_of refusal)
 
 abbrev pub write_loop : Call
 write_loop =
@@ -73,8 +73,8 @@ written_listed (Loop.accepts a b c d e f) = refl
 
 written_untouched : (written : Written) (bytes out : List ℕ) (number : ℕ) → written_number written ≡ some number
     → content_after written bytes out ≡ out
-written_untouched (Written.Bytes n) bytes out number e = not_refused e
-written_untouched (Written.Refused r) bytes out number e = refl
+written_untouched (Ok n) bytes out number e = not_refused e
+written_untouched (Err r) bytes out number e = refl
 
 pub loop_written_computed : Computed write_loop (λ given. answer (length given.out) given.count given.array) (λ given. content given.count given.array given.out)
 loop_written_computed =
@@ -96,8 +96,8 @@ pub record TimesGiven : Type 0 where
   pub out : List ℕ
 
 abbrev pub times_written_number : TimesWritten → Option ℕ
-times_written_number (TimesWritten.Bytes n) = none
-times_written_number (TimesWritten.Refused refusal) = some (number_of refusal)
+times_written_number (Ok n) = none
+times_written_number (Err refusal) = some (number_of refusal)
 
 abbrev pub write_times : Call
 write_times =
@@ -132,8 +132,8 @@ times_buffer given written = buffer_of written (header_of given.times given.with
 
 times_untouched : (written : TimesWritten) (bytes out : List ℕ) (number : ℕ) → times_written_number written ≡ some number
     → buffer_of written bytes out ≡ out
-times_untouched (TimesWritten.Bytes n) bytes out number e = not_refused e
-times_untouched (TimesWritten.Refused r) bytes out number e = refl
+times_untouched (Ok n) bytes out number e = not_refused e
+times_untouched (Err r) bytes out number e = refl
 
 pub times_written_computed : Computed write_times (times_answer) (λ given. times_buffer given (times_answer given))
 times_written_computed =

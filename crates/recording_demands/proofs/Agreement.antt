@@ -1,5 +1,7 @@
 -- Demand 3 over a recording: `recording_agreement`; and the import of rows is that of `importing` where there may be 512, `of_512_rows`.
 -- Assumes nothing.
+use Rattle.std.specs.Prelude.{Err, Ok}
+use Rattle.join_answers.specs.Answer.{joined_units, Joined}
 use Prim.Native.Nat.{ℕ}
 use mathlib.Core.List.{List, map}
 use mathlib.Core.Path.{◌≡◌, refl, sym, ◌∙◌, ap, subst}
@@ -10,15 +12,13 @@ use Rattle.vocabulary.specs.declared.refusal.Refusal.{Refusal}
 use Rattle.loop_entries.specs.declared.Entry.{Entry}
 use Rattle.loop_entries.specs.declared.Stream.{Stream}
 use Rattle.loop_entries.specs.Entries.{entry_of}
-use Rattle.es_loop.specs.declared.reader.Outcome.{Outcome}
-use Rattle.es_loop.specs.declared.reader.Outcome.TheVariants.{Accepted, Refused as LoopRefused}
+use Rattle.es_loop.specs.Answer.{Outcome}
 use Rattle.es_loop.specs.declared.reader.LoopRead.{LoopRead}
 use Rattle.es_loop.specs.Reading.{refused_with, accepted}
 use Rattle.es_loop.specs.Meaning as Loop
 use Rattle.es_loop.proofs.Meant.{answer_only}
 use Rattle.closure.specs.declared.Layers.{Layers}
-use Rattle.closure.specs.declared.Closure.{Closure}
-use Rattle.closure.specs.declared.Closure.TheVariants.{Complete, Refused as NoClosure}
+use Rattle.closure.specs.Answer.{Closure}
 use Rattle.closure.specs.Closures.{closure_of}
 use Rattle.loop_layers.specs.Closures.{entries_read, closure_for}
 use Rattle.loop_layers.specs.Layers.{layers_of}
@@ -26,8 +26,6 @@ use Rattle.loop_layers.specs.Meaning.{LayersOf}
 use Rattle.loop_layers.proofs.Meant.{layers_only, entries_read_lem}
 use Rattle.rows.specs.Table.{Table, most_rows}
 use Rattle.unit_lists.specs.Sequence.{Lists}
-use Rattle.join_answers.specs.declared.answer.Joined.{Joined}
-use Rattle.join_answers.specs.declared.answer.Joined.TheVariants.{Units, Refused}
 use Rattle.join_answers.specs.Joining.{Room, room_of, joined_in, joined_of, lists_after}
 use Rattle.join_answers.proofs.Meant as joining
 use Rattle.importing.specs.Meaning as Import
@@ -36,11 +34,10 @@ use Rattle.agreement.proofs.Entries.{accepted_in_2009}
 use Rattle.agreement.specs.Computed.{layers_in}
 use Rattle.agreement.proofs.Computed.{same_joined, same_lists, no_closure}
 use Rattle.agreement.proofs.Agreement.{accepts, outcome_is, same_entries, same_layers}
-use Rattle.recordings.specs.declared.Recording.{Recording}
-use Rattle.recordings.specs.declared.Recording.TheVariants.{Rows}
+use Rattle.recordings.specs.Answer.{Recording}
 use Rattle.recordings.proofs.AnswerMeant as recordings
-use Rattle.recording_imports.specs.declared.Imported.{Imported}
-use Rattle.recording_imports.specs.declared.RowsRead.{RowsRead}
+use Rattle.recording_imports.specs.Answer.{Imported, RowsRead}
+use Rattle.recording_imports.specs.declared.Unread.TheVariants.{Refused, NotRead}
 use Rattle.recording_imports.specs.Rows.{pid_table, rows_told, rows_for}
 use Rattle.recording_imports.specs.Imports.{layers_of_loop, outcome_of, imported_of, imported_by, recording_with, import_of}
 use Rattle.recording_meaning.proofs.Meant.{lists_same, import_meant, import_only}
@@ -61,7 +58,7 @@ of_512_rows reading bytes target t before answer after = (to, from)
 
 never_refused : {reading : Reading} {bytes : List ℕ} {refusal : Refusal} → IsAccepted reading bytes → Loop.Answers reading bytes (refused_with refusal) → ⊥
 never_refused {reading} {bytes} {refusal} e r =
-    let other : ◌≡◌ {A = Outcome} (LoopRefused refusal) Accepted = ap (λ (x : LoopRead). x.outcome) (answer_only reading bytes r) ∙ e in
+    let other : ◌≡◌ {A = Outcome} (Err refusal) (Ok tt) = ap (λ (x : LoopRead). x.outcome) (answer_only reading bytes r) ∙ e in
     let z : ◌≡◌ {A = ℕ} 0 1 = cc in omega arith
 
 module _ (most : ℕ) (reading : Reading) (bytes : List ℕ) (is_accepted : IsAccepted reading bytes) (target : ℕ) (t : Table) (before : Lists) where
@@ -105,13 +102,13 @@ same_imported : {a b : Joined} → imported_of a ≡ imported_of b → a ≡ b
 same_imported {a} {b} e = sym (back a) ∙ ap joined_from e ∙ back b
   where
     joined_from : Imported → Joined
-    joined_from (Imported.Units closure units rows) = Units closure units rows
-    joined_from (Imported.Refused refusal) = Refused refusal
-    joined_from (Imported.NotRead refusal packet) = Refused refusal
+    joined_from (Ok joined) = joined_units joined.closure joined.units joined.rows
+    joined_from (Err (Refused refusal)) = Err refusal
+    joined_from (Err (NotRead refusal packet)) = Err refusal
 
     back : (j : Joined) → joined_from (imported_of j) ≡ j
-    back (Units closure units rows) = refl
-    back (Refused refusal) = refl
+    back (Ok joined) = refl
+    back (Err refusal) = refl
 
 -- a target that is refused is refused by joining too
 after_target : (most : ℕ) (layers : Layers) (target : ℕ) (t : Table) (room : Room) (rows : RowsRead) (recording : Recording) → rows_told recording ≡ rows
@@ -120,11 +117,11 @@ after_target : (most : ℕ) (layers : Layers) (target : ℕ) (t : Table) (room :
 after_target most layers target t room rows recording e is = go (closure_of layers target)
   where
     go : (c : Closure) → imported_by (rows_for (outcome_of c) recording) (joined_in most layers t room c) ≡ imported_of (joined_in most layers t room c)
-    go (Complete closure) = ap (λ (r : RowsRead). imported_by r (joined_in most layers t room (Complete closure))) e ∙ is (joined_in most layers t room (Complete closure))
-    go (NoClosure refusal) = refl
+    go (Ok closure) = ap (λ (r : RowsRead). imported_by r (joined_in most layers t room (Ok closure))) e ∙ is (joined_in most layers t room (Ok closure))
+    go (Err refusal) = refl
 
 module _ (places : ℕ) (bytes : List ℕ) (is_accepted : IsAccepted Edition2015 bytes) (target : ℕ) (packets : List ℕ) (r : GivesRows places bytes target packets) where
-  is_rows : recording_with places bytes packets ≡ Rows r.count
+  is_rows : recording_with places bytes packets ≡ Ok r.count
   is_rows = sym (recordings.answer_only (pid_table bytes) packets places r.rows)
 
   pub imported : (room : Room) → import_of places bytes target packets room ≡ imported_of (joined_of places (layers_of_loop bytes) target (filled places bytes target packets) room)
@@ -183,7 +180,7 @@ module _ (places : ℕ) (bytes : List ℕ) (is_accepted : IsAccepted Edition2015
             record {
               refusal = n.0;
               is_11_or_12 = n.1;
-              always = λ before. (let e : Refused n.0 ≡ joined_both few before = sym (ap (joined_in places few rows (room_of before)) n.2) in
+              always = λ before. (let e : ◌≡◌ {A = Joined} (Err n.0) (joined_both few before) = sym (ap (joined_in places few rows (room_of before)) n.2) in
                   rows_are places Edition2009 bytes earlier target rows before e (ap (λ (j : Joined). lists_after few rows j before) e));
             });
       }

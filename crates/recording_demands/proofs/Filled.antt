@@ -1,5 +1,6 @@
 -- The rows of a recording are in range, and fill the table in their order: `rows_fill`.
 -- Assumes nothing.
+use Rattle.std.specs.Prelude.{Err, Ok}
 use Prim.Native.Nat.{ℕ, zero, suc, ◌<◌}
 use mathlib.Core.List.{List, [], ◌∷◌, ◌++◌, map}
 use mathlib.Core.Path.{◌≡◌, refl, sym, ◌∙◌, subst}
@@ -21,8 +22,7 @@ use Rattle.stamps.specs.Tables.{pts_alone, pts_before_dts, dts, tref}
 use Rattle.pes_fields.specs.declared.Extension.{Extension}
 use Rattle.pes_fields.specs.declared.Extension.TheVariants.{DoesNotFit, WithoutTref, WithTref}
 use Rattle.pes_fields.specs.Meaning.{ExtensionField, without_tref, with_tref, SecondExtension, PesExtension}
-use Rattle.pes_reader.specs.declared.Answer.{Answer}
-use Rattle.pes_reader.specs.declared.Answer.TheVariants.{Read, Refused}
+use Rattle.pes_reader.specs.Answer.{Answer}
 use Rattle.pes_reader.specs.Reading.{match_of, sent_of, read_of}
 use Rattle.pes_reader.specs.Meaning as Pes
 use Rattle.pes_reader.proofs.MeaningLaws.{answers_is}
@@ -65,10 +65,10 @@ decoding_fits flags bytes =
 
 -- of the row that such a header gives
 abbrev Fitting : ℕ → ℕ → Answer → Type 0
-Fitting layer packet (Read header) =
+Fitting layer packet (Ok header) =
     RowFits
     (record { layer = layer; decoding = header.times.decoding; matching = header.times.matching; tref_sent = header.tref_sent; packet = packet })
-Fitting layer packet (Refused refusal) = Unit {0}
+Fitting layer packet (Err refusal) = Unit {0}
 
 header_fits : (layer packet : ℕ) → layer < layers → (bytes : List ℕ) → Fitting layer packet (read_of bytes)
 header_fits layer packet h bytes = go (answers_is bytes)
@@ -107,8 +107,8 @@ EventFits (Event.NotRead refusal) = Unit {0}
 EventFits (Event.Unit row) = RowFits row
 
 answer_fits : (layer k : ℕ) (answer : Answer) → Fitting layer k answer → EventFits (header_event layer k answer)
-answer_fits layer k (Read header) f = f
-answer_fits layer k (Refused refusal) f = tt
+answer_fits layer k (Ok header) f = f
+answer_fits layer k (Err refusal) f = tt
 
 step_fits : (layer k : ℕ) (packet : List ℕ) (step : Step) → layer < layers → EventFits (step_event layer k packet step)
 step_fits layer k packet Skipped h = tt

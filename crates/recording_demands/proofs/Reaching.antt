@@ -1,5 +1,7 @@
 -- An answer of joining is given where nothing that comes before it is refused: `reached`.
 -- Assumes nothing.
+use Rattle.recordings.specs.declared.RecordingFault.{RecordingFault}
+use Rattle.std.specs.Prelude.{Err, Ok}
 use Prim.Native.Nat.{ℕ, ◌≤◌, ◌<◌}
 use mathlib.Core.List.{List, map}
 use mathlib.Core.Path.{◌≡◌, refl, sym, ◌∙◌, ap, subst}
@@ -15,15 +17,13 @@ use Rattle.vocabulary.specs.declared.refusal.Refusal.TheVariants.{LostSync, Coun
 use Rattle.vocabulary.specs.Refusals.{number_of}
 use Rattle.loop_entries.specs.declared.Entry.{Entry}
 use Rattle.loop_entries.specs.Entries.{entry_of}
-use Rattle.es_loop.specs.declared.reader.Outcome.{Outcome}
-use Rattle.es_loop.specs.declared.reader.Outcome.TheVariants.{Accepted, Refused as LoopRefused}
+use Rattle.es_loop.specs.Answer.{Outcome}
 use Rattle.es_loop.specs.declared.reader.LoopRead.{LoopRead}
 use Rattle.es_loop.specs.Reading.{loop_read}
 use Rattle.es_loop.specs.Meaning as Loop
 use Rattle.es_loop.proofs.Meant.{answer_meant, answer_only}
 use Rattle.closure.specs.declared.Layers.{Layers}
-use Rattle.closure.specs.declared.Closure.{Closure}
-use Rattle.closure.specs.declared.Closure.TheVariants.{Complete, Refused as NoClosure}
+use Rattle.closure.specs.Answer.{Closure}
 use Rattle.closure.specs.Closures.{closure_of}
 use Rattle.closure.specs.Meaning as Target
 use Rattle.closure.proofs.Meant.{closure_meant}
@@ -33,7 +33,7 @@ use Rattle.loop_layers.specs.Meaning.{LayersOf}
 use Rattle.loop_layers.proofs.Meant.{layers_only, entries_read_lem}
 use Rattle.rows.specs.Table.{Table}
 use Rattle.unit_lists.specs.Sequence.{Lists}
-use Rattle.join_answers.specs.declared.answer.Joined.{Joined}
+use Rattle.join_answers.specs.Answer.{Joined}
 use Rattle.join_answers.specs.Joining.{room_of, joined_of, lists_after}
 use Rattle.join_answers.specs.Meaning as Joining
 use Rattle.join_answers.proofs.Meant as joining
@@ -41,11 +41,11 @@ use Rattle.agreement.proofs.Agreement.{accepts}
 use Rattle.agreement.specs.Entries.{IsAccepted}
 use Rattle.unit_starts.specs.declared.Found.{Found}
 use Rattle.unit_starts.specs.Finding.{found_in}
-use Rattle.recordings.specs.declared.Recording.{Recording}
+use Rattle.recordings.specs.Answer.{Recording}
 use Rattle.recordings.specs.Reading.{fault_of, header_refusal, answer_of}
 use Rattle.recordings.specs.Meaning as Recordings
 use Rattle.recordings.proofs.AnswerMeant as recordings
-use Rattle.recording_imports.specs.declared.Imported.{Imported}
+use Rattle.recording_imports.specs.Answer.{Imported}
 use Rattle.recording_imports.specs.Rows.{pid_table, rows_told, rows_for}
 use Rattle.recording_imports.specs.Imports.{layers_of_loop, outcome_of, outcome_for, imported_by, recording_with, imported_of}
 use Rattle.recording_meaning.proofs.Meant.{import_only}
@@ -67,8 +67,8 @@ condition_number (Loop.index_held a b c d) = omega arith
 condition_number (Loop.embedded_wrong a b) = omega arith
 
 abbrev LoopNumber : Outcome → Type 0
-LoopNumber Accepted = Unit {0}
-LoopNumber (LoopRefused refusal) = number_of refusal < 13
+LoopNumber (Ok tt) = Unit {0}
+LoopNumber (Err refusal) = number_of refusal < 13
 
 loop_number : {reading : Reading} {bytes : List ℕ} {read : LoopRead} → Loop.Answers reading bytes read → LoopNumber read.outcome
 loop_number (Loop.too_long_lem h) = omega arith
@@ -76,8 +76,8 @@ loop_number (Loop.refuses short cuts c lower earlier) = condition_number c
 loop_number (Loop.accepts short cuts none) = tt
 
 abbrev TargetNumber : Closure → Type 0
-TargetNumber (Complete closure) = Unit {0}
-TargetNumber (NoClosure refusal) = number_of refusal < 13
+TargetNumber (Ok closure) = Unit {0}
+TargetNumber (Err refusal) = number_of refusal < 13
 
 target_number : {layers : Layers} {target : ℕ} {closure : Closure} → Target.Answers layers target closure → TargetNumber closure
 target_number (Target.no_such_layer h) = omega arith
@@ -85,21 +85,21 @@ target_number (Target.absent here lowest) = omega arith
 target_number (Target.complete here closure) = tt
 
 abbrev FaultNumber : Recording → Type 0
-FaultNumber (Recording.Rows count) = Unit {0}
-FaultNumber (Recording.Faulty fault) = 30 ≤ number_of fault
-FaultNumber (Recording.NotRead refusal packet) = Unit {0}
-FaultNumber Recording.TooManyRows = Unit {0}
+FaultNumber (Ok count) = Unit {0}
+FaultNumber (Err (RecordingFault.Faulty fault)) = 30 ≤ number_of fault
+FaultNumber (Err (RecordingFault.NotRead refusal packet)) = Unit {0}
+FaultNumber (Err RecordingFault.TooManyRows) = Unit {0}
 
 fault_number : (f : Found) (room : ℕ) → FaultNumber (answer_of f room)
 fault_number f room =
-    either_way FaultNumber (ltb f.fault.number 34) (Recording.Faulty (fault_of f.fault.number f.fault.packet)) unless named
-    (either_way FaultNumber (ltb f.refusal.number 25) (Recording.NotRead (header_refusal f.refusal.number) f.refusal.packet) (cond (ltb room f.rows) Recording.TooManyRows (Recording.Rows f.rows)) tt
-    (either_way FaultNumber (ltb room f.rows) Recording.TooManyRows (Recording.Rows f.rows) tt tt))
+    either_way FaultNumber (ltb f.fault.number 34) (Err (RecordingFault.Faulty (fault_of f.fault.number f.fault.packet))) unless named
+    (either_way FaultNumber (ltb f.refusal.number 25) (Err (RecordingFault.NotRead (header_refusal f.refusal.number) f.refusal.packet)) (cond (ltb room f.rows) (Err RecordingFault.TooManyRows) (Ok f.rows)) tt
+    (either_way FaultNumber (ltb room f.rows) (Err RecordingFault.TooManyRows) (Ok f.rows) tt tt))
   where
     unless : Recording
     unless =
-        cond (ltb f.refusal.number 25) (Recording.NotRead (header_refusal f.refusal.number) f.refusal.packet)
-        (cond (ltb room f.rows) Recording.TooManyRows (Recording.Rows f.rows))
+        cond (ltb f.refusal.number 25) (Err (RecordingFault.NotRead (header_refusal f.refusal.number) f.refusal.packet))
+        (cond (ltb room f.rows) (Err RecordingFault.TooManyRows) (Ok f.rows))
 
     High : Refusal → Type 0
     High refusal = 30 ≤ number_of refusal
@@ -113,7 +113,7 @@ fault_number f room =
 -- ---- what an answer of joining says of what comes before it
 
 module _ (places : ℕ) (bytes : List ℕ) (target : ℕ) (packets : List ℕ) where
-  under : IsAccepted Edition2015 bytes → (count : ℕ) → recording_with places bytes packets ≡ Recording.Rows count → ToJoining places bytes target packets
+  under : IsAccepted Edition2015 bytes → (count : ℕ) → recording_with places bytes packets ≡ Ok count → ToJoining places bytes target packets
   under is_accepted count e =
       let a = accepts Edition2015 bytes is_accepted in
       record {
@@ -126,22 +126,22 @@ module _ (places : ℕ) (bytes : List ℕ) (target : ℕ) (packets : List ℕ) w
 
   by_recording : IsAccepted Edition2015 bytes → (joined : Joined) (recording : Recording) → recording_with places bytes packets ≡ recording → FaultNumber recording
       → OfJoining (imported_by (rows_told recording) joined) → ToJoining places bytes target packets
-  by_recording a joined (Recording.Rows count) e f o = under a count e
-  by_recording a joined (Recording.Faulty fault) e f o = let high = o.1 in absurd (omega arith)
-  by_recording a joined (Recording.NotRead refusal packet) e f o = absurd o
-  by_recording a joined Recording.TooManyRows e f o = let low = o.0 in absurd (omega arith)
+  by_recording a joined (Ok count) e f o = under a count e
+  by_recording a joined (Err (RecordingFault.Faulty fault)) e f o = let high = o.1 in absurd (omega arith)
+  by_recording a joined (Err (RecordingFault.NotRead refusal packet)) e f o = absurd o
+  by_recording a joined (Err RecordingFault.TooManyRows) e f o = let low = o.0 in absurd (omega arith)
 
   by_closure : IsAccepted Edition2015 bytes → (joined : Joined) (closure : Closure) → TargetNumber closure
       → OfJoining (imported_by (rows_for (outcome_of closure) (recording_with places bytes packets)) joined) → ToJoining places bytes target packets
-  by_closure a joined (Complete closure) n o =
+  by_closure a joined (Ok closure) n o =
       by_recording a joined (recording_with places bytes packets) refl (fault_number (found_in (pid_table bytes) packets) places) o
-  by_closure a joined (NoClosure refusal) n o = let low = o.0 in absurd (omega arith)
+  by_closure a joined (Err refusal) n o = let low = o.0 in absurd (omega arith)
 
   by_loop : (joined : Joined) (outcome : Outcome) → (loop_read Edition2015 bytes).outcome ≡ outcome → LoopNumber outcome
       → OfJoining (imported_by (rows_for (outcome_for outcome (layers_of_loop bytes) target) (recording_with places bytes packets)) joined)
       → ToJoining places bytes target packets
-  by_loop joined Accepted e n o = by_closure e joined (closure_of (layers_of_loop bytes) target) (target_number (closure_meant (layers_of_loop bytes) target)) o
-  by_loop joined (LoopRefused refusal) e n o = let low = o.0 in absurd (omega arith)
+  by_loop joined (Ok tt) e n o = by_closure e joined (closure_of (layers_of_loop bytes) target) (target_number (closure_meant (layers_of_loop bytes) target)) o
+  by_loop joined (Err refusal) e n o = let low = o.0 in absurd (omega arith)
 
   reaches : (before : Lists) (answer : Imported) (after : Lists) → Imports places bytes target packets before answer after → OfJoining answer
       → ToJoining places bytes target packets

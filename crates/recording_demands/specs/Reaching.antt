@@ -2,7 +2,7 @@
 -- them': an answer that joining gives, units or one of 14 to 18, is given exactly where the loop is accepted, the packets give rows that there is room for, and joining
 -- answers it of these rows. So demand 2, which speaks of joining, holds of recordings.
 -- Assumes nothing.
-use Rattle.std.specs.Prelude.{ℕ, ◌<◌, List, map, ◌↔◌}
+use Rattle.std.specs.Prelude.{ℕ, ◌<◌, List, map, ◌↔◌, Err, Ok}
 use Rattle.vocabulary.specs.declared.stream_types.Reading.TheVariants.{Edition2015}
 use Rattle.vocabulary.specs.Refusals.{number_of}
 use Rattle.loop_entries.specs.declared.Stream.{Stream}
@@ -12,10 +12,10 @@ use Rattle.es_loop.specs.Meaning as Loop
 use Rattle.closure.specs.declared.Layers.{Layers}
 use Rattle.loop_layers.specs.Meaning.{LayersOf}
 use Rattle.unit_lists.specs.Sequence.{Lists}
-use Rattle.join_answers.specs.declared.answer.Joined.{Joined}
+use Rattle.join_answers.specs.Answer.{Joined}
 use Rattle.join_answers.specs.Meaning as Joining
-use Rattle.recording_imports.specs.declared.Imported.{Imported}
-use Rattle.recording_imports.specs.declared.Imported.TheVariants.{Units, Refused, NotRead}
+use Rattle.recording_imports.specs.Answer.{Imported}
+use Rattle.recording_imports.specs.declared.Unread.TheVariants.{Refused, NotRead}
 use Rattle.recording_imports.specs.Imports.{imported_of}
 use Rattle.recording_demands.specs.Agreement.{filled, GivesRows, Imports}
 
@@ -29,9 +29,9 @@ pub record ToJoining (places : ℕ) (bytes : List ℕ) (target : ℕ) (packets :
 
 -- an answer that joining gives, and no step before it
 abbrev pub OfJoining : Imported → Type 0
-OfJoining (Units closure units rows) = Unit {0}
-OfJoining (Refused refusal) = (13 < number_of refusal) × (number_of refusal < 19)
-OfJoining (NotRead refusal packet) = ⊥
+OfJoining (Ok joined) = Unit {0}
+OfJoining (Err (Refused refusal)) = (13 < number_of refusal) × (number_of refusal < 19)
+OfJoining (Err (NotRead refusal packet)) = ⊥
 
 -- THE STATEMENT, of any bytes of a loop and of a recording
 pub record Reached (places : ℕ) (bytes : List ℕ) (target : ℕ) (packets : List ℕ) : Type 0 where

@@ -1,26 +1,26 @@
 -- What a recording told, as the answer under a loop, with the columns as they then are.
 -- Assumes nothing.
+use Rattle.std.specs.Prelude.{Ok, Err}
 use Prim.Native.Nat.{ℕ}
 use mathlib.Core.List.{List}
 use mathlib.Core.Path.{◌≡◌, refl, sym, ap, ◌∙◌}
-use Rattle.es_loop.specs.declared.reader.Outcome.{Outcome}
-use Rattle.es_loop.specs.declared.reader.Outcome.TheVariants.{Accepted}
+use Rattle.es_loop.specs.Answer.{Outcome}
 use Rattle.loop_layers.specs.declared.table.TableRead.{TableRead}
 use Rattle.unit_starts.specs.Finding.{rows_in}
 use Rattle.recording_rows.specs.Columns.{Columns}
-use Rattle.recordings.specs.declared.Recording.{Recording}
-use Rattle.recordings.specs.declared.Recording.TheVariants.{Rows, Faulty, NotRead, TooManyRows}
+use Rattle.recordings.specs.Answer.{Recording}
+use Rattle.recordings.specs.declared.RecordingFault.TheVariants.{Faulty, NotRead, TooManyRows}
 use Rattle.recordings.specs.Reading.{recording_of, columns_after}
-use Rattle.recording_imports.specs.declared.RowsRead.{RowsRead}
+use Rattle.recording_imports.specs.Answer.{RowsRead}
 use Rattle.recording_imports.specs.Rows.{loop_layers, pid_table_of, rows_told, rows_for, rows_under, columns_with, columns_under}
 
 -- the columns go by what the recording told
 pub same_columns : (table packets : List ℕ) (recording : Recording) (before : Columns)
     → columns_after table packets recording before ≡ columns_with (rows_in table packets) (rows_told recording) before
-same_columns table packets (Rows count) before = refl
-same_columns table packets (Faulty fault) before = refl
-same_columns table packets (NotRead refusal packet) before = refl
-same_columns table packets TooManyRows before = refl
+same_columns table packets (Ok count) before = refl
+same_columns table packets (Err (Faulty fault)) before = refl
+same_columns table packets (Err (NotRead refusal packet)) before = refl
+same_columns table packets (Err TooManyRows) before = refl
 
 module _ (table packets : List ℕ) (places : ℕ) (before : Columns) where
   -- an answer with columns, after what was found of the loop
@@ -28,7 +28,7 @@ module _ (table packets : List ℕ) (places : ℕ) (before : Columns) where
   Read outcome answer after =
       (answer ≡ rows_for outcome (recording_of table packets places before)) × (after ≡ columns_with (rows_in table packets) answer before)
 
-  pub read_told : {outcome : Outcome} {recording : Recording} {answer : RowsRead} {after : Columns} → outcome ≡ Accepted
+  pub read_told : {outcome : Outcome} {recording : Recording} {answer : RowsRead} {after : Columns} → outcome ≡ Ok tt
       → recording ≡ recording_of table packets places before → after ≡ columns_after table packets recording before → answer ≡ rows_told recording
       → Read outcome answer after
   read_told {recording} accepted is content told = (

@@ -3,29 +3,24 @@
 -- In three steps: the loop is read and its target asked (`asked_of`), the recording is read (`rows_asked`), and its rows are joined (`imported_by`). A recording that was read
 -- in pieces takes the first and the last (`import_told`).
 -- Assumes nothing.
-use Rattle.std.specs.Prelude.{ℕ, min, cond, List, map, ltb, length, take}
+use Rattle.recording_imports.specs.Answer.{imported_units, RowsRead, Imported}
+use Rattle.std.specs.Prelude.{ℕ, min, cond, List, map, ltb, length, take, Err, Ok}
 use Rattle.vocabulary.specs.declared.refusal.Refusal.TheVariants.{OutOfRange}
 use Rattle.vocabulary.specs.Refusals as Refusals
-use Rattle.closure.specs.declared.Closure.{Closure}
-use Rattle.closure.specs.declared.Closure.TheVariants.{Complete, Refused as NoClosure}
+use Rattle.closure.specs.Answer.{Closure}
 use Rattle.closure.specs.declared.Layers.{Layers}
-use Rattle.es_loop.specs.declared.reader.Outcome.{Outcome}
-use Rattle.es_loop.specs.declared.reader.Outcome.TheVariants.{Accepted, Refused as LoopRefused}
+use Rattle.es_loop.specs.Answer.{Outcome}
 use Rattle.loop_layers.specs.Closures.{closure_for}
 use Rattle.scanning.specs.declared.events.Row.{Row}
 use Rattle.unit_starts.specs.Finding.{found_in}
 use Rattle.recording_rows.specs.Columns.{Columns, room_in, index_in, decoding_in, match_in}
-use Rattle.recordings.specs.declared.Recording.{Recording}
+use Rattle.recordings.specs.Answer.{Recording}
 use Rattle.recordings.specs.Reading.{answer_of}
 use Rattle.rows.specs.Table.{Table, table}
 use Rattle.unit_lists.specs.Sequence.{Lists}
-use Rattle.join_answers.specs.declared.answer.Joined.{Joined}
-use Rattle.join_answers.specs.declared.answer.Joined.TheVariants.{Units as UnitsJoined, Refused as NotJoined}
+use Rattle.join_answers.specs.Answer.{Joined}
 use Rattle.join_answers.specs.Joining.{Room, joined_of, frame_of, lists_over}
-use Rattle.recording_imports.specs.declared.RowsRead.{RowsRead}
-use Rattle.recording_imports.specs.declared.RowsRead.TheVariants.{Rows, Refused as NoRows, NotRead as HeaderNotRead}
-use Rattle.recording_imports.specs.declared.Imported.{Imported}
-use Rattle.recording_imports.specs.declared.Imported.TheVariants.{Units, Refused, NotRead}
+use Rattle.recording_imports.specs.declared.Unread.TheVariants.{Refused, NotRead}
 use Rattle.recording_imports.specs.declared.LoopAsked.{LoopAsked}
 use Rattle.recording_imports.specs.Rows.{loop_layers, pid_table, rows_for, rows_of, columns_with}
 
@@ -34,8 +29,8 @@ abbrev pub layers_of_loop : List ℕ → Layers
 layers_of_loop bytes = (loop_layers bytes).table.layers
 
 abbrev pub outcome_of : Closure → Outcome
-outcome_of (Complete closure) = Accepted
-outcome_of (NoClosure refusal) = LoopRefused refusal
+outcome_of (Ok closure) = Ok tt
+outcome_of (Err refusal) = Err refusal
 
 abbrev pub outcome_for : Outcome → Layers → ℕ → Outcome
 outcome_for outcome layers target = outcome_of (closure_for outcome layers target)
@@ -52,13 +47,12 @@ rows_asked bytes target recording = rows_for (outcome_asked bytes target) record
 
 -- THIRD: the rows joined
 abbrev pub imported_of : Joined → Imported
-imported_of (UnitsJoined closure units rows) = Units closure units rows
-imported_of (NotJoined refusal) = Refused refusal
+imported_of (Ok joined) = imported_units joined.closure joined.units joined.rows
+imported_of (Err refusal) = Err (Refused refusal)
 
 abbrev pub imported_by : RowsRead → Joined → Imported
-imported_by (Rows count) joined = imported_of joined
-imported_by (NoRows refusal) joined = Refused refusal
-imported_by (HeaderNotRead refusal packet) joined = NotRead refusal packet
+imported_by (Ok count) joined = imported_of joined
+imported_by (Err unread) joined = Err unread
 
 -- the row table of rows
 abbrev pub table_of : List Row → Table
@@ -85,9 +79,8 @@ import_columns places bytes target packets before = columns_with (rows_of bytes 
 
 -- What the lists hold: the units, and after them what stood there; after a refusal all is as it was.
 abbrev pub lists_with : Layers → Table → Imported → Lists → Lists
-lists_with layers t (Units closure units rows) before = lists_over t (frame_of layers closure t) before
-lists_with layers t (Refused refusal) before = before
-lists_with layers t (NotRead refusal packet) before = before
+lists_with layers t (Ok joined) before = lists_over t (frame_of layers joined.closure t) before
+lists_with layers t (Err unread) before = before
 
 abbrev pub import_lists : List ℕ → List ℕ → Imported → Lists → Lists
 import_lists bytes packets answer before = lists_with (layers_of_loop bytes) (table_of (rows_of bytes packets)) answer before
@@ -97,14 +90,12 @@ abbrev pub columns_hold : Table → ℕ
 columns_hold t = min (length t.indices) (min (length t.decodings) (length t.matches))
 
 abbrev pub held_rows : ℕ → RowsRead → RowsRead
-held_rows room (Rows count) = cond (ltb room count) (NoRows (OutOfRange 0)) (Rows count)
-held_rows room (NoRows refusal) = NoRows refusal
-held_rows room (HeaderNotRead refusal packet) = HeaderNotRead refusal packet
+held_rows room (Ok count) = cond (ltb room count) (Err (Refused (OutOfRange 0))) (Ok count)
+held_rows room (Err unread) = Err unread
 
 abbrev pub count_of : RowsRead → ℕ
-count_of (Rows count) = count
-count_of (NoRows refusal) = 0
-count_of (HeaderNotRead refusal packet) = 0
+count_of (Ok count) = count
+count_of (Err unread) = 0
 
 abbrev pub first_rows : ℕ → Table → Table
 first_rows count t = table (take count t.indices) (take count t.decodings) (take count t.matches)
@@ -131,11 +122,11 @@ lists_told most bytes target recording t answer before = lists_held (layers_of_l
 
 -- the number and the place of a refusal; 0 where there is none
 abbrev pub number_of : Imported → ℕ
-number_of (Units closure units rows) = 0
-number_of (Refused refusal) = Refusals.number_of refusal
-number_of (NotRead refusal packet) = Refusals.number_of refusal
+number_of (Ok joined) = 0
+number_of (Err (Refused refusal)) = Refusals.number_of refusal
+number_of (Err (NotRead refusal packet)) = Refusals.number_of refusal
 
 abbrev pub place_of : Imported → ℕ
-place_of (Units closure units rows) = 0
-place_of (Refused refusal) = Refusals.place_of refusal
-place_of (NotRead refusal packet) = packet
+place_of (Ok joined) = 0
+place_of (Err (Refused refusal)) = Refusals.place_of refusal
+place_of (Err (NotRead refusal packet)) = packet

@@ -9,29 +9,15 @@ ghost use Rattle.recordings.specs.Reading.{recording_of};
 ghost use Rattle.recording_imports.specs.Rows.{pid_table_of, rows_told, rows_for, rows_under, columns_with, columns_under, number_of as numberOfRows, place_of as placeOfRows};
 ghost use Rattle.recording_imports.specs.Imports.{outcome_of, outcome_for, asked_of, held_rows, imported_of, number_of, place_of};
 
-use closure::{Closure, Layers};
-use es_loop::Outcome;
-use join_answers::Joined;
+use closure::Layers;
+use join_answers::Units;
 use loop_layers::LayerTable;
-use recordings::Recording;
+use recordings::RecordingFault;
 use vocabulary::{Reading, Refusal};
 
-// The number of rows; or the refusal, of the loop, of the target, of a packet, or 13; or that of a PES header, with the packet in which it stands.
+// Why there are no rows or no units: the refusal, of the loop, of the target, of a packet, or 13; or that of a PES header, with the packet in which it stands.
 #[derive(Clone, Copy)]
-pub enum RowsRead {
-    Rows(usize),
-    Refused(Refusal),
-    NotRead(Refusal, usize),
-}
-
-// The answer of the whole import: the units as joining has them, or the refusal, as above.
-#[derive(Clone, Copy)]
-pub enum Imported {
-    Units {
-        closure: u64,
-        units: usize,
-        rows: usize,
-    },
+pub enum Unread {
     Refused(Refusal),
     NotRead(Refusal, usize),
 }
@@ -39,115 +25,92 @@ pub enum Imported {
 // A loop that a target was asked of: whether it has all that the target rests on, or the refusal; and the loop's layers.
 #[derive(Clone, Copy)]
 pub struct LoopAsked {
-    pub outcome: Outcome,
+    pub outcome: Result<(), Refusal>,
     pub table: LayerTable,
 }
 
 // The number of a refusal, and 0 where there is none.
-pub fn rows_number(rows: RowsRead) -> u8
+pub fn rows_number(rows: Result<usize, Unread>) -> u8
     ensures { result ≡ numberOfRows rows }
 {
     match rows {
-        RowsRead::Rows(_) => 0,
-        RowsRead::Refused(refusal) => vocabulary::number(refusal),
-        RowsRead::NotRead(refusal, _) => vocabulary::number(refusal),
+        Ok(_) => 0,
+        Err(Unread::Refused(refusal)) => vocabulary::number(refusal),
+        Err(Unread::NotRead(refusal, _)) => vocabulary::number(refusal),
     }
 }
 
 // The place of a refusal: for that of a PES header the packet's number.
-pub fn rows_place(rows: RowsRead) -> usize
+pub fn rows_place(rows: Result<usize, Unread>) -> usize
     ensures { result ≡ placeOfRows rows }
 {
     match rows {
-        RowsRead::Rows(_) => 0,
-        RowsRead::Refused(refusal) => vocabulary::place(refusal),
-        RowsRead::NotRead(_, packet) => packet,
+        Ok(_) => 0,
+        Err(Unread::Refused(refusal)) => vocabulary::place(refusal),
+        Err(Unread::NotRead(_, packet)) => packet,
     }
 }
 
 // The same of an import.
-pub fn number(imported: Imported) -> u8
+pub fn number(imported: Result<Units, Unread>) -> u8
     ensures { result ≡ number_of imported }
 {
     match imported {
-        Imported::Units {
-            closure: _,
-            units: _,
-            rows: _,
-        } => 0,
-        Imported::Refused(refusal) => vocabulary::number(refusal),
-        Imported::NotRead(refusal, _) => vocabulary::number(refusal),
+        Ok(_) => 0,
+        Err(Unread::Refused(refusal)) => vocabulary::number(refusal),
+        Err(Unread::NotRead(refusal, _)) => vocabulary::number(refusal),
     }
 }
 
-pub fn place(imported: Imported) -> usize
+pub fn place(imported: Result<Units, Unread>) -> usize
     ensures { result ≡ place_of imported }
 {
     match imported {
-        Imported::Units {
-            closure: _,
-            units: _,
-            rows: _,
-        } => 0,
-        Imported::Refused(refusal) => vocabulary::place(refusal),
-        Imported::NotRead(_, packet) => packet,
+        Ok(_) => 0,
+        Err(Unread::Refused(refusal)) => vocabulary::place(refusal),
+        Err(Unread::NotRead(_, packet)) => packet,
     }
 }
 
 // What a recording answered, with 13 at place 0.
-pub fn rows_told(recording: Recording) -> RowsRead
+pub fn rows_told(recording: Result<usize, RecordingFault>) -> Result<usize, Unread>
     ensures { result ≡ rows_told recording }
 {
     match recording {
-        Recording::Rows(count) => RowsRead::Rows(count),
-        Recording::Faulty(fault) => RowsRead::Refused(fault),
-        Recording::NotRead(refusal, packet) => RowsRead::NotRead(refusal, packet),
-        Recording::TooManyRows => RowsRead::Refused(Refusal::OutOfRange(0)),
+        Ok(count) => Ok(count),
+        Err(RecordingFault::Faulty(fault)) => Err(Unread::Refused(fault)),
+        Err(RecordingFault::NotRead(refusal, packet)) => Err(Unread::NotRead(refusal, packet)),
+        Err(RecordingFault::TooManyRows) => Err(Unread::Refused(Refusal::OutOfRange(0))),
     }
 }
 
 // The same after what was found of the loop, whose refusal comes first.
-pub fn rows_for(outcome: Outcome, recording: Recording) -> RowsRead
+pub fn rows_for(
+    outcome: Result<(), Refusal>,
+    recording: Result<usize, RecordingFault>,
+) -> Result<usize, Unread>
     ensures { result ≡ rows_for outcome recording }
 {
-    match outcome {
-        Outcome::Accepted => rows_told(recording),
-        Outcome::Refused(refusal) => RowsRead::Refused(refusal),
-    }
+    outcome.map_err(Unread::Refused)?;
+    rows_told(recording)
 }
 
 // 13 where there are more rows than there is room for.
-pub fn held_rows(room: usize, rows: RowsRead) -> RowsRead
+pub fn held_rows(room: usize, rows: Result<usize, Unread>) -> Result<usize, Unread>
     ensures { result ≡ held_rows room rows }
 {
-    match rows {
-        RowsRead::Rows(count) => {
-            if room < count {
-                return RowsRead::Refused(Refusal::OutOfRange(0));
-            }
-            RowsRead::Rows(count)
-        }
-        RowsRead::Refused(refusal) => RowsRead::Refused(refusal),
-        RowsRead::NotRead(refusal, packet) => RowsRead::NotRead(refusal, packet),
+    let count = rows?;
+    if room < count {
+        return Err(Unread::Refused(Refusal::OutOfRange(0)));
     }
+    Ok(count)
 }
 
 // The answer of joining as that of an import.
-pub fn imported_of(joined: Joined) -> Imported
+pub fn imported_of(joined: Result<Units, Refusal>) -> Result<Units, Unread>
     ensures { result ≡ imported_of joined }
 {
-    match joined {
-        Joined::Units {
-            closure,
-            units,
-            rows,
-        } => Imported::Units {
-            closure,
-            units,
-            rows,
-        },
-        Joined::Refused(refusal) => Imported::Refused(refusal),
-    }
+    joined.map_err(Unread::Refused)
 }
 
 // The layer of each PID.
@@ -159,22 +122,18 @@ pub fn pid_table(table: LayerTable) -> [u8; 8192]
     pid_layers::layers_by_pid(layers.present, &pids)
 }
 
-fn outcome_of(closure: Closure) -> Outcome
+fn outcome_of(closure: Result<u64, Refusal>) -> Result<(), Refusal>
     ensures { result ≡ outcome_of closure }
 {
-    match closure {
-        Closure::Complete(_) => Outcome::Accepted,
-        Closure::Refused(refusal) => Outcome::Refused(refusal),
-    }
+    closure?;
+    Ok(())
 }
 
-fn outcome_for(outcome: Outcome, layers: Layers, target: u64) -> Outcome
+fn outcome_for(outcome: Result<(), Refusal>, layers: Layers, target: u64) -> Result<(), Refusal>
     ensures { result ≡ outcome_for outcome layers target }
 {
-    match outcome {
-        Outcome::Accepted => outcome_of(closure::closure_of(layers, target)),
-        Outcome::Refused(refusal) => Outcome::Refused(refusal),
-    }
+    outcome?;
+    outcome_of(closure::closure_of(layers, target))
 }
 
 // THE LOOP AND ITS TARGET: the loop's refusal, or 11, or 12; and the layers of the loop.
@@ -193,7 +152,7 @@ pub fn ask(bytes: &[u8], target: u64) -> LoopAsked
 
 // THE RECORDING, read where nothing was refused before it. After a refusal every column is as it was.
 pub fn read_for(
-    outcome: Outcome,
+    outcome: Result<(), Refusal>,
     table: &[u8; 8192],
     packets: &[u8],
     starts: &mut [u64],
@@ -202,7 +161,7 @@ pub fn read_for(
     matches: &mut [u64],
     trefs: &mut [u8],
     numbers: &mut [u64],
-) -> RowsRead
+) -> Result<usize, Unread>
     ensures answer { result
         ≡ rows_for outcome
         (recording_of table.now packets.now (length starts.old)
@@ -211,12 +170,10 @@ pub fn read_for(
         ≡ columns_with (rows_in table.now packets.now) result
         (columns indices.old decodings.old matches.old trefs.old numbers.old) }
 {
-    match outcome {
-        Outcome::Accepted => rows_told(recordings::read_recording(
-            table, packets, starts, indices, decodings, matches, trefs, numbers,
-        )),
-        Outcome::Refused(refusal) => RowsRead::Refused(refusal),
-    }
+    outcome.map_err(Unread::Refused)?;
+    rows_told(recordings::read_recording(
+        table, packets, starts, indices, decodings, matches, trefs, numbers,
+    ))
 }
 
 // THE ROWS OF A RECORDING UNDER A LOOP: the bytes of both, work space in which the packets are noted in which units start, and the columns, all of any lengths,
@@ -231,7 +188,7 @@ pub fn read_rows(
     matches: &mut [u64],
     trefs: &mut [u8],
     numbers: &mut [u64],
-) -> RowsRead
+) -> Result<usize, Unread>
     ensures answer { result
         ≡ rows_under bytes.now packets.now (length starts.old)
         (columns indices.old decodings.old matches.old trefs.old numbers.old) }

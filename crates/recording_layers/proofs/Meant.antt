@@ -1,5 +1,6 @@
 -- The table of a loop that is accepted tells the layer of each PID, and no other table does.
 -- Assumes nothing.
+use Rattle.std.specs.Prelude.{Ok}
 use Prim.Native.Nat.{ℕ, ◌<◌}
 use mathlib.Core.Path.{◌≡◌, refl, sym, ◌∙◌, ap, subst}
 use mathlib.Core.Bool.{false, not, true≢false}
@@ -20,10 +21,9 @@ use Rattle.loop_entries.specs.declared.Entry.{Entry}
 use Rattle.loop_entries.specs.declared.Stream.{Stream}
 use Rattle.loop_entries.specs.Entries.{es_info_length, no_stream, stream_of, pair_of, marked_stream, streams_alone, streams_of, entry_of}
 use Rattle.loop_faults.specs.Conditions.{pid_at, stream_at}
-use Rattle.es_loop.specs.declared.reader.Outcome.TheVariants.{Accepted}
 use Rattle.es_loop.specs.declared.reader.LoopRead.{LoopRead}
 use Rattle.es_loop.specs.Reading.{accepted, loop_read}
-use Rattle.es_loop.proofs.Judged.{Taken, taken}
+use Rattle.es_loop.proofs.Verdicts.{Taken, taken}
 use Rattle.es_loop.proofs.Meant.{answer_only}
 use Rattle.records.specs.Records.{index_of}
 use Rattle.loop_layers.specs.Layers.{table_of, present_in, column_of}
@@ -38,7 +38,7 @@ use Rattle.packets.specs.Reading.{in_header}
 use Rattle.scanning.specs.Events.{layers, layer_of}
 use Rattle.recording_layers.specs.Meaning.{by_pid, loop_pids, no_layer, LayerOfPid, ByPid, PidsOfLayers, OfEveryLoop}
 
-module _ (reading : Reading) (bytes : List ℕ) (is_accepted : (loop_read reading bytes).outcome ≡ Accepted) where
+module _ (reading : Reading) (bytes : List ℕ) (is_accepted : (loop_read reading bytes).outcome ≡ Ok tt) where
   abbrev entries : List Entry
   entries = entries_read (loop_read reading bytes)
 
@@ -218,7 +218,7 @@ module _ (reading : Reading) (bytes : List ℕ) (is_accepted : (loop_read readin
 pub layer_pids : OfEveryLoop
 layer_pids bytes streams a =
     let is_read : accepted streams ≡ loop_read Edition2015 bytes = answer_only Edition2015 bytes a in
-    let is_accepted : (loop_read Edition2015 bytes).outcome ≡ Accepted = sym (ap (λ (r : LoopRead). r.outcome) is_read) in
+    let is_accepted : (loop_read Edition2015 bytes).outcome ≡ (Ok tt) = sym (ap (λ (r : LoopRead). r.outcome) is_read) in
     let same : entries_read (loop_read Edition2015 bytes) ≡ map entry_of streams = sym (ap entries_read is_read) ∙ entries_read_lem streams in
     record {
       holds = subst (λ (es : List Entry). PidsOfLayers es (loop_pids bytes)) same (pids_of_layers Edition2015 bytes is_accepted);

@@ -1,5 +1,6 @@
 -- The laws that join the meaning of the whole import to what is computed, both ways.
 -- Assumes nothing.
+use Rattle.std.specs.Prelude.{Err, Ok}
 use Prim.Native.Nat.{ℕ}
 use mathlib.Core.List.{List, map}
 use mathlib.Core.Path.{◌≡◌, refl, sym, ◌∙◌, ap, ap₂, subst}
@@ -10,15 +11,13 @@ use Rattle.vocabulary.specs.declared.refusal.Refusal.{Refusal}
 use Rattle.vocabulary.specs.declared.refusal.Refusal.TheVariants.{LoopTooLong}
 use Rattle.loop_entries.specs.declared.Entry.{Entry}
 use Rattle.loop_entries.specs.Entries.{entry_of}
-use Rattle.es_loop.specs.declared.reader.Outcome.{Outcome}
-use Rattle.es_loop.specs.declared.reader.Outcome.TheVariants.{Accepted, Refused as LoopRefused}
+use Rattle.es_loop.specs.Answer.{Outcome}
 use Rattle.es_loop.specs.declared.reader.LoopRead.{LoopRead}
 use Rattle.es_loop.specs.Reading.{refused_with, loop_read}
 use Rattle.es_loop.specs.Meaning as Loop
 use Rattle.es_loop.proofs.Meant.{answer_meant, answer_only}
 use Rattle.closure.specs.declared.Layers.{Layers}
-use Rattle.closure.specs.declared.Closure.{Closure}
-use Rattle.closure.specs.declared.Closure.TheVariants.{Complete, Refused as NoClosure}
+use Rattle.closure.specs.Answer.{Closure}
 use Rattle.closure.specs.Closures.{closure_of}
 use Rattle.closure.specs.Meaning as Target
 use Rattle.closure.proofs.Meant.{closure_meant, closure_only}
@@ -30,26 +29,25 @@ use Rattle.loop_layers.proofs.Meant.{layers_only, entries_read_lem}
 use Rattle.agreement.proofs.Agreement.{accepts}
 use Rattle.agreement.specs.Entries.{IsAccepted}
 use Rattle.scanning.specs.declared.events.Row.{Row}
-use Rattle.recordings.specs.declared.Recording.{Recording}
+use Rattle.recordings.specs.Answer.{Recording}
 use Rattle.recordings.specs.Meaning.{RowsFrom}
 use Rattle.recordings.specs.Meaning as Recordings
 use Rattle.recordings.proofs.AnswerMeant as recordings
 use Rattle.rows.specs.Table.{Table}
 use Rattle.unit_lists.specs.Sequence.{Lists}
-use Rattle.join_answers.specs.declared.answer.Joined.{Joined}
-use Rattle.join_answers.specs.declared.answer.Joined.TheVariants.{Units, Refused}
+use Rattle.join_answers.specs.Answer.{Joined}
 use Rattle.join_answers.specs.Joining.{room_of, joined_in, joined_of, lists_after}
 use Rattle.join_answers.specs.Meaning as Joining
 use Rattle.join_answers.proofs.Meant as joining
 use Rattle.recording_layers.proofs.Meant.{layer_pids}
-use Rattle.recording_imports.specs.declared.Imported.{Imported}
+use Rattle.recording_imports.specs.Answer.{Imported}
 use Rattle.recording_imports.specs.Rows.{pid_table, rows_of, rows_told, rows_for}
 use Rattle.recording_imports.specs.Imports.{layers_of_loop, outcome_of, outcome_for, outcome_asked, imported_of, imported_by, table_of, recording_with, import_of, lists_with, import_lists}
 use Rattle.recording_meaning.specs.Meaning.{Asked, Answers, loop_refused, no_closure, faulty, not_read, too_many, joined}
 
 pub lists_same : (layers : Layers) (t : Table) (j : Joined) (before : Lists) → lists_with layers t (imported_of j) before ≡ lists_after layers t j before
-lists_same layers t (Units closure units rows) before = refl
-lists_same layers t (Refused refusal) before = refl
+lists_same layers t (Ok found) before = refl
+lists_same layers t (Err refusal) before = refl
 
 -- what the calls promise: the two equalities of their contracts
 pub record Computed (places : ℕ) (bytes : List ℕ) (target : ℕ) (packets : List ℕ) (before : Lists) (answer : Imported) (after : Lists) : Type 0 where
@@ -58,7 +56,7 @@ pub record Computed (places : ℕ) (bytes : List ℕ) (target : ℕ) (packets : 
 
 -- ---- a loop that is refused, and one of which a target was asked, as they are computed
 
-pub refused_read : {reading : Reading} {bytes : List ℕ} {read : LoopRead} {refusal : Refusal} → Loop.Answers reading bytes read → read.outcome ≡ LoopRefused refusal
+pub refused_read : {reading : Reading} {bytes : List ℕ} {read : LoopRead} {refusal : Refusal} → Loop.Answers reading bytes read → read.outcome ≡ Err refusal
     → Loop.Answers reading bytes (refused_with refusal)
 refused_read {reading} {bytes} {refusal = refusal} (Loop.too_long_lem h) e =
     let same : LoopTooLong ≡ refusal = cc in
@@ -113,20 +111,20 @@ module _ (places : ℕ) (bytes : List ℕ) (target : ℕ) (packets : List ℕ) (
   abbrev Right : Imported → Type 0
   Right answer = Answers places bytes target packets before answer (import_lists bytes packets answer before)
 
-  by_recording : {closure : ℕ} → Asked bytes target layers (pid_table bytes) (Complete closure) → {recording : Recording}
-      → Recordings.Answers (pid_table bytes) packets places recording → Right (imported_by (rows_told recording) (joined_rows (Complete closure)))
+  by_recording : {closure : ℕ} → Asked bytes target layers (pid_table bytes) (Ok closure) → {recording : Recording}
+      → Recordings.Answers (pid_table bytes) packets places recording → Right (imported_by (rows_told recording) (joined_rows (Ok closure)))
   by_recording a (Recordings.faulty c g lower earlier) = faulty a (Recordings.faulty c g lower earlier)
   by_recording a (Recordings.not_read c l g lower earlier) = not_read a (Recordings.not_read c l g lower earlier)
   by_recording a (Recordings.too_many c l d r h) = too_many a (Recordings.too_many c l d r h)
   by_recording {closure} a (Recordings.all_rows c l d r h) =
-      subst (Answers places bytes target packets before (imported_of (joined_rows (Complete closure)))) (sym (lists_same layers rows (joined_rows (Complete closure)) before))
+      subst (Answers places bytes target packets before (imported_of (joined_rows (Ok closure)))) (sym (lists_same layers rows (joined_rows (Ok closure)) before))
       (joined a (Recordings.all_rows c l d r h) c r
-      (subst (λ (rs : List Row). Joining.AnswersOver places layers target closure (table_of rs) before (joined_rows (Complete closure)) (lists_after layers rows (joined_rows (Complete closure)) before))
+      (subst (λ (rs : List Row). Joining.AnswersOver places layers target closure (table_of rs) before (joined_rows (Ok closure)) (lists_after layers rows (joined_rows (Ok closure)) before))
       (sym (recordings.all_rows_only (pid_table bytes) packets places c r))
       (over a.target_answered)))
     where
-      over : Target.Answers layers target (Complete closure)
-          → Joining.AnswersOver places layers target closure rows before (joined_rows (Complete closure)) (lists_after layers rows (joined_rows (Complete closure)) before)
+      over : Target.Answers layers target (Ok closure)
+          → Joining.AnswersOver places layers target closure rows before (joined_rows (Ok closure)) (lists_after layers rows (joined_rows (Ok closure)) before)
       over a = joining.table_meant places layers target closure (closed layers target closure (sym (closure_only layers target a))) rows before
 
   pub import_meant : {answer : Imported} {after : Lists} → Computed places bytes target packets before answer after → Answers places bytes target packets before answer after
@@ -136,13 +134,13 @@ module _ (places : ℕ) (bytes : List ℕ) (target : ℕ) (packets : List ℕ) (
     where
       by_closure : (closure : Closure) → Asked bytes target layers (pid_table bytes) closure
           → Right (imported_by (rows_for (outcome_of closure) (recording_with places bytes packets)) (joined_rows closure))
-      by_closure (Complete closure) a = by_recording a (recordings.answer_meant (pid_table bytes) packets places)
-      by_closure (NoClosure refusal) a = no_closure a
+      by_closure (Ok closure) a = by_recording a (recordings.answer_meant (pid_table bytes) packets places)
+      by_closure (Err refusal) a = no_closure a
 
       by_loop : (outcome : Outcome) → (loop_read Edition2015 bytes).outcome ≡ outcome
           → Right (imported_by (rows_for (outcome_for outcome layers target) (recording_with places bytes packets)) (joined_rows (closure_of layers target)))
-      by_loop Accepted e = by_closure (closure_of layers target) (asked_meant bytes target e)
-      by_loop (LoopRefused refusal) e = loop_refused (refused_read (answer_meant Edition2015 bytes) e)
+      by_loop (Ok tt) e = by_closure (closure_of layers target) (asked_meant bytes target e)
+      by_loop (Err refusal) e = loop_refused (refused_read (answer_meant Edition2015 bytes) e)
 
 -- AND NOTHING ELSE IS.
 module _ (places : ℕ) (bytes : List ℕ) (target : ℕ) (packets : List ℕ) (before : Lists) where

@@ -1,5 +1,7 @@
 -- The laws that join the meaning of rows and columns to what is computed, both ways.
 -- Assumes nothing.
+use Rattle.recordings.specs.declared.RecordingFault.{RecordingFault}
+use Rattle.std.specs.Prelude.{Err, Ok}
 use Prim.Native.Nat.{ℕ}
 use mathlib.Core.List.{List}
 use mathlib.Core.Path.{◌≡◌, refl, sym, ◌∙◌, ap, ap₂, subst}
@@ -7,27 +9,24 @@ use native.Mathlib.Omega.{arith}
 use lib.ListN.{length}
 use Rattle.vocabulary.specs.declared.stream_types.Reading.TheVariants.{Edition2015}
 use Rattle.vocabulary.specs.declared.refusal.Refusal.{Refusal}
-use Rattle.es_loop.specs.declared.reader.Outcome.{Outcome}
-use Rattle.es_loop.specs.declared.reader.Outcome.TheVariants.{Accepted, Refused as LoopRefused}
+use Rattle.es_loop.specs.Answer.{Outcome}
 use Rattle.es_loop.specs.declared.reader.LoopRead.{LoopRead}
 use Rattle.es_loop.specs.Reading.{loop_read}
 use Rattle.es_loop.proofs.Meant.{answer_meant, answer_only}
 use Rattle.closure.specs.declared.Layers.{Layers}
-use Rattle.closure.specs.declared.Closure.{Closure}
-use Rattle.closure.specs.declared.Closure.TheVariants.{Complete, Refused as NoClosure}
+use Rattle.closure.specs.Answer.{Closure}
 use Rattle.closure.specs.Closures.{closure_of}
 use Rattle.agreement.proofs.Agreement.{accepts}
 use Rattle.agreement.specs.Entries.{IsAccepted}
 use Rattle.unit_starts.specs.Finding.{found_in, rows_in}
 use Rattle.recording_rows.specs.Columns.{Columns, over_all}
 use Rattle.scanning.specs.declared.events.Row.{Row}
-use Rattle.recordings.specs.declared.Recording.{Recording}
+use Rattle.recordings.specs.Answer.{Recording}
 use Rattle.recordings.specs.Reading.{answer_of}
 use Rattle.recordings.specs.Meaning as Recordings
 use Rattle.recordings.proofs.AnswerMeant as recordings
 use Rattle.recording_layers.proofs.Meant.{layer_pids}
-use Rattle.recording_imports.specs.declared.RowsRead.{RowsRead}
-use Rattle.recording_imports.specs.declared.RowsRead.TheVariants.{Rows}
+use Rattle.recording_imports.specs.Answer.{RowsRead}
 use Rattle.recording_imports.specs.Rows.{loop_layers, pid_table, rows_of, rows_told, rows_for, columns_with}
 use Rattle.recording_imports.specs.Imports.{layers_of_loop, outcome_of, outcome_for, recording_with, import_columns}
 use Rattle.recording_meaning.specs.Meaning.{Asked}
@@ -38,13 +37,13 @@ use Rattle.recording_meaning.proofs.Meant.{refused_read, asked_meant, asked_only
 
 module _ (table packets : List ℕ) (room : ℕ) where
   -- where rows are answered, they are those
-  gives_meant : {count : ℕ} → Recordings.Answers table packets room (Recording.Rows count) → (count ≡ length (rows_in table packets)) × Gives table packets room (rows_in table packets)
+  gives_meant : {count : ℕ} → Recordings.Answers table packets room (Ok count) → (count ≡ length (rows_in table packets)) × Gives table packets room (rows_in table packets)
   gives_meant {count} r = go r refl
     where
-      same : {n m : ℕ} → Recording.Rows n ≡ Recording.Rows m → n ≡ m
+      same : {n m : ℕ} → ◌≡◌ {A = Recording} (Ok n) (Ok m) → n ≡ m
       same e = cc
 
-      go : {recording : Recording} → Recordings.Answers table packets room recording → recording ≡ Recording.Rows count
+      go : {recording : Recording} → Recordings.Answers table packets room recording → recording ≡ Ok count
           → (count ≡ length (rows_in table packets)) × Gives table packets room (rows_in table packets)
       go (Recordings.faulty c g lower earlier) e = let z : ◌≡◌ {A = ℕ} 0 1 = cc in absurd (omega arith)
       go (Recordings.not_read c l g lower earlier) e = let z : ◌≡◌ {A = ℕ} 0 1 = cc in absurd (omega arith)
@@ -84,20 +83,20 @@ module _ (bytes packets : List ℕ) (room : ℕ) (before : Columns) where
   Right answer = ReadsRows bytes packets room before answer (columns_with (rows_of bytes packets) answer before)
 
   by_recording : UnderLoop bytes (pid_table bytes) → (recording : Recording) → Recordings.Answers (pid_table bytes) packets room recording → Right (rows_told recording)
-  by_recording u (Recording.Rows count) r =
+  by_recording u (Ok count) r =
       let g = gives_meant (pid_table bytes) packets room r in
-      subst (λ (n : ℕ). ReadsRows bytes packets room before (Rows n) (over_all (rows_of bytes packets) before)) (sym g.0) (all_rows u g.1)
-  by_recording u (Recording.Faulty fault) r = faulty u r
-  by_recording u (Recording.NotRead refusal packet) r = not_read u r
-  by_recording u Recording.TooManyRows r = too_many u r
+      subst (λ (n : ℕ). ReadsRows bytes packets room before (Ok n) (over_all (rows_of bytes packets) before)) (sym g.0) (all_rows u g.1)
+  by_recording u (Err (RecordingFault.Faulty fault)) r = faulty u r
+  by_recording u (Err (RecordingFault.NotRead refusal packet)) r = not_read u r
+  by_recording u (Err RecordingFault.TooManyRows) r = too_many u r
 
   pub rows_meant : {answer : RowsRead} {after : Columns} → RowsComputed answer after → ReadsRows bytes packets room before answer after
   rows_meant {answer} {after} c =
       subst (ReadsRows bytes packets room before answer) (sym c.is_after) (subst Right (sym c.is_answer) (by_loop (loop_read Edition2015 bytes).outcome refl))
     where
       by_loop : (outcome : Outcome) → (loop_read Edition2015 bytes).outcome ≡ outcome → Right (rows_for outcome answered)
-      by_loop Accepted e = by_recording (under_meant bytes e) answered (recordings.answer_meant (pid_table bytes) packets room)
-      by_loop (LoopRefused refusal) e = loop_refused (refused_read (answer_meant Edition2015 bytes) e)
+      by_loop (Ok tt) e = by_recording (under_meant bytes e) answered (recordings.answer_meant (pid_table bytes) packets room)
+      by_loop (Err refusal) e = loop_refused (refused_read (answer_meant Edition2015 bytes) e)
 
   told : {table : List ℕ} {recording : Recording} → UnderLoop bytes table → Recordings.Answers table packets room recording
       → rows_told recording ≡ rows_for (loop_layers bytes).outcome answered
@@ -124,46 +123,46 @@ module _ (places : ℕ) (bytes : List ℕ) (target : ℕ) (packets : List ℕ) (
   Left rows = Leaves places bytes target packets before (columns_with (rows_of bytes packets) rows before)
 
   -- rows are given where the loop and the target are accepted, and the packets
-  asked : {layers : Layers} {table : List ℕ} {closure : ℕ} {rows : List Row} → Asked bytes target layers table (Complete closure) → Gives table packets places rows
-      → (outcome_for (loop_read Edition2015 bytes).outcome (layers_of_loop bytes) target ≡ Accepted) × (recording_with places bytes packets ≡ Recording.Rows (length rows))
+  asked : {layers : Layers} {table : List ℕ} {closure : ℕ} {rows : List Row} → Asked bytes target layers table (Ok closure) → Gives table packets places rows
+      → (outcome_for (loop_read Edition2015 bytes).outcome (layers_of_loop bytes) target ≡ Ok tt) × (recording_with places bytes packets ≡ Ok (length rows))
   asked {rows = rows} a g =
       let only = asked_only bytes target a in (
         only.same_outcome,
-        sym (recordings.answer_only (pid_table bytes) packets places (subst (λ (t : List ℕ). Recordings.Answers t packets places (Recording.Rows (length rows))) only.same_table g.accepted)),
+        sym (recordings.answer_only (pid_table bytes) packets places (subst (λ (t : List ℕ). Recordings.Answers t packets places (Ok (length rows))) only.same_table g.accepted)),
       )
 
-  no_rows : {recording : Recording} → recording_with places bytes packets ≡ recording → ((count : ℕ) → recording ≡ Recording.Rows count → ⊥)
+  no_rows : {recording : Recording} → recording_with places bytes packets ≡ recording → ((count : ℕ) → recording ≡ Ok count → ⊥)
       → Leaves places bytes target packets before before
   no_rows e f = untouched (λ layers table closure rows a g. f (length rows) (sym e ∙ (asked a g).1))
 
-  by_packets : {closure : ℕ} → Asked bytes target (layers_of_loop bytes) (pid_table bytes) (Complete closure) → (recording : Recording)
+  by_packets : {closure : ℕ} → Asked bytes target (layers_of_loop bytes) (pid_table bytes) (Ok closure) → (recording : Recording)
       → recording_with places bytes packets ≡ recording → Left (rows_told recording)
-  by_packets a (Recording.Rows count) e =
+  by_packets a (Ok count) e =
       rows_laid a (gives_meant (pid_table bytes) packets places (subst (Recordings.Answers (pid_table bytes) packets places) e (recordings.answer_meant (pid_table bytes) packets places))).1
-  by_packets a (Recording.Faulty fault) e = no_rows e (λ count f. let z : ◌≡◌ {A = ℕ} 0 1 = cc in omega arith)
-  by_packets a (Recording.NotRead refusal packet) e = no_rows e (λ count f. let z : ◌≡◌ {A = ℕ} 0 1 = cc in omega arith)
-  by_packets a Recording.TooManyRows e = no_rows e (λ count f. let z : ◌≡◌ {A = ℕ} 0 1 = cc in omega arith)
+  by_packets a (Err (RecordingFault.Faulty fault)) e = no_rows e (λ count f. let z : ◌≡◌ {A = ℕ} 0 1 = cc in omega arith)
+  by_packets a (Err (RecordingFault.NotRead refusal packet)) e = no_rows e (λ count f. let z : ◌≡◌ {A = ℕ} 0 1 = cc in omega arith)
+  by_packets a (Err RecordingFault.TooManyRows) e = no_rows e (λ count f. let z : ◌≡◌ {A = ℕ} 0 1 = cc in omega arith)
 
-  refused_before : {refusal : Refusal} → outcome_for (loop_read Edition2015 bytes).outcome (layers_of_loop bytes) target ≡ LoopRefused refusal
+  refused_before : {refusal : Refusal} → outcome_for (loop_read Edition2015 bytes).outcome (layers_of_loop bytes) target ≡ Err refusal
       → Leaves places bytes target packets before before
   refused_before {refusal} e =
       untouched (λ layers table closure rows a g.
-      let other : ◌≡◌ {A = Outcome} (LoopRefused refusal) Accepted = sym e ∙ (asked a g).0 in
+      let other : ◌≡◌ {A = Outcome} (Err refusal) (Ok tt) = sym e ∙ (asked a g).0 in
       let z : ◌≡◌ {A = ℕ} 0 1 = cc in omega arith)
 
   by_target : (closure : Closure) → Asked bytes target (layers_of_loop bytes) (pid_table bytes) closure
       → outcome_for (loop_read Edition2015 bytes).outcome (layers_of_loop bytes) target ≡ outcome_of closure
       → Left (rows_for (outcome_of closure) (recording_with places bytes packets))
-  by_target (Complete closure) a e = by_packets a (recording_with places bytes packets) refl
-  by_target (NoClosure refusal) a e = refused_before e
+  by_target (Ok closure) a e = by_packets a (recording_with places bytes packets) refl
+  by_target (Err refusal) a e = refused_before e
 
   pub columns_meant : Leaves places bytes target packets before (import_columns places bytes target packets before)
   columns_meant = by_loop (loop_read Edition2015 bytes).outcome refl
     where
       by_loop : (outcome : Outcome) → (loop_read Edition2015 bytes).outcome ≡ outcome → Left (rows_for (outcome_for outcome (layers_of_loop bytes) target) (recording_with places bytes packets))
-      by_loop Accepted e =
+      by_loop (Ok tt) e =
           by_target (closure_of (layers_of_loop bytes) target) (asked_meant bytes target e) (ap (λ (o : Outcome). outcome_for o (layers_of_loop bytes) target) e)
-      by_loop (LoopRefused refusal) e = refused_before (ap (λ (o : Outcome). outcome_for o (layers_of_loop bytes) target) e)
+      by_loop (Err refusal) e = refused_before (ap (λ (o : Outcome). outcome_for o (layers_of_loop bytes) target) e)
 
   one_content : {some other : Columns} → Leaves places bytes target packets before some → Leaves places bytes target packets before other → some ≡ other
   one_content (rows_laid {table = t} a g) (rows_laid {table = u} b h) =

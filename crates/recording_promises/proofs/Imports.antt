@@ -1,15 +1,16 @@
 -- The promises of the whole import, `long_imports::import` and `import_long`, the calls that stand in specs/Imports.antt.
 -- Assumes nothing.
-use Rattle.std.specs.Prelude.{ℕ, true, List, ◌≡◌, refl}
+use Rattle.std.specs.Prelude.{ℕ, true, List, ◌≡◌, refl, Err, Ok}
 use Rattle.std.proofs.Math.Option.{Option, some}
 use Rattle.std.proofs.Common.{◌∙◌, ap}
 use Rattle.vocabulary.specs.Refusals.{number_of}
 use Rattle.closure.specs.declared.Layers.{Layers}
 use Rattle.rows.specs.Table.{Table}
 use Rattle.unit_lists.specs.Sequence.{Lists}
-use Rattle.join_answers.specs.declared.answer.Joined.{Joined}
+use Rattle.join_answers.specs.Answer.{Joined}
 use Rattle.join_answers.specs.Meaning as Joining
-use Rattle.recording_imports.specs.declared.Imported.{Imported}
+use Rattle.recording_imports.specs.Answer.{Imported}
+use Rattle.recording_imports.specs.declared.Unread.TheVariants.{Refused, NotRead}
 use Rattle.recording_imports.specs.Imports.{imported_of}
 use Rattle.recording_meaning.specs.Meaning.{Answers, loop_refused, no_closure, faulty, not_read, too_many, joined}
 use Rattle.recording_meaning.proofs.Meant.{import_meant, import_only}
@@ -52,9 +53,9 @@ import_listed (joined {answer = answer} a r c f over) =
     later (imported_number (imported_of answer)) (listed_second recording_numbers joining_numbers (imported_number (imported_of answer)) (joined_listed over))
 
 kept : (given : ImportGiven) (answer : Imported) {number : ℕ} → imported_number answer ≡ some number → lists_to given answer ≡ given.before
-kept given (Imported.Units closure units rows) e = not_refused e
-kept given (Imported.Refused refusal) e = refl
-kept given (Imported.NotRead refusal packet) e = refl
+kept given (Ok found) e = not_refused e
+kept given (Err (Refused refusal)) e = refl
+kept given (Err (NotRead refusal packet)) e = refl
 
 import_right : (given : ImportGiven) → RightImport given (import_to given) (lists_to given (import_to given))
 import_right given = import_meant given.places given.bytes given.target given.packets given.before (record { is_answer = refl; is_after = refl })

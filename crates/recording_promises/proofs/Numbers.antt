@@ -1,6 +1,7 @@
 -- Every refusal of a recording, of its rows under a loop and of the whole import has one of the numbers of specs/Numbers.antt.
 -- Assumes nothing.
-use Rattle.std.specs.Prelude.{ℕ, true, cond, List, ◌≡◌, refl, eqb, ltb}
+use Rattle.recordings.specs.declared.RecordingFault.{RecordingFault}
+use Rattle.std.specs.Prelude.{ℕ, true, cond, List, ◌≡◌, refl, eqb, ltb, Err, Ok}
 use Rattle.std.proofs.Math.Option.{some}
 use Rattle.std.proofs.Common.{◌∙◌, ap}
 use Rattle.combinators.specs.Bools.{either_way}
@@ -9,7 +10,7 @@ use Rattle.vocabulary.specs.declared.refusal.Refusal.TheVariants.{NotVideoHeader
 use Rattle.vocabulary.specs.Refusals.{number_of}
 use Rattle.unit_starts.specs.declared.Found.{Found}
 use Rattle.unit_starts.specs.Finding.{found_in}
-use Rattle.recordings.specs.declared.Recording.{Recording}
+use Rattle.recordings.specs.Answer.{Recording}
 use Rattle.recordings.specs.Reading.{fault_of, header_refusal, answer_of}
 use Rattle.recordings.specs.Meaning as Recordings
 use Rattle.recordings.proofs.AnswerMeant as recordings
@@ -38,12 +39,12 @@ header_named number =
 
 answer_listed : (f : Found) (room : ℕ) → Listed (answer_of f room)
 answer_listed f room =
-    either_way Listed (ltb f.fault.number 34) (Recording.Faulty (fault_of f.fault.number f.fault.packet))
-    (cond (ltb f.refusal.number 25) (Recording.NotRead (header_refusal f.refusal.number) f.refusal.packet) (cond (ltb room f.rows) Recording.TooManyRows (Recording.Rows f.rows)))
+    either_way Listed (ltb f.fault.number 34) (Err (RecordingFault.Faulty (fault_of f.fault.number f.fault.packet)))
+    (cond (ltb f.refusal.number 25) (Err (RecordingFault.NotRead (header_refusal f.refusal.number) f.refusal.packet)) (cond (ltb room f.rows) (Err RecordingFault.TooManyRows) (Ok f.rows)))
     (fault_named f.fault.number f.fault.packet)
-    (either_way Listed (ltb f.refusal.number 25) (Recording.NotRead (header_refusal f.refusal.number) f.refusal.packet) (cond (ltb room f.rows) Recording.TooManyRows (Recording.Rows f.rows))
+    (either_way Listed (ltb f.refusal.number 25) (Err (RecordingFault.NotRead (header_refusal f.refusal.number) f.refusal.packet)) (cond (ltb room f.rows) (Err RecordingFault.TooManyRows) (Ok f.rows))
     (header_named f.refusal.number)
-    (either_way Listed (ltb room f.rows) Recording.TooManyRows (Recording.Rows f.rows) refl refl))
+    (either_way Listed (ltb room f.rows) (Err RecordingFault.TooManyRows) (Ok f.rows) refl refl))
 
 pub recording_listed : {table packets : List ℕ} {room : ℕ} {recording : Recording} → Recordings.Answers table packets room recording
     → is_listed recording_numbers (recording_number recording) ≡ true

@@ -1,11 +1,12 @@
 -- The promise of `recording_imports::read_rows`, the call that stands in specs/Rows.antt.
 -- Assumes nothing.
-use Rattle.std.specs.Prelude.{ℕ, min, true, List, ◌≡◌, refl}
+use Rattle.std.specs.Prelude.{ℕ, min, true, List, ◌≡◌, refl, Err, Ok}
 use Rattle.std.proofs.Math.Option.{some}
 use Rattle.std.proofs.Common.{◌∙◌, ap}
 use Rattle.vocabulary.specs.Refusals.{number_of}
 use Rattle.recording_rows.specs.Columns.{Columns, room_in}
-use Rattle.recording_imports.specs.declared.RowsRead.{RowsRead}
+use Rattle.recording_imports.specs.Answer.{RowsRead}
+use Rattle.recording_imports.specs.declared.Unread.TheVariants.{Refused, NotRead}
 use Rattle.recording_imports.specs.Rows.{rows_under, columns_under}
 use Rattle.recording_meaning.specs.Rows.{ReadsRows, loop_refused, faulty, not_read, too_many, all_rows}
 use Rattle.recording_meaning.proofs.RowsMeant.{rows_meant, rows_only}
@@ -28,9 +29,9 @@ abbrev rows_to : RowsGiven → RowsRead
 rows_to given = rows_under given.bytes given.packets given.places given.before
 
 kept : (given : RowsGiven) (answer : RowsRead) {number : ℕ} → rows_number answer ≡ some number → columns_under given.bytes given.packets answer given.before ≡ given.before
-kept given (RowsRead.Rows count) e = not_refused e
-kept given (RowsRead.Refused refusal) e = refl
-kept given (RowsRead.NotRead refusal packet) e = refl
+kept given (Ok count) e = not_refused e
+kept given (Err (Refused refusal)) e = refl
+kept given (Err (NotRead refusal packet)) e = refl
 
 pub rows_computed : Computed read_rows rows_to (λ given. columns_under given.bytes given.packets (rows_to given) given.before)
 rows_computed =

@@ -2,7 +2,9 @@
 -- THQ_VALUE is what the function counts, or the refusal's place, which is for a PES number the packet. Both are the right ones, with the right content of columns, lists and summary:
 -- whatever a function for C equals by its contract tells what is right, `rows_told_lem` and `import_told`. A value of 2^56 or more, which no recording of a file system has, would not be read back.
 -- Assumes nothing.
-use Rattle.std.specs.Prelude.{ℕ, ◌/◌, ◌%◌, ◌^◌, ◌<◌, min, Bool, true, false, cond, List, [], ◌∷◌, ◌≡◌, refl, ltb, length}
+use Rattle.recording_imports.specs.Answer.{imported_units, RowsRead, Imported}
+use Rattle.recording_imports.specs.declared.Unread.TheVariants.{Refused, NotRead}
+use Rattle.std.specs.Prelude.{ℕ, ◌/◌, ◌%◌, ◌^◌, ◌<◌, min, Bool, true, false, cond, List, [], ◌∷◌, ◌≡◌, refl, ltb, length, Err, Ok}
 use Rattle.std.proofs.Common.{arith}
 use Rattle.buffers.specs.Buffers.{over}
 use Rattle.vocabulary.specs.declared.refusal.Refusal.TheVariants.{NoRoom}
@@ -12,8 +14,6 @@ use Rattle.c_answers.specs.Answers.{answer_of}
 use Rattle.unit_lists.specs.Sequence.{Lists}
 use Rattle.join_answers.specs.Joining.{room_of}
 use Rattle.recording_rows.specs.Columns.{Columns, room_in}
-use Rattle.recording_imports.specs.declared.RowsRead.{RowsRead}
-use Rattle.recording_imports.specs.declared.Imported.{Imported}
 use Rattle.recording_imports.specs.Rows.{rows_of, rows_under, columns_under}
 use Rattle.recording_imports.specs.Imports.{layers_of_loop, table_of, import_of, import_lists}
 use Rattle.packet_answers.specs.Answers.{rows_answer}
@@ -30,9 +30,9 @@ pub record Reads (number value answer : ℕ) : Type 0 where
 
 -- 'Counts the rows'; a refusal, at its place; a PES number, at its packet
 abbrev pub RowsTold : RowsRead → ℕ → Type 0
-RowsTold (RowsRead.Rows count) answer = Reads 0 count answer
-RowsTold (RowsRead.Refused refusal) answer = Reads (number_of refusal) (place_of refusal) answer
-RowsTold (RowsRead.NotRead refusal packet) answer = Reads (number_of refusal) packet answer
+RowsTold (Ok count) answer = Reads 0 count answer
+RowsTold (Err (Refused refusal)) answer = Reads (number_of refusal) (place_of refusal) answer
+RowsTold (Err (NotRead refusal packet)) answer = Reads (number_of refusal) packet answer
 
 -- THE ROWS: it tells the right answer, and the columns hold what is right.
 pub record TellsRows (bytes packets : List ℕ) (room : ℕ) (before : Columns) (answer : ℕ) (after : Columns) : Type 0 where
@@ -52,9 +52,9 @@ UnitsTold false closure units rows lists before answer after =
     Reads 0 rows answer × (after ≡ record { lists = lists; summary = over (closure ∷ units ∷ []) before.summary })
 
 abbrev pub ImportTold : Imported → Lists → Left → ℕ → Left → Type 0
-ImportTold (Imported.Units closure units rows) lists before answer after = UnitsTold (ltb (length before.summary) 2) closure units rows lists before answer after
-ImportTold (Imported.Refused refusal) lists before answer after = Reads (number_of refusal) (place_of refusal) answer × (after ≡ before)
-ImportTold (Imported.NotRead refusal packet) lists before answer after = Reads (number_of refusal) packet answer × (after ≡ before)
+ImportTold (Ok joined) lists before answer after = UnitsTold (ltb (length before.summary) 2) joined.closure joined.units joined.rows lists before answer after
+ImportTold (Err (Refused refusal)) lists before answer after = Reads (number_of refusal) (place_of refusal) answer × (after ≡ before)
+ImportTold (Err (NotRead refusal packet)) lists before answer after = Reads (number_of refusal) packet answer × (after ≡ before)
 
 -- THE WHOLE IMPORT: it tells the right answer, and the lists and the summary hold what is right.
 pub record TellsImport (places : ℕ) (bytes : List ℕ) (target : ℕ) (packets : List ℕ) (before : Left) (answer : ℕ) (after : Left) : Type 0 where
@@ -79,9 +79,9 @@ rows_told_lem bytes packets places before =
     }
   where
     tells : (r : RowsRead) → RowsTold r (rows_answer r)
-    tells (RowsRead.Rows count) = reads 0 count (omega arith)
-    tells (RowsRead.Refused refusal) = reads (number_of refusal) (place_of refusal) (number_small refusal)
-    tells (RowsRead.NotRead refusal packet) = reads (number_of refusal) packet (number_small refusal)
+    tells (Ok count) = reads 0 count (omega arith)
+    tells (Err (Refused refusal)) = reads (number_of refusal) (place_of refusal) (number_small refusal)
+    tells (Err (NotRead refusal packet)) = reads (number_of refusal) packet (number_small refusal)
 
 abbrev left_by : ImportReply → Left
 left_by reply = record { lists = reply.after; summary = reply.summary }
@@ -106,13 +106,13 @@ import_told places bytes target packets before =
     replied i = import_reply (layers_of_loop bytes) (table_of (rows_of bytes packets)) (with_summary (length before.summary) i) before.lists before.summary
 
     tells : (i : Imported) → ImportTold i (import_lists bytes packets i before.lists) before (replied i).answer (left_by (replied i))
-    tells (Imported.Refused refusal) = (reads (number_of refusal) (place_of refusal) (number_small refusal), refl)
-    tells (Imported.NotRead refusal packet) = (reads (number_of refusal) packet (number_small refusal), refl)
-    tells (Imported.Units closure units rows) = by (ltb (length before.summary) 2)
+    tells (Err (Refused refusal)) = (reads (number_of refusal) (place_of refusal) (number_small refusal), refl)
+    tells (Err (NotRead refusal packet)) = (reads (number_of refusal) packet (number_small refusal), refl)
+    tells (Ok joined) = by (ltb (length before.summary) 2)
       where
         by : (short : Bool)
-            → UnitsTold short closure units rows (import_lists bytes packets (Imported.Units closure units rows) before.lists) before
-            (import_reply (layers_of_loop bytes) (table_of (rows_of bytes packets)) (cond short (Imported.Refused NoRoom) (Imported.Units closure units rows)) before.lists before.summary).answer
-            (left_by (import_reply (layers_of_loop bytes) (table_of (rows_of bytes packets)) (cond short (Imported.Refused NoRoom) (Imported.Units closure units rows)) before.lists before.summary))
+            → UnitsTold short joined.closure joined.units joined.rows (import_lists bytes packets (imported_units joined.closure joined.units joined.rows) before.lists) before
+            (import_reply (layers_of_loop bytes) (table_of (rows_of bytes packets)) (cond short (Err (Refused NoRoom)) (imported_units joined.closure joined.units joined.rows)) before.lists before.summary).answer
+            (left_by (import_reply (layers_of_loop bytes) (table_of (rows_of bytes packets)) (cond short (Err (Refused NoRoom)) (imported_units joined.closure joined.units joined.rows)) before.lists before.summary))
         by true = (reads (number_of NoRoom) (place_of NoRoom) (omega arith), refl)
-        by false = (reads 0 rows (omega arith), refl)
+        by false = (reads 0 joined.rows (omega arith), refl)

@@ -1,7 +1,7 @@
 -- `long_imports::import` and `import_long`: THE WHOLE IMPORT of a loop, a target and packets, as calls, and their promises: 1 to 9, 11, 12, 30 to 33, 20 to 24, 13 to 18. After a
 -- refusal the three lists are as they were; the columns of `import_long` hold the rows as soon as these are accepted, which is said of them apart (`columns_left`).
 -- Assumes nothing.
-use Rattle.std.specs.Prelude.{ℕ, List, ◌++◌, length}
+use Rattle.std.specs.Prelude.{ℕ, List, ◌++◌, length, Err, Ok}
 use Rattle.std.proofs.Math.Option.{Option, none, some}
 use Rattle.std.proofs.Common.{sym, subst}
 use Rattle.vocabulary.specs.Refusals.{number_of}
@@ -10,7 +10,8 @@ use Rattle.unit_lists.specs.Sequence.{Lists, lists}
 use Rattle.join_answers.specs.Joining.{room_of, most_long}
 use Rattle.join_answers.specs.Steps.{spaces}
 use Rattle.recording_rows.specs.Columns.{Columns, columns}
-use Rattle.recording_imports.specs.declared.Imported.{Imported}
+use Rattle.recording_imports.specs.Answer.{Imported}
+use Rattle.recording_imports.specs.declared.Unread.TheVariants.{Refused, NotRead}
 use Rattle.recording_imports.specs.Imports.{places_for, import_of, import_lists}
 use Rattle.recording_meaning.specs.Meaning.{Answers}
 use Rattle.recording_meaning.specs.Rows.{Leaves}
@@ -32,9 +33,9 @@ pub record ImportGiven : Type 0 where
   pub before : Lists
 
 abbrev pub imported_number : Imported → Option ℕ
-imported_number (Imported.Units closure units rows) = none
-imported_number (Imported.Refused refusal) = some (number_of refusal)
-imported_number (Imported.NotRead refusal packet) = some (number_of refusal)
+imported_number (Ok joined) = none
+imported_number (Err (Refused refusal)) = some (number_of refusal)
+imported_number (Err (NotRead refusal packet)) = some (number_of refusal)
 
 abbrev pub later_numbers : List ℕ
 later_numbers = recording_numbers ++ joining_numbers

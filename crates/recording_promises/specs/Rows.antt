@@ -1,10 +1,11 @@
 -- `recording_imports::read_rows`: THE ROWS OF A RECORDING UNDER A LOOP, as a call, and its promise: 1 to 9, 13, 20 to 24, 30 to 33.
 -- Assumes nothing.
-use Rattle.std.specs.Prelude.{ℕ, min, List, ◌++◌, length}
+use Rattle.std.specs.Prelude.{ℕ, min, List, ◌++◌, length, Err, Ok}
 use Rattle.std.proofs.Math.Option.{Option, none, some}
 use Rattle.vocabulary.specs.Refusals.{number_of}
 use Rattle.recording_rows.specs.Columns.{Columns, columns, room_in}
-use Rattle.recording_imports.specs.declared.RowsRead.{RowsRead}
+use Rattle.recording_imports.specs.Answer.{RowsRead}
+use Rattle.recording_imports.specs.declared.Unread.TheVariants.{Refused, NotRead}
 use Rattle.recording_imports.proofs.read_rows.Kinds as read-rows-kinds
 use Rattle.recording_imports.proofs.read_rows.Reads as read-rows
 use Rattle.recording_meaning.specs.Rows.{ReadsRows}
@@ -19,9 +20,9 @@ pub record RowsGiven : Type 0 where
   pub before : Columns
 
 abbrev pub rows_number : RowsRead → Option ℕ
-rows_number (RowsRead.Rows count) = none
-rows_number (RowsRead.Refused refusal) = some (number_of refusal)
-rows_number (RowsRead.NotRead refusal packet) = some (number_of refusal)
+rows_number (Ok count) = none
+rows_number (Err (Refused refusal)) = some (number_of refusal)
+rows_number (Err (NotRead refusal packet)) = some (number_of refusal)
 
 abbrev pub read_rows : Call
 read_rows =

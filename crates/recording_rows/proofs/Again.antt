@@ -1,5 +1,6 @@
 -- A row read once more is the row that was found: the rows of a recording out of the packets in which their units start, all of which stand in the bytes.
 -- Assumes nothing.
+use Rattle.std.specs.Prelude.{Err, Ok}
 use Prim.Native.Nat.{ℕ, zero, suc, ◌+◌, ◌-◌, ◌*◌, ◌/◌, ◌≤◌, ◌<◌}
 use mathlib.Core.Path.{◌≡◌, refl, sym, ap, ap₂, subst, ◌∙◌}
 use mathlib.Core.Bool.{cond}
@@ -10,8 +11,7 @@ use native.Mathlib.Omega.{arith}
 use lib.ListN.{length, get_or, drop, length-drop}
 use Rattle.combinators.specs.Bools.{either_way}
 use Rattle.framing.specs.Pieces.{Item}
-use Rattle.pes_reader.specs.declared.Answer.{Answer}
-use Rattle.pes_reader.specs.declared.Answer.TheVariants.{Read, Refused}
+use Rattle.pes_reader.specs.Answer.{Answer}
 use Rattle.pes_reader.specs.Reading.{read_of}
 use Rattle.packets.specs.declared.Packet.{Packet}
 use Rattle.packets.specs.Reading.{packet_bytes, packet_of}
@@ -37,8 +37,8 @@ Gives row (NotRead refusal) = Unit {0}
 Gives row (Given given) = row ≡ given
 
 header_gives : (layer k : ℕ) (answer : Answer) → Gives (row_of layer k answer) (header_event layer k answer)
-header_gives layer k (Read header) = refl
-header_gives layer k (Refused refusal) = tt
+header_gives layer k (Ok header) = refl
+header_gives layer k (Err refusal) = tt
 
 module _ (layer k : ℕ) (packet : List ℕ) where
   abbrev p : Packet
@@ -79,8 +79,8 @@ packet_gives table k packet lasts =
 
 -- a row names its packet
 names : (layer k : ℕ) (answer : Answer) → (row_of layer k answer).packet ≡ k
-names layer k (Read header) = refl
-names layer k (Refused refusal) = refl
+names layer k (Ok header) = refl
+names layer k (Err refusal) = refl
 
 again_names : (table : List ℕ) (k : ℕ) (packet : List ℕ) → (row_again table k packet).packet ≡ k
 again_names table k packet = names (layer_of table packet) k (read_of (drop (payload_at (packet_of packet)) packet))

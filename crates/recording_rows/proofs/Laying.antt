@@ -20,14 +20,6 @@ past_the_end packet n e h = drop_of_length-le packet {i = packet_bytes} (omega a
 
 -- ---- one column, and all of them
 
--- the numbers of the packets, one more
-pub one_number_more : (old starts : List ℕ) (i : ℕ) → i < length starts → set (sets old 0 (take i starts)) i (get_or starts i 0) ≡ sets old 0 (take (i + 1) starts)
-one_number_more old starts i h =
-    let size : i ≡ 0 + length (take i starts) = omega (arith, length-take-le i starts (omega arith)) in
-    ap (λ (n : ℕ). sets (sets old 0 (take i starts)) n (get_or starts i 0 ∷ [])) size
-    ∙ sets_append old 0 (take i starts) (get_or starts i 0 ∷ [])
-    ∙ ap (sets old 0) (sym (take-suc starts i 0 h) ∙ ap (λ (n : ℕ). take n starts) (sym (add-one i)))
-
 column_then : (f : Row → ℕ) (old : List ℕ) (place : ℕ) (done piece : List Row) {i : ℕ} → length done ≡ i
     → sets (sets old place (map f done)) (place + i) (map f piece) ≡ sets old place (map f (done ++ piece))
 column_then f old place done piece {i} e =

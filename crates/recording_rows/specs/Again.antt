@@ -1,8 +1,7 @@
 -- The row of a unit out of the packet in which it starts, read once more.
 -- Assumes nothing.
-use Rattle.std.specs.Prelude.{ℕ, ◌+◌, ◌-◌, ◌*◌, ◌≤◌, ◌<◌, false, List, length, get_or, drop}
-use Rattle.pes_reader.specs.declared.Answer.{Answer}
-use Rattle.pes_reader.specs.declared.Answer.TheVariants.{Read, Refused}
+use Rattle.std.specs.Prelude.{ℕ, ◌+◌, ◌-◌, ◌*◌, ◌≤◌, ◌<◌, false, List, length, get_or, drop, Err, Ok}
+use Rattle.pes_reader.specs.Answer.{Answer}
 use Rattle.pes_reader.specs.Reading.{read_of}
 use Rattle.packets.specs.Reading.{packet_bytes, packet_of}
 use Rattle.packets.specs.Judging.{payload_at}
@@ -11,7 +10,7 @@ use Rattle.scanning.specs.Events.{layer_of, packet_at}
 
 -- a header that is refused has no times
 abbrev pub row_of : ℕ → ℕ → Answer → Row
-row_of layer packet (Read header) =
+row_of layer packet (Ok header) =
     record {
       layer = layer;
       decoding = header.times.decoding;
@@ -19,7 +18,7 @@ row_of layer packet (Read header) =
       tref_sent = header.tref_sent;
       packet = packet;
     }
-row_of layer packet (Refused refusal) = record { layer = layer; decoding = 0; matching = 0; tref_sent = false; packet = packet }
+row_of layer packet (Err refusal) = record { layer = layer; decoding = 0; matching = 0; tref_sent = false; packet = packet }
 
 abbrev pub row_again : List ℕ → ℕ → List ℕ → Row
 row_again table number packet = row_of (layer_of table packet) number (read_of (drop (payload_at (packet_of packet)) packet))

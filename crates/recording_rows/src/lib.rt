@@ -9,28 +9,23 @@ ghost use Rattle.recording_rows.specs.Columns.{columns, room_in, stored_all, bes
 ghost use Rattle.recording_rows.specs.Again.{row_of, row_again, row_from, Inside, Starts};
 
 use packets::PACKET_BYTES;
-use pes_reader::Answer;
+use pes_reader::Header;
 use scanning::Row;
-
-fn bit(flag: bool) -> u8
-    ensures { result ≡ bit_of flag }
-{
-    if flag { 1 } else { 0 }
-}
+use vocabulary::Refusal;
 
 // The row of a header that was read. A header that is refused has no times.
-fn row_of(layer: u8, packet: usize, answer: Answer) -> Row
+fn row_of(layer: u8, packet: usize, answer: Result<Header, Refusal>) -> Row
     ensures { result ≡ row_of layer packet answer }
 {
     match answer {
-        Answer::Read(header) => Row {
+        Ok(header) => Row {
             layer,
             decoding: header.times.decoding,
             matching: header.times.matching,
             tref_sent: header.tref_sent,
             packet,
         },
-        Answer::Refused(_) => Row {
+        Err(_) => Row {
             layer,
             decoding: 0,
             matching: 0,
@@ -78,7 +73,7 @@ fn put_row(
     indices[at] = row.layer;
     decodings[at] = row.decoding;
     matches[at] = row.matching;
-    trefs[at] = bit(row.tref_sent);
+    trefs[at] = u8::from(row.tref_sent);
 }
 
 // The rows of the units that start in these packets, from a place of the columns on.
@@ -98,11 +93,9 @@ pub fn lay(
         ≡ stored_beside place (map (row_from table.now bytes.now first) starts.now)
         (beside indices.old decodings.old matches.old trefs.old) }
 {
-    let mut i = 0;
-    while i < starts.len() {
-        let row = row_from(table, bytes, first, starts[i] as usize);
+    for (i, start) in starts.iter().enumerate() {
+        let row = row_from(table, bytes, first, *start as usize);
         put_row(row, place + i, indices, decodings, matches, trefs);
-        i += 1;
     }
 }
 
@@ -111,11 +104,7 @@ fn put_numbers(starts: &[u64], numbers: &mut [u64])
     requires { length starts.now ≤ length numbers.old }
     ensures { numbers.new ≡ sets numbers.old 0 starts.now }
 {
-    let mut i = 0;
-    while i < starts.len() {
-        numbers[i] = starts[i];
-        i += 1;
-    }
+    numbers[..starts.len()].copy_from_slice(starts);
 }
 
 // All columns: the rows of the units that start in these packets, from the front on.

@@ -1,5 +1,6 @@
 -- The laws that join the answer for a recording to what it means, both ways.
 -- Assumes nothing.
+use Rattle.std.specs.Prelude.{Err, Ok}
 use Prim.Native.Nat.{ℕ, suc, ◌≤◌, ◌<◌}
 use mathlib.Core.Path.{◌≡◌, refl, sym, ap, ap₂, ◌∙◌, subst}
 use mathlib.Core.Bool.{Bool, true, false, cond, ◌&&◌}
@@ -28,8 +29,8 @@ use Rattle.unit_starts.specs.Finding.{row_in, rows_from, rows_in, found_in}
 use Rattle.unit_starts.proofs.Running.{rows_counted}
 use Rattle.recordings.specs.Reading.{fault_of, header_refusal, answer_of}
 use Rattle.recordings.specs.Meaning.{Gives, last_part, lost_sync_lem, other_pid, on_layer_lem, RowsFrom, ended, without, with_row, Clear, Readable, Answers, faulty, not_read, too_many, all_rows}
-use Rattle.recordings.specs.declared.Recording.{Recording}
-use Rattle.recordings.specs.declared.Recording.TheVariants.{Rows, Faulty, NotRead as Unread, TooManyRows}
+use Rattle.recordings.specs.Answer.{Recording}
+use Rattle.recordings.specs.declared.RecordingFault.TheVariants.{Faulty, NotRead as Unread, TooManyRows}
 use Rattle.recordings.proofs.Answering.{answer_by_lem}
 use Rattle.recordings.proofs.Meant.{lasts_at, lasts_next, gives_meant, gives_only}
 use Rattle.recordings.proofs.Answered.{sized, fault_is, refusal_is, in_range, event_in_range, event_here, faults, refusals, Low, low_found}
@@ -337,8 +338,8 @@ module _ (table bytes : List ℕ) (room : ℕ) where
     where
       by_tests : (a b c : Bool) → ltb found.fault.number 34 ≡ a → ltb found.refusal.number 25 ≡ b → ltb room found.rows ≡ c
           → Answers table bytes room
-          (cond a (Faulty (fault_of found.fault.number found.fault.packet))
-          (cond b (Unread (header_refusal found.refusal.number) found.refusal.packet) (cond c TooManyRows (Rows found.rows))))
+          (cond a (Err (Faulty (fault_of found.fault.number found.fault.packet)))
+          (cond b (Err (Unread (header_refusal found.refusal.number) found.refusal.packet)) (cond c (Err TooManyRows) (Ok found.rows))))
       by_tests true b c p q r =
           let h = ltb-true found.fault.number 34 p in
           let n : ℕ = found.fault.number in
@@ -356,7 +357,7 @@ module _ (table bytes : List ℕ) (room : ℕ) where
           let h = ltb-true found.refusal.number 25 q in
           let w = refusal_given table (packets_in bytes) (sized cuts) found.refusal.number found.refusal.packet (low.refusal.inside h) (low.refusal.holds h) in
           let name : w.0 ≡ header_refusal found.refusal.number = sym (named_header w.0 (refusal_range table (packets_in bytes) (sized cuts) w.1)) ∙ ap header_refusal w.2 in
-          subst (λ (x : Refusal). Answers table bytes room (Unread x found.refusal.packet)) name
+          subst (λ (x : Refusal). Answers table bytes room (Err (Unread x found.refusal.packet))) name
           (not_read cuts (clear table (packets_in bytes) (sized cuts) found low (ltb-false found.fault.number 34 p)) w.1
           (λ other j l d. both_ways (refusal_true table (packets_in bytes) (sized cuts) d)
           (low.refusal.lower (number_of other) j (subst (λ (x : ℕ). number_of other < x) w.2 l) (inside table (packets_in bytes) (sized cuts) d)))
@@ -367,7 +368,7 @@ module _ (table bytes : List ℕ) (room : ℕ) where
           (readable table (packets_in bytes) (sized cuts) found low (ltb-false found.refusal.number 25 q)) all_rows_meant
           (subst (λ (x : ℕ). room < x) (rows_counted table bytes) (ltb-true room found.rows r))
       by_tests false false false p q r =
-          subst (λ (x : ℕ). Answers table bytes room (Rows x)) (sym (rows_counted table bytes))
+          subst (λ (x : ℕ). Answers table bytes room (Ok x)) (sym (rows_counted table bytes))
           (all_rows cuts (clear table (packets_in bytes) (sized cuts) found low (ltb-false found.fault.number 34 p))
           (readable table (packets_in bytes) (sized cuts) found low (ltb-false found.refusal.number 25 q)) all_rows_meant
           (subst (λ (x : ℕ). x ≤ room) (rows_counted table bytes) (ltb-false room found.rows r)))
@@ -376,23 +377,23 @@ module _ (table bytes : List ℕ) (room : ℕ) where
   faulty_only : (fault : Refusal) → Gives table (packets_in bytes) (place_of fault) (Fault (number_of fault))
       → ((m j : ℕ) → m < number_of fault → Gives table (packets_in bytes) j (Fault m) → ⊥)
       → ((j : ℕ) → j < place_of fault → Gives table (packets_in bytes) j (Fault (number_of fault)) → ⊥)
-      → Faulty fault ≡ answer_of found room
+      → Err (Faulty fault) ≡ answer_of found room
   faulty_only fault g lower earlier =
       let range = fault_range table (packets_in bytes) (sized cuts) g in
       let small : number_of fault < 34 = ltb-true (number_of fault) 34 (both_right (leb 30 (number_of fault)) (ltb (number_of fault) 34) range) in
       let w = same_fault table (packets_in bytes) (sized cuts) found low (number_of fault) (place_of fault) small g lower earlier in
-      ap Faulty (sym (named_fault fault range) ∙ ap₂ fault_of (sym w.0) (sym w.1))
+      ap (λ (r : Refusal). Err (Faulty r)) (sym (named_fault fault range) ∙ ap₂ fault_of (sym w.0) (sym w.1))
       ∙ sym (answer_by_lem found room (lt-ltb found.fault.number 34 (omega (arith, w.0))) refl refl)
 
   unread_only : (refusal : Refusal) (k : ℕ) → Clear table (packets_in bytes) → Gives table (packets_in bytes) k (NotRead refusal)
       → ((other : Refusal) (j : ℕ) → number_of other < number_of refusal → Gives table (packets_in bytes) j (NotRead other) → ⊥)
       → ((j : ℕ) → j < k → Gives table (packets_in bytes) j (NotRead refusal) → ⊥)
-      → Unread refusal k ≡ answer_of found room
+      → Err (Unread refusal k) ≡ answer_of found room
   unread_only refusal k c g lower earlier =
       let w = same_refusal table (packets_in bytes) (sized cuts) found low refusal k g lower earlier in
       let range = refusal_range table (packets_in bytes) (sized cuts) g in
       let small : number_of refusal < 25 = ltb-true (number_of refusal) 25 (both_right (leb 20 (number_of refusal)) (ltb (number_of refusal) 25) range) in
-      ap₂ Unread (sym (named_header refusal range) ∙ ap header_refusal (sym w.0)) (sym w.1)
+      ap₂ (λ (r : Refusal) (n : ℕ). Err (Unread r n)) (sym (named_header refusal range) ∙ ap header_refusal (sym w.0)) (sym w.1)
       ∙ sym
       (answer_by_lem found room (le-ltb found.fault.number 34 (no_fault_kept table (packets_in bytes) (sized cuts) found low c))
       (lt-ltb found.refusal.number 25 (omega (arith, w.0))) refl)
@@ -401,16 +402,16 @@ module _ (table bytes : List ℕ) (room : ℕ) where
     as_many : length rows ≡ found.rows
     as_many = ap length (rows_only table (packets_in bytes) (sized cuts) r (packets_in bytes) refl) ∙ sym (rows_counted table bytes)
 
-    by_room : (t : Bool) → ltb room found.rows ≡ t → answer_of found room ≡ cond t TooManyRows (Rows found.rows)
+    by_room : (t : Bool) → ltb room found.rows ≡ t → answer_of found room ≡ cond t (Err TooManyRows) (Ok found.rows)
     by_room t e =
         answer_by_lem found room (le-ltb found.fault.number 34 (no_fault_kept table (packets_in bytes) (sized cuts) found low c))
         (le-ltb found.refusal.number 25 (no_refusal_kept table (packets_in bytes) (sized cuts) found low d)) e
 
-    many_only : room < length rows → TooManyRows ≡ answer_of found room
+    many_only : room < length rows → (Err TooManyRows) ≡ answer_of found room
     many_only h = sym (by_room true (lt-ltb room found.rows (subst (λ (x : ℕ). room < x) as_many h)))
 
-    rows_are : length rows ≤ room → Rows (length rows) ≡ answer_of found room
-    rows_are h = ap Rows as_many ∙ sym (by_room false (le-ltb room found.rows (subst (λ (x : ℕ). x ≤ room) as_many h)))
+    rows_are : length rows ≤ room → Ok (length rows) ≡ answer_of found room
+    rows_are h = ap Ok as_many ∙ sym (by_room false (le-ltb room found.rows (subst (λ (x : ℕ). x ≤ room) as_many h)))
 
   pub answer_only : {recording : Recording} → Answers table bytes room recording → recording ≡ answer_of (found_in table bytes) room
   answer_only (faulty {packets} {fault} c g lower earlier) =

@@ -1,5 +1,6 @@
 -- The answer for a recording has its meaning: the marks that the walk keeps are the lowest numbers at their earliest packets.
 -- Assumes nothing.
+use Rattle.std.specs.Prelude.{Err, Ok}
 use Prim.Native.Nat.{ℕ, zero, suc, ◌+◌, ◌≤◌, ◌<◌}
 use mathlib.Core.Path.{◌≡◌, refl, sym, ap, ◌∙◌, subst}
 use mathlib.Core.Bool.{Bool, true, false, cond, ◌&&◌}
@@ -26,8 +27,7 @@ use Rattle.pes_fields.specs.Tables.{head}
 use Rattle.pes_fields.specs.HeaderData.{flags_of, header_data_of}
 use Rattle.pes_fields.specs.declared.Extension.{Extension}
 use Rattle.pes_fields.specs.declared.Extension.TheVariants.{DoesNotFit, WithoutTref, WithTref}
-use Rattle.pes_reader.specs.declared.Answer.{Answer}
-use Rattle.pes_reader.specs.declared.Answer.TheVariants.{Read, Refused}
+use Rattle.pes_reader.specs.Answer.{Answer}
 use Rattle.pes_reader.specs.declared.Header.{Header}
 use Rattle.pes_reader.specs.Reading.{is_video_header, data_of, end_of, judged, header_of, said_by, fields_of, video_header_of, read_of}
 use Rattle.packets.specs.declared.Packet.{Packet}
@@ -101,8 +101,8 @@ HeaderInRange layer k answer = in_range (header_event layer k answer) ≡ true
 
 judged_in_range : (layer k : ℕ) (marked : Bool) (header : Header) → HeaderInRange layer k (judged marked header)
 judged_in_range layer k marked header =
-    either_way (HeaderInRange layer k) marked (cond (is_before header.times.pts header.times.decoding) (Refused PtsBeforeDts) (Read header)) (Refused WrongMarker)
-    (either_way (HeaderInRange layer k) (is_before header.times.pts header.times.decoding) (Refused PtsBeforeDts) (Read header) refl refl)
+    either_way (HeaderInRange layer k) marked (cond (is_before header.times.pts header.times.decoding) (Err PtsBeforeDts) (Ok header)) (Err WrongMarker)
+    (either_way (HeaderInRange layer k) (is_before header.times.pts header.times.decoding) (Err PtsBeforeDts) (Ok header) refl refl)
     refl
 
 said_in_range : (layer k end : ℕ) (stamps : Stamps) (given : Extension) → HeaderInRange layer k (said_by end stamps given)
@@ -112,9 +112,9 @@ said_in_range layer k end stamps (WithTref tref) = judged_in_range layer k (stam
 
 header_in_range : (layer k : ℕ) (bytes : List ℕ) → HeaderInRange layer k (read_of bytes)
 header_in_range layer k bytes =
-    either_way (HeaderInRange layer k) (is_video_header bytes) (video_header_of bytes) (Refused NotVideoHeader)
+    either_way (HeaderInRange layer k) (is_video_header bytes) (video_header_of bytes) (Err NotVideoHeader)
     (either_way (HeaderInRange layer k) (leb 0b10 (named "PTS_DTS_flags" head (number 9 bytes)))
-    (fields_of (end_of bytes) (flags_of head (number 9 bytes)) (data_of bytes)) (Refused NoPts)
+    (fields_of (end_of bytes) (flags_of head (number 9 bytes)) (data_of bytes)) (Err NoPts)
     (said_in_range layer k (end_of bytes) (stamps_of (flags_of head (number 9 bytes)).pts_dts (data_of bytes)) (header_data_of (flags_of head (number 9 bytes)) (data_of bytes)))
     refl)
     refl

@@ -1,5 +1,6 @@
 -- What is laid after the answer: the rows of the recording, or none after a refusal; and the packets that were noted are theirs.
 -- Assumes nothing.
+use Rattle.std.specs.Prelude.{Err, Ok}
 use Prim.Native.Nat.{ℕ, ◌≤◌, min}
 use mathlib.Core.Path.{◌≡◌, refl, sym, ap, ap₂, subst, ◌∙◌}
 use mathlib.Core.Bool.{cond}
@@ -22,38 +23,38 @@ use Rattle.recording_rows.specs.Columns.{Columns, columns, index_in, decoding_in
 use Rattle.recording_rows.specs.Again.{row_from, Starts}
 use Rattle.recording_rows.proofs.Again.{rows_again, rows_inside}
 use Rattle.recordings.specs.Reading.{fault_of, header_refusal, answer_of, recording_of, rows_count, columns_after}
-use Rattle.recordings.specs.declared.Recording.{Recording}
-use Rattle.recordings.specs.declared.Recording.TheVariants.{Rows, Faulty, NotRead, TooManyRows}
+use Rattle.recordings.specs.Answer.{Recording}
+use Rattle.recordings.specs.declared.RecordingFault.TheVariants.{Faulty, NotRead, TooManyRows}
 
 -- rows are answered as many as were found, and there is room for them
 abbrev Fits : Found → ℕ → Recording → Type 0
-Fits f room (Rows count) = (count ≡ f.rows) × (count ≤ room)
-Fits f room (Faulty fault) = Unit {0}
-Fits f room (NotRead refusal packet) = Unit {0}
-Fits f room TooManyRows = Unit {0}
+Fits f room (Ok count) = (count ≡ f.rows) × (count ≤ room)
+Fits f room (Err (Faulty fault)) = Unit {0}
+Fits f room (Err (NotRead refusal packet)) = Unit {0}
+Fits f room (Err TooManyRows) = Unit {0}
 
 answer_fits : (f : Found) (room : ℕ) → Fits f room (answer_of f room)
 answer_fits f room =
-    either_way (Fits f room) (ltb f.fault.number 34) (Faulty (fault_of f.fault.number f.fault.packet))
-    (cond (ltb f.refusal.number 25) (NotRead (header_refusal f.refusal.number) f.refusal.packet) (cond (ltb room f.rows) TooManyRows (Rows f.rows)))
+    either_way (Fits f room) (ltb f.fault.number 34) (Err (Faulty (fault_of f.fault.number f.fault.packet)))
+    (cond (ltb f.refusal.number 25) (Err (NotRead (header_refusal f.refusal.number) f.refusal.packet)) (cond (ltb room f.rows) (Err TooManyRows) (Ok f.rows)))
     tt
-    (either_way (Fits f room) (ltb f.refusal.number 25) (NotRead (header_refusal f.refusal.number) f.refusal.packet) (cond (ltb room f.rows) TooManyRows (Rows f.rows))
+    (either_way (Fits f room) (ltb f.refusal.number 25) (Err (NotRead (header_refusal f.refusal.number) f.refusal.packet)) (cond (ltb room f.rows) (Err TooManyRows) (Ok f.rows))
     tt
-    (or_else (Fits f room) (ltb room f.rows) TooManyRows (Rows f.rows) tt (λ e. (refl, ltb-false room f.rows e))))
+    (or_else (Fits f room) (ltb room f.rows) (Err TooManyRows) (Ok f.rows) tt (λ e. (refl, ltb-false room f.rows e))))
 
 module _ (table bytes : List ℕ) where
   -- the rows that are laid
   abbrev pub laid : Recording → List Row
-  laid (Rows count) = rows_in table bytes
-  laid (Faulty fault) = []
-  laid (NotRead refusal packet) = []
-  laid TooManyRows = []
+  laid (Ok count) = rows_in table bytes
+  laid (Err (Faulty fault)) = []
+  laid (Err (NotRead refusal packet)) = []
+  laid (Err TooManyRows) = []
 
   laid_after : (answer : Recording) (before : Columns) → columns_after table bytes answer before ≡ over_all (laid answer) before
-  laid_after (Rows count) before = refl
-  laid_after (Faulty fault) before = refl
-  laid_after (NotRead refusal packet) before = refl
-  laid_after TooManyRows before = refl
+  laid_after (Ok count) before = refl
+  laid_after (Err (Faulty fault)) before = refl
+  laid_after (Err (NotRead refusal packet)) before = refl
+  laid_after (Err TooManyRows) before = refl
 
   pub record Prepared (room count : ℕ) (starts : List ℕ) (answer : Recording) : Type 0 where
     pub noted : take count starts ≡ map packet_in (laid answer)
@@ -68,7 +69,7 @@ module _ (table bytes : List ℕ) where
 
   prepared_by : (room : ℕ) (starts new-starts : List ℕ) → room ≤ length starts → new-starts ≡ sets starts 0 (map packet_in (rows_in table bytes))
       → (answer : Recording) → Fits (found_in table bytes) room answer → Prepared room (rows_count answer) new-starts answer
-  prepared_by room starts new-starts h e (Rows count) fits =
+  prepared_by room starts new-starts h e (Ok count) fits =
       let many : length (rows_in table bytes) ≡ count = sym (fits.0 ∙ rows_counted table bytes) in
       let size : length (map packet_in (rows_in table bytes)) ≡ count = length-map (rows_in table bytes) packet_in ∙ many in
       let noted : take count new-starts ≡ map packet_in (rows_in table bytes) =
@@ -80,9 +81,9 @@ module _ (table bytes : List ℕ) where
         again = ap (map (row_from table bytes 0)) noted ∙ rows_again bytes 0 table none_yet;
         inside = subst (Starts bytes 0) (sym noted) (rows_inside bytes 0 table none_yet);
       }
-  prepared_by room starts new-starts h e (Faulty fault) fits = none_laid room new-starts refl
-  prepared_by room starts new-starts h e (NotRead refusal packet) fits = none_laid room new-starts refl
-  prepared_by room starts new-starts h e TooManyRows fits = none_laid room new-starts refl
+  prepared_by room starts new-starts h e (Err (Faulty fault)) fits = none_laid room new-starts refl
+  prepared_by room starts new-starts h e (Err (NotRead refusal packet)) fits = none_laid room new-starts refl
+  prepared_by room starts new-starts h e (Err TooManyRows) fits = none_laid room new-starts refl
 
   pub prepared : {room count : ℕ} (starts : List ℕ) {new-starts : List ℕ} {answer : Recording} → room ≤ length starts
       → new-starts ≡ sets starts 0 (map packet_in (rows_in table bytes)) → answer ≡ answer_of (found_in table bytes) room → count ≡ rows_count answer

@@ -1,7 +1,7 @@
 -- WHAT A RECORDING'S PACKETS GIVE, in the request's words: which packet stands before another on its PID, and what each packet gives after that one. The
 -- laws that join this to what is computed are in proofs/Meant.antt, both ways.
 -- Assumes nothing.
-use Rattle.std.specs.Prelude.{ℕ, suc, ◌≤◌, ◌<◌, ◌≡◌, List, [], ◌∷◌, length}
+use Rattle.std.specs.Prelude.{ℕ, suc, ◌≤◌, ◌<◌, ◌≡◌, List, [], ◌∷◌, length, Err, Ok}
 use Rattle.combinators.specs.Lists.{Nth}
 use Rattle.framing.specs.Pieces.{Item, whole, broken, Cuts}
 use Rattle.vocabulary.specs.declared.refusal.Refusal.{Refusal}
@@ -15,8 +15,8 @@ use Rattle.scanning.specs.declared.events.Event.TheVariants.{Nothing, Fault, Not
 use Rattle.scanning.specs.declared.events.Row.{Row}
 use Rattle.scanning.specs.Events.{layers, layer_of, step_event}
 use Rattle.unit_starts.specs.Finding.{row_in}
-use Rattle.recordings.specs.declared.Recording.{Recording}
-use Rattle.recordings.specs.declared.Recording.TheVariants.{Rows, Faulty, NotRead as Unread, TooManyRows}
+use Rattle.recordings.specs.Answer.{Recording}
+use Rattle.recordings.specs.declared.RecordingFault.TheVariants.{Faulty, NotRead as Unread, TooManyRows}
 
 module _ (table : List ℕ) (packets : List Item) where
   -- A packet that counts on a layer's PID: in sync, and not skipped whole.
@@ -65,13 +65,13 @@ pub data Answers (table bytes : List ℕ) (room : ℕ) : Recording → Type 0 wh
       → Gives table packets (place_of fault) (Fault (number_of fault))
       → ((number k : ℕ) → number < number_of fault → Gives table packets k (Fault number) → ⊥)
       → ((k : ℕ) → k < place_of fault → Gives table packets k (Fault (number_of fault)) → ⊥)
-      → Answers table bytes room (Faulty fault)
+      → Answers table bytes room (Err (Faulty fault))
   not_read : {packets : List Item} {refusal : Refusal} {k : ℕ} → Cuts packet_bytes (λ head. 0) bytes packets → Clear table packets
       → Gives table packets k (NotRead refusal)
       → ((other : Refusal) (j : ℕ) → number_of other < number_of refusal → Gives table packets j (NotRead other) → ⊥)
       → ((j : ℕ) → j < k → Gives table packets j (NotRead refusal) → ⊥)
-      → Answers table bytes room (Unread refusal k)
+      → Answers table bytes room (Err (Unread refusal k))
   too_many : {packets : List Item} {rows : List Row} → Cuts packet_bytes (λ head. 0) bytes packets → Clear table packets → Readable table packets
-      → RowsFrom table packets 0 rows → room < length rows → Answers table bytes room TooManyRows
+      → RowsFrom table packets 0 rows → room < length rows → Answers table bytes room (Err TooManyRows)
   all_rows : {packets : List Item} {rows : List Row} → Cuts packet_bytes (λ head. 0) bytes packets → Clear table packets → Readable table packets
-      → RowsFrom table packets 0 rows → length rows ≤ room → Answers table bytes room (Rows (length rows))
+      → RowsFrom table packets 0 rows → length rows ≤ room → Answers table bytes room (Ok (length rows))

@@ -7,103 +7,88 @@ ghost use Rattle.std.specs.Prelude.{◌≡◌, min, length};
 ghost use Rattle.recording_rows.specs.Columns.{columns};
 ghost use Rattle.recordings.specs.Reading.{fault_of, header_refusal, answer_of, recording_of, rows_count, columns_after, number_of, place_of};
 
-use combinators::lesser;
 use unit_starts::Found;
 use vocabulary::Refusal;
 
-// The number of rows; or a packet that is refused, a PES header that is refused with the packet in which it stands, or more rows than the columns hold.
+// Why a recording gives no rows: a packet that is refused, a PES header that is refused with the packet in which it stands, or more rows than the columns hold.
 #[derive(Clone, Copy)]
-pub enum Recording {
-    Rows(usize),
+pub enum RecordingFault {
     Faulty(Refusal),
     NotRead(Refusal, usize),
     TooManyRows,
 }
 
 // The number of a refusal, and 0 where there is none.
-pub fn number(recording: Recording) -> u8
+pub fn number(recording: Result<usize, RecordingFault>) -> u8
     ensures { result ≡ number_of recording }
 {
     match recording {
-        Recording::Rows(_) => 0,
-        Recording::Faulty(fault) => vocabulary::number(fault),
-        Recording::NotRead(refusal, _) => vocabulary::number(refusal),
-        Recording::TooManyRows => 13,
+        Ok(_) => 0,
+        Err(RecordingFault::Faulty(fault)) => vocabulary::number(fault),
+        Err(RecordingFault::NotRead(refusal, _)) => vocabulary::number(refusal),
+        Err(RecordingFault::TooManyRows) => 13,
     }
 }
 
 // The place of a refusal: the packet's number.
-pub fn place(recording: Recording) -> usize
+pub fn place(recording: Result<usize, RecordingFault>) -> usize
     ensures { result ≡ place_of recording }
 {
     match recording {
-        Recording::Rows(_) => 0,
-        Recording::Faulty(fault) => vocabulary::place(fault),
-        Recording::NotRead(_, packet) => packet,
-        Recording::TooManyRows => 0,
+        Ok(_) | Err(RecordingFault::TooManyRows) => 0,
+        Err(RecordingFault::Faulty(fault)) => vocabulary::place(fault),
+        Err(RecordingFault::NotRead(_, packet)) => packet,
     }
 }
 
 fn fault_of(number: u8, packet: usize) -> Refusal
     ensures { result ≡ fault_of number packet }
 {
-    if number == 30 {
-        return Refusal::LostSync(packet);
+    match number {
+        30 => Refusal::LostSync(packet),
+        31 => Refusal::CounterGap(packet),
+        32 => Refusal::OutsidePacket(packet),
+        _ => Refusal::Scrambled(packet),
     }
-    if number == 31 {
-        return Refusal::CounterGap(packet);
-    }
-    if number == 32 {
-        return Refusal::OutsidePacket(packet);
-    }
-    Refusal::Scrambled(packet)
 }
 
 fn header_refusal(number: u8) -> Refusal
     ensures { result ≡ header_refusal number }
 {
-    if number == 20 {
-        return Refusal::NotVideoHeader;
+    match number {
+        20 => Refusal::NotVideoHeader,
+        21 => Refusal::NoPts,
+        22 => Refusal::FieldsDoNotFit,
+        23 => Refusal::WrongMarker,
+        _ => Refusal::PtsBeforeDts,
     }
-    if number == 21 {
-        return Refusal::NoPts;
-    }
-    if number == 22 {
-        return Refusal::FieldsDoNotFit;
-    }
-    if number == 23 {
-        return Refusal::WrongMarker;
-    }
-    Refusal::PtsBeforeDts
 }
 
 // THE ANSWER to what was found, where there is room for so many rows.
-pub fn answer_of(found: Found, room: usize) -> Recording
+pub fn answer_of(found: Found, room: usize) -> Result<usize, RecordingFault>
     ensures { result ≡ answer_of found room }
 {
     let fault = found.fault;
     if fault.number < 34 {
-        return Recording::Faulty(fault_of(fault.number, fault.packet));
+        return Err(RecordingFault::Faulty(fault_of(fault.number, fault.packet)));
     }
     let refusal = found.refusal;
     if refusal.number < 25 {
-        return Recording::NotRead(header_refusal(refusal.number), refusal.packet);
+        return Err(RecordingFault::NotRead(header_refusal(refusal.number), refusal.packet));
     }
     if room < found.rows {
-        return Recording::TooManyRows;
+        return Err(RecordingFault::TooManyRows);
     }
-    Recording::Rows(found.rows)
+    Ok(found.rows)
 }
 
 // The number of rows, and 0 where there is a refusal.
-fn rows_in(recording: Recording) -> usize
+fn rows_in(recording: Result<usize, RecordingFault>) -> usize
     ensures { result ≡ rows_count recording }
 {
     match recording {
-        Recording::Rows(rows) => rows,
-        Recording::Faulty(_) => 0,
-        Recording::NotRead(_, _) => 0,
-        Recording::TooManyRows => 0,
+        Ok(rows) => rows,
+        Err(_) => 0,
     }
 }
 
@@ -118,13 +103,7 @@ fn room_for(
 ) -> usize
     ensures { result ≡ min starts (min indices (min decodings (min matches (min trefs numbers)))) }
 {
-    lesser(
-        starts,
-        lesser(
-            indices,
-            lesser(decodings, lesser(matches, lesser(trefs, numbers))),
-        ),
-    )
+    starts.min(indices.min(decodings.min(matches.min(trefs.min(numbers)))))
 }
 
 // THE CALL. For each PID its layer index, or 64 or more where it is no layer's; the bytes of the recording; work space, in which the packets are noted in which
@@ -138,7 +117,7 @@ pub fn read_recording(
     matches: &mut [u64],
     trefs: &mut [u8],
     numbers: &mut [u64],
-) -> Recording
+) -> Result<usize, RecordingFault>
     ensures answer { result
         ≡ recording_of table.now bytes.now (length starts.old)
         (columns indices.old decodings.old matches.old trefs.old numbers.old) }

@@ -34,9 +34,7 @@ pub fn is_layer(record: Record) -> bool
 {
     match record {
         Record::NoRecord => false,
-        Record::Hierarchy(_) => true,
-        Record::Extension(_) => true,
-        Record::Implied => true,
+        Record::Hierarchy(_) | Record::Extension(_) | Record::Implied => true,
     }
 }
 
@@ -68,10 +66,9 @@ pub fn channel(record: Record) -> HierarchyChannel
     ensures { result ≡ channel_of «record» }
 {
     match record {
-        Record::NoRecord => HierarchyChannel(0),
+        Record::NoRecord | Record::Implied => HierarchyChannel(0),
         Record::Hierarchy(hierarchy) => hierarchy.channel,
         Record::Extension(extension) => extension.channel,
-        Record::Implied => HierarchyChannel(0),
     }
 }
 
@@ -86,43 +83,34 @@ pub fn is_base(hierarchy: HierarchyRecord) -> bool
 pub fn listed_count(num_embedded_layers: u8) -> usize
     ensures { result ≡ min num_embedded_layers 63 }
 {
-    if num_embedded_layers < 63 {
-        num_embedded_layers as usize
-    } else {
-        63
-    }
+    usize::from(num_embedded_layers).min(63)
 }
 
 // A set with one index more: bit i stands for index i.
 fn with_index(set: u64, index: LayerIndex) -> u64
     ensures { result ≡ added set (plain index) }
 {
-    sets::with(set, index.0 as usize)
+    sets::with(set, usize::from(index.0))
 }
 
-// The set of the first `count` indices.
-fn names_in(count: usize, embedded: [LayerIndex; 63]) -> u64
-    requires { count ≤ 63 }
-    ensures { result ≡ with_indices 0 (map plain (take count embedded)) }
+// The set of the indices of a list.
+fn names_in(list: &[LayerIndex]) -> u64
+    ensures { result ≡ with_indices 0 (map plain list.now) }
 {
     let mut set = 0u64;
-    let mut i = 0;
-    while i < count {
-        set = with_index(set, embedded[i]);
-        i += 1;
+    for index in list {
+        set = with_index(set, *index);
     }
     set
 }
 
-// The set of the layers in an extension's list, one byte each.
+// The set of the layers in an extension's list, one byte each. (Beside `names_in`, since no list of indices is made of the bytes: it would be a copy.)
 pub fn names_in_list(list: &[u8]) -> u64
     ensures { result ≡ with_indices 0 (map plain (layers_of list.now)) }
 {
     let mut set = 0u64;
-    let mut i = 0;
-    while i < list.len() {
-        set = with_index(set, LayerIndex(list[i] % 64));
-        i += 1;
+    for byte in list {
+        set = with_index(set, LayerIndex(byte % 64));
     }
     set
 }
@@ -153,10 +141,10 @@ pub fn names(stream_type: u8, record: Record, embedded: [LayerIndex; 63]) -> u64
     match record {
         Record::NoRecord => 0,
         Record::Hierarchy(hierarchy) => names_of_hierarchy(hierarchy),
-        Record::Extension(extension) => names_in(
-            listed_count(extension.num_embedded_layers),
-            embedded,
-        ),
+        Record::Extension(extension) => {
+            let count = listed_count(extension.num_embedded_layers);
+            names_in(&embedded[..count])
+        }
         Record::Implied => implied_names(stream_type),
     }
 }
@@ -166,15 +154,14 @@ pub fn record_too_wide(record: Record, embedded: [LayerIndex; 63]) -> bool
     ensures { result ≡ any too_wide_in (record_tables «record» embedded) }
 {
     match record {
-        Record::NoRecord => false,
+        Record::NoRecord | Record::Implied => false,
         Record::Hierarchy(hierarchy) => !hierarchy_fits(hierarchy),
         Record::Extension(extension) => {
             if extension_fits(extension) {
-                return list_too_wide(extension.num_embedded_layers as usize, embedded);
+                return list_too_wide(usize::from(extension.num_embedded_layers), embedded);
             }
             true
         }
-        Record::Implied => false,
     }
 }
 
@@ -184,10 +171,9 @@ pub fn record_size(record: Record, embedded: [LayerIndex; 63]) -> usize
     ensures { (result ≡ length (gather bytes_in (record_tables «record» embedded))) × (result ≤ 72) }
 {
     match record {
-        Record::NoRecord => 0,
+        Record::NoRecord | Record::Implied => 0,
         Record::Hierarchy(_) => 6,
-        Record::Extension(extension) => 9 + extension.num_embedded_layers as usize,
-        Record::Implied => 0,
+        Record::Extension(extension) => 9 + usize::from(extension.num_embedded_layers),
     }
 }
 
@@ -197,9 +183,8 @@ pub fn put_record(out: &mut [u8], at: usize, record: Record, embedded: [LayerInd
     ensures { Laid out.old at (gather bytes_in (record_tables «record» embedded)) result out.new }
 {
     match record {
-        Record::NoRecord => buffers::put(out, at, b""),
+        Record::NoRecord | Record::Implied => buffers::put(out, at, b""),
         Record::Hierarchy(hierarchy) => put_hierarchy(out, at, hierarchy),
         Record::Extension(extension) => put_extension(out, at, extension, embedded),
-        Record::Implied => buffers::put(out, at, b""),
     }
 }

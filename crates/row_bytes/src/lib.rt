@@ -72,10 +72,8 @@ fn put_numbers(out: &mut [u8], at: usize, list: &[u16]) -> usize
     requires { (at + length list.now ≤ length out.old) × (any layer_too_wide list.now ≡ false) }
     ensures { Laid out.old at (map (λ n. 192 + n) list.now) result out.new }
 {
-    let mut i = 0;
-    while i < list.len() {
-        out[at + i] = (192 + list[i]) as u8;
-        i += 1;
+    for (i, number) in list.iter().enumerate() {
+        out[at + i] = (192 + *number) as u8;
     }
     at + list.len()
 }

@@ -7,24 +7,12 @@ ghost use Rattle.entry_rows.specs.Rows.{fieldless_head, head_of};
 
 use descriptors::{ExtensionRecord, HierarchyRecord, Record};
 
-pub fn wide(byte: u8) -> u16
-    ensures { result ≡ byte }
-{
-    byte as u16
-}
-
-fn bit(flag: bool) -> u16
-    ensures { result ≡ bit_of flag }
-{
-    if flag { 1 } else { 0 }
-}
-
 // The 16 numbers of a stream without a descriptor: it is no layer, or an implied one.
 fn fieldless_head(stream_type: u8, pid: u16, kind: u16) -> [u16; 16]
     ensures { result ≡ fieldless_head stream_type pid kind }
 {
     [
-        wide(stream_type),
+        u16::from(stream_type),
         pid,
         kind,
         0,
@@ -48,18 +36,18 @@ fn head_with_hierarchy(stream_type: u8, pid: u16, hierarchy: HierarchyRecord) ->
     ensures { result ≡ head_of stream_type pid (Record.Hierarchy hierarchy) }
 {
     [
-        wide(stream_type),
+        u16::from(stream_type),
         pid,
         1,
-        bit(hierarchy.no_view),
-        bit(hierarchy.no_temporal),
-        bit(hierarchy.no_spatial),
-        bit(hierarchy.no_quality),
-        wide(hierarchy.hierarchy_type),
-        wide(hierarchy.layer_index.0),
-        bit(hierarchy.tref_present_flag),
-        wide(hierarchy.embedded_layer_index.0),
-        wide(hierarchy.channel.0),
+        u16::from(hierarchy.no_view),
+        u16::from(hierarchy.no_temporal),
+        u16::from(hierarchy.no_spatial),
+        u16::from(hierarchy.no_quality),
+        u16::from(hierarchy.hierarchy_type),
+        u16::from(hierarchy.layer_index.0),
+        u16::from(hierarchy.tref_present_flag),
+        u16::from(hierarchy.embedded_layer_index.0),
+        u16::from(hierarchy.channel.0),
         0,
         0,
         0,
@@ -72,7 +60,7 @@ fn head_with_extension(stream_type: u8, pid: u16, extension: ExtensionRecord) ->
     ensures { result ≡ head_of stream_type pid (Record.Extension extension) }
 {
     [
-        wide(stream_type),
+        u16::from(stream_type),
         pid,
         2,
         0,
@@ -80,14 +68,14 @@ fn head_with_extension(stream_type: u8, pid: u16, extension: ExtensionRecord) ->
         0,
         0,
         0,
-        wide(extension.layer_index.0),
-        bit(extension.tref_present_flag),
+        u16::from(extension.layer_index.0),
+        u16::from(extension.tref_present_flag),
         0,
-        wide(extension.channel.0),
+        u16::from(extension.channel.0),
         extension.dimension_bits,
-        wide(extension.temporal_id.0),
-        wide(extension.nuh_layer_id.0),
-        wide(extension.num_embedded_layers),
+        u16::from(extension.temporal_id.0),
+        u16::from(extension.nuh_layer_id.0),
+        u16::from(extension.num_embedded_layers),
     ]
 }
 

@@ -1,5 +1,6 @@
 -- The walk that lays the rows of an accepted loop into a buffer with room for them: what is known in a turn, and what a turn lays in.
 -- Assumes nothing.
+use Rattle.es_loop.specs.Answer.{entries_judged}
 use Prim.Native.Nat.{ℕ, ◌+◌, ◌-◌, ◌*◌, ◌≤◌, ◌<◌}
 use mathlib.Core.Path.{◌≡◌, refl, sym, ◌∙◌, ap}
 use mathlib.Core.Bool.{Bool}
@@ -12,11 +13,10 @@ use Rattle.buffers.specs.Buffers.{over}
 use Rattle.buffers.proofs.Laws.{over_part, over_length}
 use Rattle.vocabulary.specs.declared.stream_types.Reading.{Reading}
 use Rattle.loop_entries.specs.declared.Stream.{Stream}
-use Rattle.es_loop.specs.declared.verdict.Verdict.TheVariants.{Entries}
 use Rattle.loop_entries.specs.Entries.{no_stream, size_of, pair_of, streams_alone, streams_of, entry_of}
 use Rattle.loop_faults.specs.Conditions.{stream_at}
 use Rattle.es_loop.specs.Reading.{verdict_of}
-use Rattle.es_loop.proofs.Judged.{Sound, sound}
+use Rattle.es_loop.proofs.Verdicts.{Sound, sound}
 use Rattle.loop_entries.proofs.Front.{left_at, left_long}
 use Rattle.es_loop.proofs.Walk.{Cursor, size_5, size_fits, inside_here}
 use Rattle.entry_rows.specs.Rows.{row_of, rows_of}
@@ -36,7 +36,7 @@ rows_for_length : (streams : List Stream) → length (rows_for streams) ≡ leng
 rows_for_length streams =
     ap length (rows_for_lem streams) ∙ rows_length (map entry_of streams) ∙ ap (λ (n : ℕ). n * 80) (length-map streams entry_of)
 
-module _ (reading : Reading) (pair : Bool) (bytes old : List ℕ) (judged : verdict_of reading bytes ≡ Entries (length (streams_of reading bytes)) pair)
+module _ (reading : Reading) (pair : Bool) (bytes old : List ℕ) (judged : verdict_of reading bytes ≡ entries_judged (length (streams_of reading bytes)) pair)
     (room : length (streams_of reading bytes) * 80 ≤ length old) where
   abbrev all : List Stream
   all = streams_of reading bytes

@@ -2,6 +2,7 @@
 #![tactic(auto)]
 
 ghost use Rattle.std.specs.Prelude.{◌≡◌, true, ◌++◌, map, ◌*◌, ◌≤◌, min, length, take, drop, replicate};
+ghost use Rattle.es_loop.specs.Answer.{entries_judged};
 ghost use Rattle.combinators.specs.Padding.{pad_to};
 ghost use Rattle.buffers.specs.Buffers.{over};
 ghost use Rattle.framing.specs.Pieces.{whole};
@@ -12,11 +13,10 @@ ghost use Rattle.loop_entries.specs.Entries.{stream_of, marked_stream, streams_o
 ghost use Rattle.es_loop.specs.Reading.{verdict_of};
 ghost use Rattle.entry_rows.specs.Rows.{layer_number, tail_of, row_of, rows_of};
 
-use combinators::lesser;
 use descriptors::Record;
-use es_loop::{Entry, Verdict};
+use es_loop::{Entry, Judged};
 use loop_entries::elementary_pid;
-use row_heads::{head_of, wide};
+use row_heads::head_of;
 use vocabulary::{LayerIndex, Reading};
 
 // The numbers of a row.
@@ -30,11 +30,7 @@ fn lay_head(row: &mut [u16], head: [u16; HEAD])
     requires { length row.old ≡ 80 }
     ensures { row.new ≡ over head row.old }
 {
-    let mut i = 0;
-    while i < HEAD {
-        row[i] = head[i];
-        i += 1;
-    }
+    row[..HEAD].copy_from_slice(&head);
 }
 
 // 0 after the head, up to the end of the row.
@@ -42,10 +38,8 @@ fn clear_tail(row: &mut [u16])
     requires { length row.old ≡ 80 }
     ensures { row.new ≡ take 16 row.old ++ replicate 64 0 }
 {
-    let mut i = HEAD;
-    while i < ROW {
+    for i in HEAD..ROW {
         row[i] = 0;
-        i += 1;
     }
 }
 
@@ -55,12 +49,10 @@ fn lay_layers(row: &mut [u16], count: usize, embedded: [LayerIndex; 63])
     ensures { row.new ≡ take 16 row.old ++ pad_to 64 0 (map layer_number (take (min count 63) embedded)) }
 {
     clear_tail(row);
-    let end = lesser(count, 63);
-    let mut i = 0;
-    while i < end {
+    let end = count.min(63);
+    for i in 0..end {
         let index = embedded[i];
-        row[HEAD + i] = wide(index.0);
-        i += 1;
+        row[HEAD + i] = u16::from(index.0);
     }
 }
 
@@ -69,12 +61,10 @@ fn lay_tail(row: &mut [u16], record: Record, embedded: [LayerIndex; 63])
     ensures { row.new ≡ take 16 row.old ++ tail_of «record» embedded }
 {
     match record {
-        Record::NoRecord => clear_tail(row),
-        Record::Hierarchy(_) => clear_tail(row),
+        Record::NoRecord | Record::Hierarchy(_) | Record::Implied => clear_tail(row),
         Record::Extension(extension) => {
             lay_layers(row, extension.num_embedded_layers as usize, embedded);
         }
-        Record::Implied => clear_tail(row),
     }
 }
 
@@ -96,10 +86,8 @@ fn lay_listed(row: &mut [u16], list: &[u8])
     ensures { row.new ≡ take 16 row.old ++ pad_to 64 0 (map layer_number (layers_of list.now)) }
 {
     clear_tail(row);
-    let mut i = 0;
-    while i < list.len() {
-        row[HEAD + i] = wide(list[i] % 64);
-        i += 1;
+    for (i, byte) in list.iter().enumerate() {
+        row[HEAD + i] = u16::from(byte % 64);
     }
 }
 
@@ -109,13 +97,11 @@ fn lay_found(row: &mut [u16], record: Record, end: usize, info: &[u8])
     ensures { row.new ≡ take 16 row.old ++ tail_of «record» (pad_to 63 no_layer (list_before info.now «record» end)) }
 {
     match record {
-        Record::NoRecord => clear_tail(row),
-        Record::Hierarchy(_) => clear_tail(row),
+        Record::NoRecord | Record::Hierarchy(_) | Record::Implied => clear_tail(row),
         Record::Extension(extension) => {
             let start = end - extension.num_embedded_layers as usize;
             lay_listed(row, &info[start..end]);
         }
-        Record::Implied => clear_tail(row),
     }
 }
 
@@ -157,7 +143,7 @@ fn lay_entry(row: &mut [u16], reading: Reading, pair: bool, entry: &[u8])
 
 // The rows of a loop that was judged and accepted, from the front of a buffer on that has room for them.
 pub fn put_rows(reading: Reading, pair: bool, bytes: &[u8], out: &mut [u16])
-    requires bytes_value { verdict_of reading bytes.now ≡ Verdict.Entries (length (streams_of reading bytes.now)) pair }
+    requires bytes_value { verdict_of reading bytes.now ≡ entries_judged (length (streams_of reading bytes.now)) pair }
     requires bytes_in_bounds { length (streams_of reading bytes.now) * 80 ≤ length out.old }
     ensures { out.new ≡ over (rows_of (map entry_of (streams_of reading bytes.now))) out.old }
 {

@@ -56,10 +56,8 @@ fn list_in(list: &[u16], count: usize) -> [LayerIndex; 63]
     ensures { result ≡ pad_to 63 no_layer (map layer_of (take count list.now)) }
 {
     let mut layers = descriptors::no_layers();
-    let mut i = 0;
-    while i < count {
+    for i in 0..count {
         layers[i] = LayerIndex(list[i] as u8);
-        i += 1;
     }
     layers
 }

@@ -32,9 +32,8 @@ fn wrong_numbers(own: u16, list: &[u16]) -> bool
     ensures { result ≡ wrong_list own list.now }
 {
     let mut marks = no_marks();
-    let mut i = 0;
-    while i < list.len() {
-        let index = list[i] as usize;
+    for number in list {
+        let index = usize::from(*number);
         if own as usize <= index {
             return true;
         }
@@ -42,7 +41,6 @@ fn wrong_numbers(own: u16, list: &[u16]) -> bool
             return true;
         }
         marks[index] = true;
-        i += 1;
     }
     false
 }

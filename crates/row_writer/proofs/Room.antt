@@ -1,5 +1,6 @@
 -- That there is room for each entry where there is room for all, and that bytes are the answer only where there is.
 -- Assumes nothing.
+use Rattle.std.specs.Prelude.{Err, Ok}
 use Prim.Native.Nat.{ℕ, ◌+◌, ◌≤◌, ◌<◌}
 use mathlib.Core.Path.{◌≡◌, refl, sym, ◌∙◌, ap, subst}
 use mathlib.Core.Bool.{Bool, true, false, cond}
@@ -13,8 +14,7 @@ use Rattle.vocabulary.specs.declared.refusal.Refusal.TheVariants.{LoopTooLong, N
 use Rattle.loop_entries.specs.declared.Entry.{Entry}
 use Rattle.loop_faults.specs.Conditions.{refusal_of}
 use Rattle.loop_writer.specs.declared.weighing.Weighed.{Weighed}
-use Rattle.loop_writer.specs.declared.writer.Written.{Written}
-use Rattle.loop_writer.specs.declared.writer.Written.TheVariants.{Bytes, Refused}
+use Rattle.loop_writer.specs.Answer.{Written}
 use Rattle.loop_writer.specs.Layout.{entry_bytes, loop_bytes}
 use Rattle.loop_writer.specs.Weighing.{decided_by}
 
@@ -30,19 +30,19 @@ piece_room entries d i inside =
 
 -- what an answer says of the room
 abbrev Roomy : Weighed → ℕ → Written → Type 0
-Roomy weighed room (Bytes n) = weighed.size ≤ room
-Roomy weighed room (Refused r) = Unit {0}
+Roomy weighed room (Ok n) = weighed.size ≤ room
+Roomy weighed room (Err r) = Unit {0}
 
 roomy : (weighed : Weighed) (room : ℕ) → Roomy weighed room (decided_by weighed room)
 roomy weighed room = go (ltb 1008 weighed.size) (ltb weighed.fault.number 10) (ltb room weighed.size) refl
   where
     go : (long faulty short : Bool) → ltb room weighed.size ≡ short
         → Roomy weighed room
-        (cond long (Refused LoopTooLong) (cond faulty (Refused (refusal_of weighed.fault.number weighed.fault.place)) (cond short (Refused NoRoom) (Bytes weighed.size))))
+        (cond long (Err LoopTooLong) (cond faulty (Err (refusal_of weighed.fault.number weighed.fault.place)) (cond short (Err NoRoom) (Ok weighed.size))))
     go true faulty short e = tt
     go false true short e = tt
     go false false true e = tt
     go false false false e = ltb-false room weighed.size e
 
-pub decided_room : (weighed : Weighed) (room n : ℕ) → decided_by weighed room ≡ Bytes n → weighed.size ≤ room
+pub decided_room : (weighed : Weighed) (room n : ℕ) → decided_by weighed room ≡ Ok n → weighed.size ≤ room
 decided_room weighed room n e = subst (Roomy weighed room) e (roomy weighed room)

@@ -10,7 +10,7 @@ ghost use Rattle.loop_writer.specs.Writing.{answer, content};
 ghost use Rattle.entry_rows.specs.Rows.{row_count, some_too_wide, entries_below, entries_in};
 
 use es_loop::{MOST_ENTRIES, no_indices, no_pids};
-use loop_writer::{Weighed, Written, nothing_weighed};
+use loop_writer::{Weighed, nothing_weighed};
 use row_bytes::put_row;
 use row_taking::view_in;
 use row_weighing::weigh_row;
@@ -23,12 +23,10 @@ pub fn pair_in(numbers: &[u16]) -> bool
 {
     let mut views = implied::no_views();
     let count = numbers.len() / 80;
-    let mut i = 0;
-    while i < count {
+    for i in 0..count {
         let start = i * 80;
         let end = start + 80;
         views = view_in(views, &numbers[start..end]);
-        i += 1;
     }
     implied::is_pair(views)
 }
@@ -42,8 +40,7 @@ pub fn weigh_rows(pair: bool, numbers: &[u16]) -> Weighed
     let mut indices = no_indices();
     let mut weighed = nothing_weighed();
     let count = numbers.len() / 80;
-    let mut i = 0;
-    while i < count {
+    for i in 0..count {
         let start = i * 80;
         let end = start + 80;
         weighed = weigh_row(
@@ -54,7 +51,6 @@ pub fn weigh_rows(pair: bool, numbers: &[u16]) -> Weighed
             &numbers[start..end],
             i,
         );
-        i += 1;
     }
     weighed
 }
@@ -66,31 +62,24 @@ fn put_rows(out: &mut [u8], numbers: &[u16]) -> usize
 {
     let count = numbers.len() / 80;
     let mut place = 0;
-    let mut i = 0;
-    while i < count {
+    for i in 0..count {
         let start = i * 80;
         let end = start + 80;
         place = put_row(out, place, &numbers[start..end]);
-        i += 1;
     }
     place
 }
 
 // Writes the entries of the rows into `out`, from its front on. None has a value that is too wide.
-pub fn write_rows(numbers: &[u16], out: &mut [u8]) -> Written
+pub fn write_rows(numbers: &[u16], out: &mut [u8]) -> Result<usize, Refusal>
     requires { some_too_wide numbers.now ≡ false }
     ensures { (result ≡ answer (length out.old) (row_count numbers.now) (entries_in numbers.now)) × (out.new ≡ content (row_count numbers.now) (entries_in numbers.now) out.old) }
 {
     if MOST_ENTRIES < numbers.len() / 80 {
-        return Written::Refused(Refusal::LoopTooLong);
+        return Err(Refusal::LoopTooLong);
     }
     let pair = pair_in(numbers);
-    let answer = loop_writer::decide(weigh_rows(pair, numbers), out.len());
-    match answer {
-        Written::Refused(refusal) => Written::Refused(refusal),
-        Written::Bytes(size) => {
-            put_rows(out, numbers);
-            Written::Bytes(size)
-        }
-    }
+    let size = loop_writer::decide(weigh_rows(pair, numbers), out.len())?;
+    put_rows(out, numbers);
+    Ok(size)
 }

@@ -7,17 +7,10 @@ ghost use Rattle.rows.specs.Table.{table, wrong_shape, outside, first_out_of_ran
 ghost use Rattle.rows.specs.Verdicts.{verdict_of};
 
 use clock::{HALF, TICKS};
+use vocabulary::Refusal;
 
 // The rows that a table may have, where its caller has no work space for more.
 pub const MOST_ROWS: usize = 512;
-
-// The verdict on a table: in range and in order, or the first row that is not. A table of the wrong shape is out of range at row 0.
-#[derive(Clone, Copy)]
-pub enum Verdict {
-    InOrder,
-    OutOfRange(usize),
-    OrderBroken(usize),
-}
 
 // Whether the columns are of unequal length or of more rows than there may be.
 fn wrong_shape(most: usize, indices: &[u8], decodings: &[u64], matches: &[u64]) -> bool
@@ -50,14 +43,12 @@ fn first_out_of_range(indices: &[u8], decodings: &[u64], matches: &[u64]) -> usi
     requires { (length decodings.now ≡ length indices.now) × (length matches.now ≡ length indices.now) }
     ensures { result ≡ first_out_of_range (table indices.now decodings.now matches.now) }
 {
-    let mut row = 0;
-    while row < indices.len() {
+    for row in 0..indices.len() {
         if out_of_range(indices[row], decodings[row], matches[row]) {
             return row;
         }
-        row += 1;
     }
-    row
+    indices.len()
 }
 
 // The decoding time of a layer's first row: that of the row at hand where the layer had none before.
@@ -78,9 +69,8 @@ fn first_broken(closure: u64, indices: &[u8], decodings: &[u64]) -> usize
 {
     let mut firsts = [0u64; 64];
     let mut least = [0u64; 64];
-    let mut row = 0;
-    while row < indices.len() {
-        let layer = indices[row] as usize;
+    for row in 0..indices.len() {
+        let layer = usize::from(indices[row]);
         if sets::member(closure, layer) {
             let time = decodings[row];
             let first = first_time(least[layer], firsts[layer], time);
@@ -94,31 +84,31 @@ fn first_broken(closure: u64, indices: &[u8], decodings: &[u64]) -> usize
             firsts[layer] = first;
             least[layer] = far + 1;
         }
-        row += 1;
     }
-    row
+    indices.len()
 }
 
-// THE CALL. How many rows there may be, the set of a closure's layer indices, and the three columns of a table, of any lengths.
+// THE CALL. How many rows there may be, the set of a closure's layer indices, and the three columns of a table, of any lengths. A table in range and in order is
+// accepted, and another is refused at the first row that is not; one of the wrong shape is out of range at row 0.
 pub fn judge(
     most: usize,
     closure: u64,
     indices: &[u8],
     decodings: &[u64],
     matches: &[u64],
-) -> Verdict
+) -> Result<(), Refusal>
     ensures { result ≡ verdict_of most (table indices.now decodings.now matches.now) closure }
 {
     if wrong_shape(most, indices, decodings, matches) {
-        return Verdict::OutOfRange(0);
+        return Err(Refusal::OutOfRange(0));
     }
     let outside = first_out_of_range(indices, decodings, matches);
     if outside < indices.len() {
-        return Verdict::OutOfRange(outside);
+        return Err(Refusal::OutOfRange(outside));
     }
     let broken = first_broken(closure, indices, decodings);
     if broken < indices.len() {
-        return Verdict::OrderBroken(broken);
+        return Err(Refusal::TimeOrderBroken(broken));
     }
-    Verdict::InOrder
+    Ok(())
 }

@@ -1,9 +1,8 @@
 -- What each packet of a recording gives, given for each layer the last packet before it on that layer's PID.
 -- Assumes nothing.
-use Rattle.std.specs.Prelude.{ℕ, suc, ◌+◌, ◌-◌, ◌*◌, ◌≤◌, ◌<◌, ◌≡◌, Bool, true, cond, ◌&&◌, List, [], ◌∷◌, eqb, ltb, length, get_or, set, take, drop, replicate}
+use Rattle.std.specs.Prelude.{ℕ, suc, ◌+◌, ◌-◌, ◌*◌, ◌≤◌, ◌<◌, ◌≡◌, Bool, true, cond, ◌&&◌, List, [], ◌∷◌, eqb, ltb, length, get_or, set, take, drop, replicate, Err, Ok}
 use Rattle.framing.specs.Pieces.{Item, whole, broken, cut}
-use Rattle.pes_reader.specs.declared.Answer.{Answer}
-use Rattle.pes_reader.specs.declared.Answer.TheVariants.{Read, Refused}
+use Rattle.pes_reader.specs.Answer.{Answer}
 use Rattle.pes_reader.specs.Reading.{read_of}
 use Rattle.packets.specs.Reading.{packet_bytes, in_header, packet_of}
 use Rattle.packets.specs.Judging.{lost_sync}
@@ -41,7 +40,7 @@ last_by Continues last packet = packet
 
 -- a row: layer index, decoding time, match time, whether a TREF was sent, the packet's number; or why the PES header is refused
 abbrev pub header_event : ℕ → ℕ → Answer → Event
-header_event layer packet (Read header) =
+header_event layer packet (Ok header) =
     Unit
     (record {
       layer = layer;
@@ -50,7 +49,7 @@ header_event layer packet (Read header) =
       tref_sent = header.tref_sent;
       packet = packet;
     })
-header_event layer packet (Refused refusal) = NotRead refusal
+header_event layer packet (Err refusal) = NotRead refusal
 
 abbrev pub step_event : ℕ → ℕ → List ℕ → Step → Event
 step_event layer k packet Skipped = Nothing

@@ -6,7 +6,7 @@ ghost use Rattle.scanning.specs.Events.{layers, last_by, header_event, step_even
 
 use continuity::Step;
 use packets::PACKET_BYTES;
-use pes_reader::Answer;
+use pes_reader::Header;
 use vocabulary::Refusal;
 
 // The place of a last packet that was kept of the bytes before these.
@@ -34,16 +34,13 @@ pub enum Event {
 fn start_of(end: usize) -> usize
     ensures { result ≡ end - packet_bytes }
 {
-    if end < PACKET_BYTES {
-        return 0;
-    }
-    end - PACKET_BYTES
+    end.saturating_sub(PACKET_BYTES)
 }
 
 pub fn pid_of(high: u8, low: u8) -> usize
     ensures { result ≡ high % 32 * 256 + low }
 {
-    (high as usize) % 32 * 256 + (low as usize)
+    usize::from(high) % 32 * 256 + usize::from(low)
 }
 
 // Where the last packet ends now: a packet that is skipped whole is none.
@@ -52,26 +49,23 @@ fn end_after(step: Step, end: usize, next: usize) -> usize
 {
     match step {
         Step::Skipped => end,
-        Step::Copy => next,
-        Step::Faulty(_) => next,
-        Step::Starts(_) => next,
-        Step::Continues => next,
+        Step::Copy | Step::Faulty(_) | Step::Starts(_) | Step::Continues => next,
     }
 }
 
 // The row of a unit that starts, or why its PES header is refused.
-fn header_event(layer: u8, packet: usize, answer: Answer) -> Event
+fn header_event(layer: u8, packet: usize, answer: Result<Header, Refusal>) -> Event
     ensures { result ≡ header_event layer packet answer }
 {
     match answer {
-        Answer::Read(header) => Event::Unit(Row {
+        Ok(header) => Event::Unit(Row {
             layer,
             decoding: header.times.decoding,
             matching: header.times.matching,
             tref_sent: header.tref_sent,
             packet,
         }),
-        Answer::Refused(refusal) => Event::NotRead(refusal),
+        Err(refusal) => Event::NotRead(refusal),
     }
 }
 
@@ -80,11 +74,9 @@ fn step_event(layer: u8, number: usize, packet: &[u8], step: Step) -> Event
     ensures { result ≡ step_event layer number packet.now step }
 {
     match step {
-        Step::Skipped => Event::Nothing,
-        Step::Copy => Event::Nothing,
+        Step::Skipped | Step::Copy | Step::Continues => Event::Nothing,
         Step::Faulty(fault) => Event::Fault(fault),
         Step::Starts(at) => header_event(layer, number, pes_reader::read(&packet[at..])),
-        Step::Continues => Event::Nothing,
     }
 }
 
@@ -128,7 +120,7 @@ pub fn look_at(
     if 63 < layer {
         return Event::Nothing;
     }
-    let slot = layer as usize;
+    let slot = usize::from(layer);
     let end = ends[slot];
     let given = follow_last(kept, bytes, slot, end, packet);
     ends[slot] = end_after(given, end, next);

@@ -4,7 +4,6 @@ ghost use Rattle.packets.specs.Reading.{packet_bytes};
 ghost use Rattle.scanning.specs.Events.{EndsWithin, Passes, begins_with, Runs};
 
 use super::events::pid_of;
-use combinators::lesser;
 use packets::PACKET_BYTES;
 
 // Whether a packet's first four bytes are the sync byte and three others.
@@ -37,6 +36,7 @@ fn run_from(bytes: &[u8], from: usize, packets: usize, second: u8, third: u8) ->
     requires { (from < packets) × (packet_bytes * packets ≤ length bytes.now) }
     ensures { Runs bytes.now second third from packets result }
 {
+    // A `while`: what is returned is the last packet of the run, one before the one that is looked at.
     let mut last = from;
     let mut fourth = bytes[PACKET_BYTES * from + 3];
     while last + 1 < packets {
@@ -83,7 +83,7 @@ fn pass_run(
     if 63 < layer {
         return from;
     }
-    let slot = layer as usize;
+    let slot = usize::from(layer);
     let end = ends[slot];
     if end != at + PACKET_BYTES {
         return from;
@@ -115,7 +115,7 @@ fn pass_one(
     if 63 < layer {
         return true;
     }
-    let slot = layer as usize;
+    let slot = usize::from(layer);
     let end = ends[slot];
     if end < PACKET_BYTES {
         return false;
@@ -139,14 +139,12 @@ fn pass_each(
     requires { (from ≤ packets) × (packet_bytes * packets ≤ length bytes.now) × EndsWithin kept.now bytes.now ends.old }
     ensures { Passes table.now kept.now bytes.now ends.old from packets result ends.new }
 {
-    let mut number = from;
-    while number < packets {
+    for number in from..packets {
         if !pass_one(table, kept, bytes, number, ends) {
             return number;
         }
-        number += 1;
     }
-    number
+    packets
 }
 
 // So many packets are passed over one after another before a run is looked for: where the PIDs change from packet to packet a run is rarely there, and looking for it after
@@ -165,9 +163,10 @@ pub fn skip(
     requires { (from ≤ packets) × (packet_bytes * packets ≤ length bytes.now) × EndsWithin kept.now bytes.now ends.old }
     ensures { Passes table.now kept.now bytes.now ends.old from packets result ends.new }
 {
+    // A `while`: a turn goes on behind the packets that it passed over.
     let mut number = from;
     while number < packets {
-        let until = lesser(packets, number + BETWEEN_RUNS);
+        let until = packets.min(number + BETWEEN_RUNS);
         let next = pass_each(table, kept, bytes, number, until, ends);
         if next < until {
             return next;

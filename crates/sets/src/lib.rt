@@ -3,6 +3,8 @@
 #![tactic(auto)]
 
 ghost use Rattle.std.specs.Prelude.{◌≡◌};
+ghost use Rattle.std.specs.Iterator.{YieldsFirst, item_count};
+ghost use Rattle.sets.specs.Left.{members_left};
 ghost use Rattle.sets.specs.Sets.{has, added, without as withoutOf, below as belowOf, lowest as lowestOf, rest as rest_of, size as size_of};
 
 // Whether `index` is a member; no index above 63 is.
@@ -57,6 +59,36 @@ pub fn rest(set: u64) -> u64
         return 0;
     }
     set & (set - 1)
+}
+
+// The members of a set that a walk has still to give, the lowest first.
+#[derive(Clone, Copy)]
+pub struct RisingMembers {
+    pub left: u64,
+}
+
+// The members of a set in rising order.
+pub fn rising(set: u64) -> RisingMembers
+    ensures { result ≡ record { left = set } }
+{
+    RisingMembers { left: set }
+}
+
+impl Iterator for RisingMembers {
+    type Item = u8;
+
+    ghost next_gives = { YieldsFirst members_left };
+
+    ghost remaining = { item_count members_left };
+
+    fn next(&mut self) -> Option<u8> {
+        if self.left == 0 {
+            return None;
+        }
+        let member = lowest(self.left);
+        self.left = rest(self.left);
+        Some(member)
+    }
 }
 
 // The number of members.

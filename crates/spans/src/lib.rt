@@ -14,12 +14,10 @@ fn start_of(closure: u64, indices: &[u8], decodings: &[u64]) -> u64
     requires { length decodings.now ≡ length indices.now }
     ensures { result ≡ start_of (table indices.now decodings.now []) closure }
 {
-    let mut row = 0;
-    while row < indices.len() {
-        if sets::member(closure, indices[row] as usize) {
+    for (row, &index) in indices.iter().enumerate() {
+        if sets::member(closure, usize::from(index)) {
             return decodings[row];
         }
-        row += 1;
     }
     0
 }
@@ -67,14 +65,12 @@ pub fn measure(closure: u64, indices: &[u8], decodings: &[u64], keys: &mut [u64]
     let start = start_of(closure, indices, decodings);
     let mut least = TICKS;
     let mut greatest = 0;
-    let mut row = 0;
-    while row < indices.len() {
+    for row in 0..indices.len() {
         let key = key_of(start, decodings[row]);
-        let counts = sets::member(closure, indices[row] as usize);
+        let counts = sets::member(closure, usize::from(indices[row]));
         keys[row] = key;
         least = lower(counts, key, least);
         greatest = raise(counts, key, greatest);
-        row += 1;
     }
     least + HALF <= greatest
 }

@@ -33,11 +33,11 @@ pub struct Stamps {
 fn joined(first: u8, second: u8, third: u8, fourth: u8, fifth: u8) -> u64
     ensures { result ≡ first / 2 % 8 * 2 ^ 30 + second * 2 ^ 22 + third / 2 * 2 ^ 15 + fourth * 2 ^ 7 + fifth / 2 }
 {
-    (first as u64) / 2 % 8 * 1073741824
-        + (second as u64) * 4194304
-        + (third as u64) / 2 * 32768
-        + (fourth as u64) * 128
-        + (fifth as u64) / 2
+    u64::from(first) / 2 % 8 * 1073741824
+        + u64::from(second) * 4194304
+        + u64::from(third) / 2 * 32768
+        + u64::from(fourth) * 128
+        + u64::from(fifth) / 2
 }
 
 // A time whose first four bits are not judged, as those of a TREF.
@@ -59,7 +59,7 @@ pub fn prefixed_by(prefix: u8, field: &[u8]) -> Stamp
     let stamp = unprefixed(field);
     Stamp {
         marked: (field[0] / 16 == prefix) & stamp.marked,
-        time: stamp.time,
+        ..stamp
     }
 }
 

@@ -1,14 +1,13 @@
 -- 'A set accepted here is accepted by both readings, with closure 0, 1.'
 -- Assumes nothing.
-use Rattle.std.specs.Prelude.{ℕ, ◌≡◌, ◌⊎◌, List, [], map}
+use Rattle.std.specs.Prelude.{ℕ, ◌≡◌, ◌⊎◌, List, [], map, Ok}
 use Rattle.std.proofs.Common.{sym, ◌∙◌, ap, subst, inl, inr, arith}
 use Rattle.combinators.specs.Lists.{Nth, nth_one}
 use Rattle.framing.specs.Pieces.{Item}
 use Rattle.vocabulary.specs.declared.stream_types.Reading.{Reading}
 use Rattle.vocabulary.specs.declared.stream_types.Reading.TheVariants.{Edition2009, Edition2015}
 use Rattle.loop_entries.specs.declared.Entry.{Entry}
-use Rattle.es_loop.specs.declared.reader.Outcome.{Outcome}
-use Rattle.es_loop.specs.declared.reader.Outcome.TheVariants.{Accepted}
+use Rattle.es_loop.specs.Answer.{Outcome}
 use Rattle.es_loop.specs.declared.reader.LoopRead.{LoopRead}
 use Rattle.loop_entries.specs.Entries.{stream_of, marked_streams}
 use Rattle.es_loop.specs.Reading.{accepted, loop_read}
@@ -68,7 +67,7 @@ module _ (bytes : List ℕ) {items : List Item} (a : Set.Accepts bytes items) {b
   closure_in Edition2009 target =
       ap (λ (x : Answer). x.closure) (identical_answer bytes in_2015 target (every target) (table [] [] []) (lists [] [] [])) ∙ closure_in_2015 target
 
-  accepted_in : (reading : Reading) → (loop_read reading bytes).outcome ≡ Accepted
+  accepted_in : (reading : Reading) → (loop_read reading bytes).outcome ≡ Ok tt
   accepted_in Edition2015 = in_2015
   accepted_in Edition2009 = accepted_in_2009 bytes in_2015
 
@@ -81,12 +80,12 @@ module _ (bytes : List ℕ) {items : List Item} (a : Set.Accepts bytes items) {b
       }
 
 -- THE LAW, of what is meant and of what is computed
-pub set_in_both : {bytes : List ℕ} {read : StereoRead} → Set.Answers bytes read → read.outcome ≡ Accepted → BothReadings bytes
+pub set_in_both : {bytes : List ℕ} {read : StereoRead} → Set.Answers bytes read → read.outcome ≡ Ok tt → BothReadings bytes
 set_in_both (Set.loop_refused l) e = let z : ◌≡◌ {A = ℕ} 0 1 = cc in absurd (omega arith)
 set_in_both (Set.not_the_two a none) e = let z : ◌≡◌ {A = ℕ} 0 1 = cc in absurd (omega arith)
 set_in_both (Set.wrong_extension a s w) e = let z : ◌≡◌ {A = ℕ} 0 1 = cc in absurd (omega arith)
 set_in_both (Set.wrong_ranges_lem a s h g w) e = let z : ◌≡◌ {A = ℕ} 0 1 = cc in absurd (omega arith)
 set_in_both {bytes} (Set.a_set a s h g w) e = two_readings bytes a s.two
 
-pub both_readings : (bytes : List ℕ) → (stereo_read bytes).outcome ≡ Accepted → BothReadings bytes
+pub both_readings : (bytes : List ℕ) → (stereo_read bytes).outcome ≡ Ok tt → BothReadings bytes
 both_readings bytes e = set_in_both (stereo_meant bytes) e

@@ -1,7 +1,7 @@
 -- ELSEWHERE TAG 49 IS SKIPPED: two loops that differ in nothing but their descriptors of tag 49, and in the lengths that count them, are read alike, in both readings; and so every
 -- answer that is made of a loop's reading is the same.
 -- Assumes nothing.
-use Rattle.std.specs.Prelude.{ℕ, ◌≤◌, ◌≡◌, refl, List, [], ◌∷◌, ◌++◌, map, eqb, ltb, length}
+use Rattle.std.specs.Prelude.{ℕ, ◌≤◌, ◌≡◌, refl, List, [], ◌∷◌, ◌++◌, map, eqb, ltb, length, Err}
 use Rattle.std.proofs.Common.{sym, ◌∙◌, ap₂, eqb-true, le-ltb}
 use Rattle.std.proofs.Math.Path.{ap}
 use mathlib.Core.Bool.{Bool, true, false, cond, not}
@@ -15,7 +15,6 @@ use Rattle.descriptors.specs.declared.looking.Seen.{Seen}
 use Rattle.extension.specs.Extension.{no_layer}
 use Rattle.descriptors.specs.Looking.{Kind, skipped, payload_kind, kind_of, Held, held_in, is_unfit, is_wrong_length, first_record, first_layers, seen_of_kinds, seen_of}
 use Rattle.loop_entries.specs.declared.Stream.{Stream}
-use Rattle.es_loop.specs.declared.verdict.Verdict.TheVariants.{Refused as Refuses}
 use Rattle.es_loop.specs.declared.reader.LoopRead.{LoopRead}
 use Rattle.loop_entries.specs.Entries.{stream_type, elementary_pid, es_info_length, seen_in, stream_of, marked_streams}
 use Rattle.es_loop.specs.Reading.{judged, answer_by, loop_read}
@@ -98,7 +97,7 @@ module _ (reading : Reading) where
           → loop_read reading l ≡ (let streams : List Stream = marked_streams (map (stream_of reading) (cut 5 es_info_length l)) in answer_by streams (judged streams))
       by l h =
           let streams : List Stream = marked_streams (map (stream_of reading) (cut 5 es_info_length l)) in
-          ap (λ (b : Bool). answer_by streams (cond b (Refuses LoopTooLong) (judged streams))) (le-ltb 1008 (length l) h)
+          ap (λ (b : Bool). answer_by streams (cond b (Err LoopTooLong) (judged streams))) (le-ltb 1008 (length l) h)
 
   -- and so is every answer that is made of it: the closure of a target,
   pub same_closure : (bytes bytes' : List ℕ) → length bytes ≤ 1008 → length bytes' ≤ 1008 → Alike (cut 5 es_info_length bytes) (cut 5 es_info_length bytes')

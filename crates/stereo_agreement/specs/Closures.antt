@@ -1,6 +1,6 @@
 -- The closures in a loop that has the two layers and no other.
 -- Assumes nothing.
-use Rattle.std.specs.Prelude.{ℕ, zero, suc, ◌<◌, ◌≡◌, refl, ◌⊎◌, true, List}
+use Rattle.std.specs.Prelude.{ℕ, zero, suc, ◌<◌, ◌≡◌, refl, ◌⊎◌, true, List, Ok}
 use Rattle.std.proofs.Common.{sym, ◌∙◌, ap, subst, inl, inr, ⊎_elim, arith}
 use Rattle.combinators.specs.Lists.{Nth, nth_one}
 use Rattle.combinators.specs.Members.{member}
@@ -8,7 +8,6 @@ use Rattle.sets.specs.Sets.{has}
 use Rattle.sets.proofs.Laws.{has_within}
 use Rattle.loop_entries.specs.declared.Entry.{Entry}
 use Rattle.closure.specs.declared.Layers.{Layers}
-use Rattle.closure.specs.declared.Closure.TheVariants.{Complete}
 use Rattle.closure.specs.Closures.{is_layer, closure_of}
 use Rattle.closure.specs.Meaning.{Names, RestsOn, itself, by, complete}
 use Rattle.closure.proofs.Meant.{closure_only}
@@ -83,7 +82,7 @@ module _ (entries : List Entry) {base second : Entry} (two : TwoLayers entries b
       ⊎_elim (λ p. absurd (base_names_none j (subst (λ (m : ℕ). Names layers m j) p n))) (λ p. inl (second_names j (subst (λ (m : ℕ). Names layers m j) p n))) (rests_1 r)
 
   -- OF TARGET 0 itself alone: the set whose only member is 0
-  pub closure_of_0 : closure_of layers 0 ≡ Complete 1
+  pub closure_of_0 : closure_of layers 0 ≡ Ok 1
   closure_of_0 = sym (closure_only layers 0 (complete base_there (record { members = λ j. (to j, from j); in_loop = λ j r. subst (λ (m : ℕ). is_layer layers m ≡ true) (sym (rests_0 r)) base_there })))
     where
       to : (j : ℕ) → has 1 j ≡ true → RestsOn layers 0 j
@@ -94,7 +93,7 @@ module _ (entries : List Entry) {base second : Entry} (two : TwoLayers entries b
       from j r = ap (has 1) (rests_0 r)
 
   -- OF TARGET 1 the two: the set whose members are 0 and 1
-  pub closure_of_1 : closure_of layers 1 ≡ Complete 3
+  pub closure_of_1 : closure_of layers 1 ≡ Ok 3
   closure_of_1 = sym (closure_only layers 1 (complete second_there (record { members = λ j. (to j, from j); in_loop = λ j r. there j (rests_1 r) })))
     where
       there : (j : ℕ) → (j ≡ 0) ⊎ (j ≡ 1) → is_layer layers j ≡ true

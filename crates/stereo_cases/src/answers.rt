@@ -1,123 +1,102 @@
 // What is printed: for a refusal its number and place, for a stereo set both views, the base first, each with the fields of its entry and of its MVC
 // extension descriptor.
-use cases::{say, say_number};
 use descriptors::{HierarchyRecord, Record};
-use es_loop::{Entry, Outcome};
+use es_loop::Entry;
 use mvc_extension::MvcExtension;
 use std::io::{Result, Write};
 use stereo_set::StereoRead;
 use vocabulary::Refusal;
 
-fn say_byte<W: Write>(out: &mut W, name: &[u8], value: u8) -> Result<()> {
-    say_number(out, name, value as u64)
-}
-
-fn say_wide<W: Write>(out: &mut W, name: &[u8], value: u16) -> Result<()> {
-    say_number(out, name, value as u64)
-}
-
-fn say_flag<W: Write>(out: &mut W, name: &[u8], value: bool) -> Result<()> {
-    if value {
-        say_number(out, name, 1)?;
-    } else {
-        say_number(out, name, 0)?;
-    }
-    Ok(())
-}
-
 fn print_hierarchy<W: Write>(out: &mut W, hierarchy: HierarchyRecord) -> Result<()> {
-    say(out, b" hierarchy")?;
-    say_flag(out, b" no_view ", hierarchy.no_view)?;
-    say_flag(out, b" no_temporal ", hierarchy.no_temporal)?;
-    say_flag(out, b" no_spatial ", hierarchy.no_spatial)?;
-    say_flag(out, b" no_quality ", hierarchy.no_quality)?;
-    say_byte(out, b" type ", hierarchy.hierarchy_type)?;
-    say_byte(out, b" index ", hierarchy.layer_index.0)?;
-    say_flag(out, b" tref ", hierarchy.tref_present_flag)?;
-    say_byte(out, b" embedded ", hierarchy.embedded_layer_index.0)?;
-    say_byte(out, b" channel ", hierarchy.channel.0)
+    let no_view = u8::from(hierarchy.no_view);
+    let no_temporal = u8::from(hierarchy.no_temporal);
+    let no_spatial = u8::from(hierarchy.no_spatial);
+    let no_quality = u8::from(hierarchy.no_quality);
+    write!(
+        out,
+        " hierarchy no_view {no_view} no_temporal {no_temporal} no_spatial {no_spatial} no_quality {no_quality}"
+    )?;
+    write!(
+        out,
+        " type {} index {} tref {} embedded {} channel {}",
+        hierarchy.hierarchy_type,
+        hierarchy.layer_index.0,
+        u8::from(hierarchy.tref_present_flag),
+        hierarchy.embedded_layer_index.0,
+        hierarchy.channel.0
+    )
 }
 
 // No view of a stereo set has another record.
 fn print_record<W: Write>(out: &mut W, record: Record) -> Result<()> {
     match record {
-        Record::NoRecord => say(out, b" no record")?,
-        Record::Hierarchy(hierarchy) => print_hierarchy(out, hierarchy)?,
-        Record::Extension(_) => say(out, b" extension")?,
-        Record::Implied => say(out, b" implied")?,
+        Record::NoRecord => out.write_all(b" no record"),
+        Record::Hierarchy(hierarchy) => print_hierarchy(out, hierarchy),
+        Record::Extension(_) => out.write_all(b" extension"),
+        Record::Implied => out.write_all(b" implied"),
     }
-    Ok(())
 }
 
 fn print_extension<W: Write>(out: &mut W, extension: MvcExtension) -> Result<()> {
-    say_wide(out, b" average ", extension.average_bit_rate)?;
-    say_wide(out, b" maximum ", extension.maximum_bitrate)?;
-    say_wide(out, b" views ", extension.view_order_index_min)?;
-    say_wide(out, b" to ", extension.view_order_index_max)?;
-    say_byte(out, b" temporal_ids ", extension.temporal_id_start)?;
-    say_byte(out, b" to ", extension.temporal_id_end)?;
-    say_flag(out, b" no_sei ", extension.no_sei_nal_unit_present)?;
-    say_flag(out, b" no_prefix ", extension.no_prefix_nal_unit_present)
+    write!(
+        out,
+        " average {} maximum {} views {} to {} temporal_ids {} to {}",
+        extension.average_bit_rate,
+        extension.maximum_bitrate,
+        extension.view_order_index_min,
+        extension.view_order_index_max,
+        extension.temporal_id_start,
+        extension.temporal_id_end
+    )?;
+    write!(
+        out,
+        " no_sei {} no_prefix {}",
+        u8::from(extension.no_sei_nal_unit_present),
+        u8::from(extension.no_prefix_nal_unit_present)
+    )
 }
 
 fn print_view<W: Write>(out: &mut W, entry: Entry, extension: MvcExtension) -> Result<()> {
-    let record = entry.record;
-    say_byte(out, b"  type ", entry.stream_type)?;
-    say_wide(out, b" pid ", entry.pid)?;
-    print_record(out, record)?;
+    write!(out, "  type {} pid {}", entry.stream_type, entry.pid)?;
+    print_record(out, entry.record)?;
     print_extension(out, extension)?;
-    say(out, b"\n")
+    out.write_all(b"\n")
 }
 
 fn print_refusal<W: Write>(out: &mut W, refusal: Refusal) -> Result<()> {
-    say_byte(out, b"refused ", vocabulary::number(refusal))?;
-    say_number(out, b" place ", vocabulary::place(refusal) as u64)
+    write!(
+        out,
+        "refused {} place {}\n",
+        vocabulary::number(refusal),
+        vocabulary::place(refusal)
+    )
 }
 
 // The whole answer of reading.
 pub fn print_read<W: Write>(out: &mut W, read: StereoRead) -> Result<()> {
     let outcome = read.outcome;
     match outcome {
-        Outcome::Accepted => {
-            say(out, b"accepted\n")?;
+        Ok(()) => {
+            out.write_all(b"accepted\n")?;
             print_view(out, read.base, read.base_extension)?;
-            print_view(out, read.second, read.second_extension)?;
+            print_view(out, read.second, read.second_extension)
         }
-        Outcome::Refused(refusal) => {
-            print_refusal(out, refusal)?;
-            say(out, b"\n")?;
-        }
+        Err(refusal) => print_refusal(out, refusal),
     }
-    Ok(())
 }
 
-fn print_byte<W: Write>(out: &mut W, byte: u8) -> Result<()> {
-    write!(out, " {byte:02x}")
-}
-
-fn print_bytes<W: Write>(out: &mut W, bytes: &[u8]) -> Result<()> {
-    let mut i = 0;
-    while i < bytes.len() {
-        print_byte(out, bytes[i])?;
-        i += 1;
-    }
-    Ok(())
-}
-
-// The answer of writing, as the function for C gives it.
-pub fn print_number<W: Write>(out: &mut W, answer: u64) -> Result<()> {
-    if answer % 256 == 0 {
-        say_number(out, b"bytes ", answer / 256)?;
+// The answer of writing, as the function for C gives it, and the buffer to its end.
+pub fn print_written<W: Write>(out: &mut W, answer: u64, buffer: &[u8]) -> Result<()> {
+    let number = answer % 256;
+    let count = answer / 256;
+    if number == 0 {
+        write!(out, "bytes {count}")?;
     } else {
-        say_number(out, b"refused ", answer % 256)?;
-        say_number(out, b" place ", answer / 256)?;
+        write!(out, "refused {number} place {count}")?;
     }
-    Ok(())
-}
-
-// The buffer to its end.
-pub fn print_left<W: Write>(out: &mut W, buffer: &[u8]) -> Result<()> {
-    say(out, b" leaves")?;
-    print_bytes(out, buffer)?;
-    say(out, b"\n")
+    out.write_all(b" leaves")?;
+    for byte in buffer {
+        write!(out, " {byte:02x}")?;
+    }
+    out.write_all(b"\n")
 }

@@ -25,103 +25,52 @@ mod answers;
 mod given;
 
 use cases::unreadable;
-use given::{ROW, ROWS};
+use given::Given;
 use std::io::{self, Result, Write};
-
-fn read_loop<W: Write>(out: &mut W, count: usize, room: [u8; 2048]) -> Result<()>
-    requires { count ≤ 2048 }
-{
-    answers::print_read(out, stereo_set::read_stereo(&room[..count]))
-}
 
 fn read_case<W: Write>(out: &mut W, words: &[u8]) -> Result<()> {
     let mut room = cases::empty_room();
-    let found = cases::read_bytes(words, &mut room);
-    if !found.readable {
-        return unreadable(out);
+    match cases::read_bytes(words, &mut room) {
+        Some(count) => answers::print_read(out, stereo_set::read_stereo(&room[..count])),
+        None => unreadable(out),
     }
-    read_loop(out, found.count, room)
 }
 
-fn write<W: Write>(out: &mut W, rows: &[u16], extensions: &[u16], buffer: &mut [u8]) -> Result<()> {
-    answers::print_number(
-        out,
-        thoquenry_stereo::thq_write_stereo(rows, extensions, buffer),
-    )?;
-    answers::print_left(out, buffer)
+// Each byte of the room holds 0xAA before.
+fn answer_written<W: Write>(out: &mut W, given: &Given, room: usize) -> Result<()>
+    requires { room ≤ 64 }
+{
+    let mut buffer = [0xAA; 64];
+    let buffer = &mut buffer[..room];
+    let answer = thoquenry_stereo::thq_write_stereo(
+        given.entries.numbers(),
+        &given.extensions,
+        buffer,
+    );
+    answers::print_written(out, answer, buffer)
 }
 
-// The lists cut to their lengths. A line without a room and two descriptors, or with more room than there is here, is none that can be read.
-fn write_loop<W: Write>(
-    out: &mut W,
-    words: usize,
-    room: u64,
-    extensions: [u16; 16],
-    count: usize,
-    rows: [u16; ROWS],
-) -> Result<()> {
-    let mut buffer = [0xAAu8; 64];
-    if words < 3 {
-        return unreadable(out);
+// A line with more room than there is here is none that can be read.
+fn write_case<W: Write>(out: &mut W, words: &[u8]) -> Result<()> {
+    match given::read(words) {
+        Some(given) if given.room <= 64 => answer_written(out, &given, given.room as usize),
+        _ => unreadable(out),
     }
-    if 64 < room {
-        return unreadable(out);
-    }
-    if 202 < count {
-        return unreadable(out);
-    }
-    let size = room as usize;
-    let length = count * ROW;
-    write(out, &rows[..length], &extensions, &mut buffer[..size])
-}
-
-fn write_case<W: Write>(out: &mut W, line: &[u8]) -> Result<()> {
-    let given = given::read(line);
-    if !given.readable {
-        return unreadable(out);
-    }
-    let extensions = given.extensions;
-    let rows = given.rows;
-    write_loop(out, given.words, given.room, extensions, given.count, rows)
-}
-
-fn answer_case<W: Write>(out: &mut W, line: &[u8]) -> Result<()> {
-    let kind = cases::first_part(b' ', line);
-    let size = kind.size;
-    let words = &line[size..];
-    if check::same(&line[..size], b"read") {
-        return read_case(out, words);
-    }
-    if check::same(&line[..size], b"write") {
-        return write_case(out, words);
-    }
-    unreadable(out)
 }
 
 fn answer_line<W: Write>(out: &mut W, line: &[u8]) -> Result<()> {
     if cases::is_comment(line) {
-        cases::copy(out, line)?;
-    } else {
-        answer_case(out, line)?;
+        return cases::copy(out, line);
     }
-    Ok(())
-}
-
-fn answer_lines<W: Write>(out: &mut W, text: &[u8]) -> Result<()> {
-    let mut at = 0;
-    while at < text.len() {
-        let rest = &text[at..];
-        let line = cases::first_part(b'\n', rest);
-        let size = line.size;
-        answer_line(out, &rest[..size])?;
-        at += line.step;
+    let size = cases::first_part(b' ', line).size;
+    let (kind, words) = line.split_at(size);
+    match kind {
+        b"read" => read_case(out, words),
+        b"write" => write_case(out, words),
+        _ => unreadable(out),
     }
-    Ok(())
 }
 
 fn main(rt: HostRuntime) -> Result<()> {
-    let mut buffer = [0u8; 65536];
-    let mut out = io::writer(&rt);
-    let count = cases::read_cases(&mut rt.reader(), &mut out, &mut buffer)?;
-    answer_lines(&mut out, &buffer[..count])
+    cases::answer_cases(&mut rt.reader(), &mut io::writer(&rt), answer_line)
 }

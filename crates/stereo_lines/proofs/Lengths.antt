@@ -1,5 +1,6 @@
 -- The room that the text needs: 333 bytes are enough for every loop.
 -- Assumes nothing.
+use Rattle.std.specs.Prelude.{Err, Ok}
 use Prim.Native.Nat.{ℕ, ◌≤◌}
 use mathlib.Core.List.{List}
 use mathlib.Core.Path.{◌≡◌}
@@ -9,8 +10,7 @@ use Rattle.text.specs.Text.{Laid}
 use Rattle.text.proofs.Laws.{decimal_length, shown_whole}
 use Rattle.vocabulary.specs.declared.refusal.Refusal.{Refusal}
 use Rattle.vocabulary.specs.Refusals.{number_of, place_of}
-use Rattle.es_loop.specs.declared.reader.Outcome.{Outcome}
-use Rattle.es_loop.specs.declared.reader.Outcome.TheVariants.{Accepted, Refused}
+use Rattle.es_loop.specs.Answer.{Outcome}
 use Rattle.mvc_extension.specs.declared.MvcExtension.{MvcExtension}
 use Rattle.stereo_set.specs.declared.set.StereoRead.{StereoRead}
 use Rattle.stereo_set.specs.Reading.{stereo_read}
@@ -38,8 +38,8 @@ unfolding stereo_text
 text_length bytes = go (stereo_read bytes).outcome
   where
     go : (outcome : Outcome) → length (read_text outcome (stereo_read bytes)) ≤ 333
-    go Accepted = set_length (stereo_read bytes)
-    go (Refused refusal) = refused_length refusal
+    go (Ok tt) = set_length (stereo_read bytes)
+    go (Err refusal) = refused_length refusal
 
 -- THE PROGRAM'S BUFFER: what was laid in from the front is the whole text, whatever the loop.
 pub whole_text : (bytes old : List ℕ) (next : ℕ) (new : List ℕ) → 333 ≤ length old → Laid old 0 (stereo_text bytes) next new → take next new ≡ stereo_text bytes

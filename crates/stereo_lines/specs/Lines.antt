@@ -1,8 +1,7 @@
 -- The lines that the program `stereo` prints: 'the two PIDs, ranges and rates, or the refusal'.
 -- Assumes nothing.
-use Rattle.std.specs.Prelude.{ℕ, List, ◌++◌}
-use Rattle.es_loop.specs.declared.reader.Outcome.{Outcome}
-use Rattle.es_loop.specs.declared.reader.Outcome.TheVariants.{Accepted, Refused}
+use Rattle.std.specs.Prelude.{ℕ, List, ◌++◌, Err, Ok}
+use Rattle.es_loop.specs.Answer.{Outcome}
 use Rattle.mvc_extension.specs.declared.MvcExtension.{MvcExtension}
 use Rattle.stereo_set.specs.declared.set.StereoRead.{StereoRead}
 use Rattle.stereo_set.specs.Reading.{stereo_read}
@@ -26,8 +25,8 @@ set_text read =
 
 -- 'A refusal prints only `refused N entry E`', as the program `layers` has it
 abbrev pub read_text : Outcome → StereoRead → List ℕ
-read_text Accepted read = set_text read
-read_text (Refused refusal) read = refused_text refusal
+read_text (Ok tt) read = set_text read
+read_text (Err refusal) read = refused_text refusal
 
 abbrev pub answer_text : StereoRead → List ℕ
 answer_text read = read_text read.outcome read

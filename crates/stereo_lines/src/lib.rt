@@ -5,7 +5,6 @@ ghost use Rattle.std.specs.Prelude.{ℕ};
 ghost use Rattle.text.specs.Text.{Laid};
 ghost use Rattle.stereo_lines.specs.Lines.{layer_line, set_text, stereo_text};
 
-use es_loop::Outcome;
 use listing::put_labelled;
 use mvc_extension::MvcExtension;
 use stereo_set::StereoRead;
@@ -48,7 +47,7 @@ pub fn put_stereo(out: &mut [u8], at: usize, bytes: &[u8]) -> usize
     let read = stereo_set::read_stereo(bytes);
     let outcome = read.outcome;
     match outcome {
-        Outcome::Accepted => put_set(out, at, read),
-        Outcome::Refused(refusal) => listing::put_refused(out, at, refusal),
+        Ok(()) => put_set(out, at, read),
+        Err(refusal) => listing::put_refused(out, at, refusal),
     }
 }

@@ -1,15 +1,13 @@
 -- READING WHAT WAS WRITTEN gives back what was given: of every call that is accepted, by the bytes that the buffer then holds.
 -- Assumes nothing.
 use Prim.Native.Nat.{ℕ, ◌+◌, ◌≤◌}
-use Rattle.std.specs.Prelude.{◌≡◌, refl, Bool, true, false, cond, List, ◌++◌, length, take, drop}
+use Rattle.std.specs.Prelude.{◌≡◌, refl, Bool, true, false, cond, List, ◌++◌, length, take, drop, Ok}
 use Rattle.std.proofs.Common.{sym, ◌∙◌, ap, subst, arith}
 use Rattle.std.proofs.Math.Seq.{take-append_seam}
 use Rattle.combinators.specs.Lists.{any}
 use Rattle.syntax.specs.Table.{fits}
 use Rattle.loop_entries.specs.declared.Entry.{Entry}
-use Rattle.es_loop.specs.declared.reader.Outcome.TheVariants.{Accepted}
-use Rattle.loop_writer.specs.declared.writer.Written.{Written}
-use Rattle.loop_writer.specs.declared.writer.Written.TheVariants.{Bytes}
+use Rattle.loop_writer.specs.Answer.{Written}
 use Rattle.loop_writer.specs.Layout.{too_wide}
 use Rattle.loop_round_trip.specs.ReadBack.{Typed}
 use Rattle.mvc_extension.specs.declared.MvcExtension.{MvcExtension}
@@ -26,11 +24,11 @@ use Rattle.stereo_round_trip.specs.ReadBack.{ReadBack}
 use Rattle.stereo_round_trip.proofs.SetBack.{loop_short, loop_back, set_back}
 
 pub read_back_set : (x y : MvcExtension) → fits mvc_extension_descriptor (mvc_extension_fields x) ≡ true → fits mvc_extension_descriptor (mvc_extension_fields y) ≡ true
-    → (entries : List Entry) → any too_wide entries ≡ false → Typed entries → {old new : List ℕ} {n : ℕ} → SetWriting.Answers x y entries old (Bytes n) new
+    → (entries : List Entry) → any too_wide entries ≡ false → Typed entries → {old new : List ℕ} {n : ℕ} → SetWriting.Answers x y entries old (Ok n) new
     → ReadBack x y entries (take n new)
 read_back_set x y fit_x fit_y entries fine typed {old} {new} {n} a = go a refl
   where
-    go : {w : Written} {left : List ℕ} → SetWriting.Answers x y entries old w left → w ≡ Bytes n → ReadBack x y entries (take n left)
+    go : {w : Written} {left : List ℕ} → SetWriting.Answers x y entries old w left → w ≡ Ok n → ReadBack x y entries (take n left)
     go (SetWriting.too_many h) e = let z : ◌≡◌ {A = ℕ} 0 1 = cc in absurd (omega arith)
     go (SetWriting.too_long_lem w h) e = let z : ◌≡◌ {A = ℕ} 0 1 = cc in absurd (omega arith)
     go (SetWriting.refuses f w h at-k lower earlier) e = let z : ◌≡◌ {A = ℕ} 0 1 = cc in absurd (omega arith)
@@ -53,7 +51,7 @@ read_back_set x y fit_x fit_y entries fine typed {old} {new} {n} a = go a refl
           the_set = set_back x y fit_x fit_y entries fine typed s two short right;
         })
       where
-        is_accepted : SetWriting.Sound x y entries → TwoLayers entries base second → (WrongRanges x y → ⊥) → (Rattle.stereo_writer.specs.Writing.set_for x y entries).outcome ≡ Accepted
+        is_accepted : SetWriting.Sound x y entries → TwoLayers entries base second → (WrongRanges x y → ⊥) → (Rattle.stereo_writer.specs.Writing.set_for x y entries).outcome ≡ Ok tt
         is_accepted s two right =
             ap (λ (r : StereoRead). r.outcome) (Rattle.stereo_writer.proofs.Judging.judged_by_two x y entries two)
             ∙ ap (λ (b : Bool). (cond b (Rattle.stereo_set.specs.Set.refused_set Rattle.vocabulary.specs.declared.refusal.Refusal.TheVariants.RangesMeet) (accepted_set base x second y)).outcome)

@@ -1,6 +1,6 @@
 -- REWRITING: for a loop in the writer's own shape that holds a stereo set, writing the entries and the two descriptors that reading answers gives the same bytes.
 -- Assumes nothing.
-use Rattle.std.specs.Prelude.{ℕ, zero, suc, ◌+◌, ◌≤◌, ◌≡◌, refl, ◌⊎◌, Bool, true, false, cond, List, [], ◌∷◌, ◌++◌, map, length, take, drop}
+use Rattle.std.specs.Prelude.{ℕ, zero, suc, ◌+◌, ◌≤◌, ◌≡◌, refl, ◌⊎◌, Bool, true, false, cond, List, [], ◌∷◌, ◌++◌, map, length, take, drop, Ok}
 use Rattle.std.proofs.Common.{sym, ◌∙◌, ap, ap₂, subst, inl, inr, append-nil, append_assoc, arith, length-take}
 use Rattle.combinators.specs.Bools.{false_unless}
 use Rattle.combinators.specs.Lists.{Nth, here, there, nth_map, nth_one, nth_get_d, any, gather}
@@ -13,7 +13,6 @@ use Rattle.vocabulary.specs.declared.refusal.Refusal.TheVariants.{RangesMeet}
 use Rattle.descriptor_heads.specs.Head.{descriptor_head, descriptor_tag, descriptor_length}
 use Rattle.records.specs.Records.{is_layer}
 use Rattle.loop_entries.specs.declared.Entry.{Entry}
-use Rattle.es_loop.specs.declared.reader.Outcome.TheVariants.{Accepted}
 use Rattle.es_loop.specs.declared.reader.LoopRead.{LoopRead}
 use Rattle.loop_entries.specs.Entries.{entry_head, stream_type, elementary_pid, es_info_length, stream_of, pair_of, marked_stream, marked_streams, entry_of, blank_entry}
 use Rattle.es_loop.specs.Reading.{loop_read}
@@ -21,8 +20,7 @@ use Rattle.es_loop.specs.Meaning as Read
 use Rattle.es_loop.proofs.Meant.{by_head, answer_only}
 use Rattle.loop_layers.specs.Closures.{entries_read}
 use Rattle.loop_layers.proofs.Meant.{entries_read_lem}
-use Rattle.loop_writer.specs.declared.writer.Written.{Written}
-use Rattle.loop_writer.specs.declared.writer.Written.TheVariants.{Bytes}
+use Rattle.loop_writer.specs.Answer.{Written}
 use Rattle.loop_writer.specs.Layout.{entry_head_table, info_bytes, loop_bytes, too_wide}
 use Rattle.loop_writer.specs.Writing.{answer}
 use Rattle.loop_writer.specs.Meaning as Loop
@@ -150,10 +148,10 @@ module _ (bytes : List ℕ) (b : AreBytes bytes) (items : List Item) (own : OwnI
   own_loop : OwnShape loop
   own_loop k i n = bared.own k i (subst (λ (l : List Item). Nth l k i) cut_bare n)
 
-  accepted_there : read.outcome ≡ Accepted
+  accepted_there : read.outcome ≡ Ok tt
   accepted_there = ap (λ (r : LoopRead). r.outcome) (same ∙ is_read)
 
-  plain_again : (answer (length loop) read.count read.entries ≡ Bytes (length loop)) × (loop_bytes (take read.count read.entries) ≡ loop)
+  plain_again : (answer (length loop) read.count read.entries ≡ Ok (length loop)) × (loop_bytes (take read.count read.entries) ≡ loop)
   plain_again = rewrite loop bared.in_bytes own_loop accepted_there (length loop) (omega arith)
 
   same_entries : take read.count read.entries ≡ entries
@@ -258,7 +256,7 @@ module _ (bytes : List ℕ) (b : AreBytes bytes) (items : List Item) (own : OwnI
   given_two : TwoLayers entries base second
   given_two = subst (λ (l : List Entry). TwoLayers l base second) (sym as_answered) two
 
-  is_set : (set_for x y entries).outcome ≡ Accepted
+  is_set : (set_for x y entries).outcome ≡ Ok tt
   is_set =
       ap (λ (r : StereoRead). r.outcome) (judged_by_two x y entries given_two)
       ∙ ap (λ (w : Bool). (cond w (refused_set RangesMeet) (accepted_set base x second y)).outcome) (false_unless (wrong_ranges x y) (λ t. right (ranges_meant x y t)))
@@ -266,7 +264,7 @@ module _ (bytes : List ℕ) (b : AreBytes bytes) (items : List Item) (own : OwnI
   none_applies : (n k : ℕ) → Loop.Condition entries n k → ⊥
   none_applies n k c = go (LoopWriter.answer_meant read.count read.entries loop) plain_again.0 (subst (λ (l : List Entry). Loop.Condition l n k) (sym same_entries) c)
     where
-      go : {w : Written} {new : List ℕ} → Loop.Answers read.count read.entries loop w new → w ≡ Bytes (length loop) → Loop.Condition (take read.count read.entries) n k → ⊥
+      go : {w : Written} {new : List ℕ} → Loop.Answers read.count read.entries loop w new → w ≡ Ok (length loop) → Loop.Condition (take read.count read.entries) n k → ⊥
       go (Loop.too_wide_lem h) e c = let z : ◌≡◌ {A = ℕ} 0 1 = cc in absurd (omega arith)
       go (Loop.too_many each h) e c = let z : ◌≡◌ {A = ℕ} 0 1 = cc in absurd (omega arith)
       go (Loop.too_long_lem each w h) e c = let z : ◌≡◌ {A = ℕ} 0 1 = cc in absurd (omega arith)
@@ -290,16 +288,16 @@ module _ (bytes : List ℕ) (b : AreBytes bytes) (items : List Item) (own : OwnI
   fit_y : fits mvc_extension_descriptor (mvc_extension_fields y) ≡ true
   fit_y = sym (ap (λ (z : MvcExtension). fits mvc_extension_descriptor (mvc_extension_fields z)) has_y.says) ∙ extension_fit has_y.payload
 
-  pub written_again : (old : List ℕ) → length bytes ≤ length old → SetWriting.Answers x y entries old (Bytes (length bytes)) (bytes ++ drop (length bytes) old)
+  pub written_again : (old : List ℕ) → length bytes ≤ length old → SetWriting.Answers x y entries old (Ok (length bytes)) (bytes ++ drop (length bytes) old)
   written_again old room =
-      subst (λ (l : List ℕ). SetWriting.Answers x y entries old (Bytes (length l)) (l ++ drop (length l) old)) set_again
+      subst (λ (l : List ℕ). SetWriting.Answers x y entries old (Ok (length l)) (l ++ drop (length l) old)) set_again
       (SetWriting.accepts sound given_two right (set_bytes_meant x y fit_x fit_y entries fine (each_case given_two)) (let l = ap length set_again in omega arith))
 
-pub rewrite_set : (bytes : List ℕ) → AreBytes bytes → OwnSet bytes → (stereo_read bytes).outcome ≡ Accepted → (old : List ℕ) → length bytes ≤ length old
+pub rewrite_set : (bytes : List ℕ) → AreBytes bytes → OwnSet bytes → (stereo_read bytes).outcome ≡ Ok tt → (old : List ℕ) → length bytes ≤ length old
     → WrittenAgain bytes (stereo_read bytes) old
 rewrite_set bytes b own ok old room = go (stereo_meant bytes) ok
   where
-    go : {read : StereoRead} → Set.Answers bytes read → read.outcome ≡ Accepted → WrittenAgain bytes read old
+    go : {read : StereoRead} → Set.Answers bytes read → read.outcome ≡ Ok tt → WrittenAgain bytes read old
     go (Set.loop_refused a) e = let z : ◌≡◌ {A = ℕ} 0 1 = cc in absurd (omega arith)
     go (Set.not_the_two a none) e = let z : ◌≡◌ {A = ℕ} 0 1 = cc in absurd (omega arith)
     go (Set.wrong_extension a l w) e = let z : ◌≡◌ {A = ℕ} 0 1 = cc in absurd (omega arith)

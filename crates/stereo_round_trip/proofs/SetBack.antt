@@ -2,7 +2,7 @@
 -- descriptors. ReadBack has the law of every call.
 -- Assumes nothing.
 use Prim.Native.Nat.{ℕ, ◌+◌, ◌≤◌}
-use Rattle.std.specs.Prelude.{◌≡◌, refl, ◌⊎◌, Bool, true, false, cond, List, [], ◌∷◌, ◌++◌, map, length, take}
+use Rattle.std.specs.Prelude.{◌≡◌, refl, ◌⊎◌, Bool, true, false, cond, List, [], ◌∷◌, ◌++◌, map, length, take, Ok}
 use Rattle.std.proofs.Common.{sym, ◌∙◌, ap, subst, inl, inr, ⊎_elim, arith, take_at, take_all}
 use Rattle.std.proofs.lemmas.List.{length-map}
 use Rattle.combinators.specs.Bools.{apart, neither_left, neither_right}
@@ -18,7 +18,6 @@ use Rattle.records.specs.declared.Record.TheVariants.{NoRecord, Hierarchy, Exten
 use Rattle.records.specs.Records.{is_layer, named}
 use Rattle.judging.specs.Meaning.{extension_on_avc, extension_on_mvc}
 use Rattle.loop_entries.specs.declared.Entry.{Entry}
-use Rattle.es_loop.specs.declared.reader.Outcome.TheVariants.{Accepted}
 use Rattle.es_loop.specs.declared.reader.LoopRead.{LoopRead}
 use Rattle.loop_entries.specs.Entries.{es_info_length, blank_entry, stream_of, marked_streams}
 use Rattle.es_loop.specs.Reading.{loop_read}
@@ -26,7 +25,6 @@ use Rattle.es_loop.specs.Meaning as Read
 use Rattle.es_loop.proofs.Meant.{by_head, answer_meant, answer_only}
 use Rattle.loop_layers.specs.Closures.{entries_read}
 use Rattle.loop_layers.proofs.Meant.{entries_read_lem}
-use Rattle.loop_writer.specs.declared.writer.Written.TheVariants.{Bytes}
 use Rattle.loop_writer.specs.Layout.{info_bytes, loop_bytes, too_wide}
 use Rattle.loop_writer.specs.Writing.{answer}
 use Rattle.loop_writer.specs.Meaning as Loop
@@ -176,20 +174,20 @@ module _ (x y : MvcExtension) (fit_x : fits mvc_extension_descriptor (mvc_extens
     given_all : take (length entries) entries ≡ entries
     given_all = take_all (length entries) entries (omega arith)
 
-    written_plain : answer (length (loop_bytes entries)) (length entries) entries ≡ Bytes (length (loop_bytes entries))
+    written_plain : answer (length (loop_bytes entries)) (length entries) entries ≡ Ok (length (loop_bytes entries))
     written_plain = judged_alike x y entries fine sound.few loop_short ∙ sound_only x y entries fine sound.few loop_short sound
 
     -- THE LOOP gives back every entry, with blanks in each array beyond its count,
     pub loop_back : loop_read Edition2015 bytes ≡ whole_read entries
     loop_back =
         sym as_plain
-        ∙ subst (λ (l : List Entry). loop_read Edition2015 (loop_bytes l) ≡ record { outcome = Accepted; count = length l; entries = pad_to 201 blank_entry (map normal l) }) given_all
+        ∙ subst (λ (l : List Entry). loop_read Edition2015 (loop_bytes l) ≡ record { outcome = Ok tt; count = length l; entries = pad_to 201 blank_entry (map normal l) }) given_all
         (read_back (length (loop_bytes entries)) (length entries) entries (subst Typed (sym given_all) typed) written_plain)
 
     accepts_there : Accepts bytes items
     accepts_there = go (answer_meant Edition2015 bytes) (ap (λ (r : LoopRead). r.outcome) loop_back)
       where
-        go : {r : LoopRead} → Read.Answers Edition2015 bytes r → r.outcome ≡ Accepted → Accepts bytes items
+        go : {r : LoopRead} → Read.Answers Edition2015 bytes r → r.outcome ≡ Ok tt → Accepts bytes items
         go (Read.too_long_lem h) e = let z : ◌≡◌ {A = ℕ} 0 1 = cc in absurd (omega arith)
         go (Read.refuses s c at-k lower earlier) e = let z : ◌≡◌ {A = ℕ} 0 1 = cc in absurd (omega arith)
         go (Read.accepts {entries = l} s c none) e =

@@ -1,5 +1,6 @@
 -- The layers of a loop judged as a set, wherever they come from: two layers as they are meant decide it, and where there are none it is 44.
 -- Assumes nothing.
+use Rattle.std.specs.Prelude.{Err, Ok}
 use Prim.Native.Nat.{ℕ, ◌<◌}
 use mathlib.Core.Path.{◌≡◌, refl, sym, ◌∙◌, ap, subst}
 use mathlib.Core.Logic.{◌⊎◌, inl, inr}
@@ -14,8 +15,7 @@ use Rattle.vocabulary.specs.declared.refusal.Refusal.TheVariants.{NotStereoSet, 
 use Rattle.records.specs.Records.{is_layer, index_of, named}
 use Rattle.judging.specs.Judging.{type_not_allowed, wrong_embedded}
 use Rattle.loop_entries.specs.declared.Entry.{Entry}
-use Rattle.es_loop.specs.declared.reader.Outcome.{Outcome}
-use Rattle.es_loop.specs.declared.reader.Outcome.TheVariants.{Accepted, Refused}
+use Rattle.es_loop.specs.Answer.{Outcome}
 use Rattle.mvc_extension.specs.declared.MvcExtension.{MvcExtension}
 use Rattle.mvc_extension.specs.Ranges.{wrong_ranges}
 use Rattle.mvc_descriptors.specs.declared.Found.{Found}
@@ -180,8 +180,8 @@ module _ (vs : List View) where
 
     -- what is judged by two layers is not 44
     abbrev NotFortyFour : Outcome → Type 0
-    NotFortyFour Accepted = Unit {0}
-    NotFortyFour (Refused r) = r ≡ NotStereoSet → ⊥
+    NotFortyFour (Ok tt) = Unit {0}
+    NotFortyFour (Err r) = r ≡ NotStereoSet → ⊥
 
     forty_five : WrongMvcExtension ≡ NotStereoSet → ⊥
     forty_five e = let z : ◌≡◌ {A = ℕ} 0 1 = cc in omega arith

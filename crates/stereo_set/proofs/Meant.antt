@@ -1,5 +1,7 @@
 -- The laws that join the meaning of reading a stereo set to what is computed, both ways.
 -- Assumes nothing.
+use Rattle.std.specs.Prelude.{Err, Ok}
+use Rattle.es_loop.specs.Answer.{Outcome, Verdict, entries_judged}
 use Prim.Native.Nat.{ℕ, ◌<◌}
 use mathlib.Core.Path.{◌≡◌, refl, sym, ◌∙◌, ap, subst}
 use mathlib.Core.Logic.{◌⊎◌, inl, inr}
@@ -18,16 +20,13 @@ use Rattle.records.specs.Records.{is_layer}
 use Rattle.judging.specs.Judging.{type_not_allowed, wrong_embedded}
 use Rattle.loop_entries.specs.declared.Entry.{Entry}
 use Rattle.loop_entries.specs.declared.Stream.{Stream}
-use Rattle.es_loop.specs.declared.verdict.Verdict.{Verdict}
-use Rattle.es_loop.specs.declared.verdict.Verdict.TheVariants.{Entries, Refused as Refuses}
-use Rattle.es_loop.specs.declared.reader.Outcome.TheVariants.{Accepted, Refused}
 use Rattle.es_loop.specs.declared.reader.LoopRead.{LoopRead}
 use Rattle.loop_entries.specs.Entries.{es_info_length, no_stream, stream_of, pair_of, marked_stream, marked_streams, streams_of, entry_of}
 use Rattle.loop_faults.specs.Conditions.{stream_at, given_at, applies}
 use Rattle.es_loop.specs.Reading.{refused_with, accepted, answer_by, verdict_of, loop_read}
 use Rattle.es_loop.specs.Meaning as Loop
 use Rattle.es_loop.proofs.Meant.{by_head, answer_meant, answer_only}
-use Rattle.es_loop.proofs.Judged.{sound}
+use Rattle.es_loop.proofs.Verdicts.{sound}
 use Rattle.mvc_extension.specs.declared.MvcExtension.{MvcExtension}
 use Rattle.mvc_extension.specs.Ranges.{wrong_ranges}
 use Rattle.mvc_extension.proofs.RangesMeant.{ranges_meant, ranges_only}
@@ -165,17 +164,17 @@ module _ (bytes : List ℕ) where
   cut_items = cut 5 es_info_length bytes
 
   -- a loop that is accepted, in the meaning and in the verdict
-  never_accepted : {A : Type 0} {r : Refusal} {read : LoopRead} → read ≡ refused_with r → read.outcome ≡ Accepted → A
+  never_accepted : {A : Type 0} {r : Refusal} {read : LoopRead} → read ≡ refused_with r → read.outcome ≡ Ok tt → A
   never_accepted {A} {r} {read} e o = go (sym (ap (λ (x : LoopRead). x.outcome) e) ∙ o)
     where
-      go : Refused r ≡ Accepted → A
+      go : ◌≡◌ {A = Outcome} (Err r) (Ok tt) → A
       go q = let z : ◌≡◌ {A = ℕ} 0 1 = cc in absurd (omega arith)
 
   record AcceptsSome : Type 0 where
     pub items : List Item
     pub accepts : Accepts bytes items
 
-  accepts_by : (read : LoopRead) → Loop.Answers Edition2015 bytes read → read.outcome ≡ Accepted → AcceptsSome
+  accepts_by : (read : LoopRead) → Loop.Answers Edition2015 bytes read → read.outcome ≡ Ok tt → AcceptsSome
   accepts_by read (Loop.too_long_lem h) o = never_accepted refl o
   accepts_by read (Loop.refuses short cuts at_entry_lem lower earlier) o = never_accepted refl o
   accepts_by read (Loop.accepts {entries} short cuts none) o = record { items = entries; accepts = record { short = short; cuts = cuts; sound = none } }
@@ -183,13 +182,13 @@ module _ (bytes : List ℕ) where
   same_items : {items : List Item} → Accepts bytes items → items ≡ cut_items
   same_items a = cuts_unique 5 es_info_length (omega arith) by_head a.cuts
 
-  accepts_cut : (count : ℕ) (p : Bool) → verdict_of Edition2015 bytes ≡ Entries count p → Accepts bytes cut_items
+  accepts_cut : (count : ℕ) (p : Bool) → verdict_of Edition2015 bytes ≡ entries_judged count p → Accepts bytes cut_items
   accepts_cut count p e =
       let some = accepts_by (loop_read Edition2015 bytes) (answer_meant Edition2015 bytes)
       (ap (λ (v : Verdict). (answer_by (streams_of Edition2015 bytes) v).outcome) e) in
       subst (Accepts bytes) (same_items some.accepts) some.accepts
 
-  none_applies : (count : ℕ) (p : Bool) → verdict_of Edition2015 bytes ≡ Entries count p
+  none_applies : (count : ℕ) (p : Bool) → verdict_of Edition2015 bytes ≡ entries_judged count p
       → (n k : ℕ) → n < 10 → k < length (streams cut_items) → applies (streams cut_items) n k ≡ false
   none_applies count p e = (sound Edition2015 bytes count p e).none
 
@@ -220,15 +219,15 @@ module _ (bytes : List ℕ) where
       by_case a (a_set_there two) = described a two
 
       by_verdict : (v : Verdict) → verdict_of Edition2015 bytes ≡ v → Answers bytes (stereo_by bytes v)
-      by_verdict (Refuses r) e =
+      by_verdict (Err r) e =
           loop_refused (subst (Loop.Answers Edition2015 bytes) (ap (answer_by (streams_of Edition2015 bytes)) e) (answer_meant Edition2015 bytes))
-      by_verdict (Entries count p) e = by_case (accepts_cut count p e) (loop_case cut_items (none_applies count p e))
+      by_verdict (Ok judged) e = by_case (accepts_cut judged.count judged.pair e) (loop_case cut_items (none_applies judged.count judged.pair e))
 
   -- AND NO OTHER ANSWER HAS IT.
   same_refusal : {r q : Refusal} → refused_with r ≡ refused_with q → r ≡ q
   same_refusal {r} {q} e = go (ap (λ (x : LoopRead). x.outcome) e)
     where
-      go : Refused r ≡ Refused q → r ≡ q
+      go : ◌≡◌ {A = Outcome} (Err r) (Err q) → r ≡ q
       go p = cc
 
   -- a loop that is accepted is judged as a set
@@ -241,11 +240,11 @@ module _ (bytes : List ℕ) where
 
       go : (v : Verdict) → verdict_of Edition2015 bytes ≡ v
           → (stereo_read bytes ≡ set_of (layers_among (views_of items))) × LoopCase items (set_of (layers_among (views_of items)))
-      go (Refuses r) e =
+      go (Err r) e =
           never_accepted (ap (answer_by (streams_of Edition2015 bytes)) e) (sym (ap (λ (x : LoopRead). x.outcome) read))
-      go (Entries count p) e = (
+      go (Ok judged) e = (
         ap (stereo_by bytes) e ∙ ap (λ (l : List Item). set_of (layers_among (views_of l))) (sym (same_items a)),
-        subst (λ (l : List Item). LoopCase l (set_of (layers_among (views_of l)))) (sym (same_items a)) (loop_case cut_items (none_applies count p e)),
+        subst (λ (l : List Item). LoopCase l (set_of (layers_among (views_of l)))) (sym (same_items a)) (loop_case cut_items (none_applies judged.count judged.pair e)),
       )
 
   -- what is judged by two layers, by what each has
@@ -260,8 +259,8 @@ module _ (bytes : List ℕ) where
       read = answer_only Edition2015 bytes l
 
       go : (v : Verdict) → verdict_of Edition2015 bytes ≡ v → refused_set refusal ≡ stereo_read bytes
-      go (Refuses r) e = ap refused_set (same_refusal (read ∙ ap (answer_by (streams_of Edition2015 bytes)) e)) ∙ sym (ap (stereo_by bytes) e)
-      go (Entries count p) e = never_accepted (sym read) (ap (λ (v : Verdict). (answer_by (streams_of Edition2015 bytes) v).outcome) e)
+      go (Err r) e = ap refused_set (same_refusal (read ∙ ap (answer_by (streams_of Edition2015 bytes)) e)) ∙ sym (ap (stereo_by bytes) e)
+      go (Ok judged) e = never_accepted (sym read) (ap (λ (v : Verdict). (answer_by (streams_of Edition2015 bytes) v).outcome) e)
   stereo_only (not_the_two {items} a none) = sym ((judged_set_of a).0 ∙ go (judged_set_of a).1)
     where
       go : {r : StereoRead} → LoopCase items r → r ≡ refused_set NotStereoSet

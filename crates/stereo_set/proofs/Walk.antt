@@ -1,5 +1,6 @@
 -- The second walk through the bytes of a loop that was accepted: each turn meets a whole entry, with its descriptor bytes.
 -- Assumes nothing.
+use Rattle.es_loop.specs.Answer.{entries_judged}
 use Prim.Native.Nat.{ℕ, ◌+◌, ◌-◌, ◌≤◌, ◌<◌}
 use mathlib.Core.Path.{◌≡◌, refl, sym, ◌∙◌, ap}
 use mathlib.Core.Bool.{Bool, true, false}
@@ -12,10 +13,9 @@ use lib.Seq.{drop-drop, take-take, take-add, drop_at, length-take-le}
 use Rattle.combinators.specs.Lists.{part_to_end}
 use Rattle.framing.specs.Pieces.{whole, cut, cut_piece}
 use Rattle.vocabulary.specs.declared.stream_types.Reading.TheVariants.{Edition2015}
-use Rattle.es_loop.specs.declared.verdict.Verdict.TheVariants.{Entries}
 use Rattle.loop_entries.specs.Entries.{es_info_length, size_of, pair_of, streams_alone, streams_of}
 use Rattle.es_loop.specs.Reading.{verdict_of}
-use Rattle.es_loop.proofs.Judged.{Sound, sound}
+use Rattle.es_loop.proofs.Verdicts.{Sound, sound}
 use Rattle.loop_entries.proofs.Front.{left_at, left_long}
 use Rattle.es_loop.proofs.Walk.{Cursor, cursor_start, size_5, size_fits, next_here}
 use Rattle.stereo_set.specs.declared.views.View.{View}
@@ -31,9 +31,9 @@ module _ (bytes : List ℕ) where
   standing_first = record { count = 0; cursor = cursor_start Edition2015 bytes }
 
   -- a loop that was accepted has all its entries
-  pub counted_verdict : {total : ℕ} {pair : Bool} → verdict_of Edition2015 bytes ≡ Entries total pair
-      → verdict_of Edition2015 bytes ≡ Entries (length (streams_of Edition2015 bytes)) pair
-  counted_verdict {total} {pair} e = e ∙ ap (λ (n : ℕ). Entries n pair) (sound Edition2015 bytes total pair e).counted
+  pub counted_verdict : {total : ℕ} {pair : Bool} → verdict_of Edition2015 bytes ≡ entries_judged total pair
+      → verdict_of Edition2015 bytes ≡ entries_judged (length (streams_of Edition2015 bytes)) pair
+  counted_verdict {total} {pair} e = e ∙ ap (λ (n : ℕ). entries_judged n pair) (sound Edition2015 bytes total pair e).counted
 
   -- the entries that are left, with the marks of the whole loop
   abbrev pub views_from : ℕ → List View
@@ -74,7 +74,7 @@ module _ (bytes : List ℕ) where
     pub front : views_from at ≡ view_at pair at size ∷ views_from (at + size)
     pub next : Standing (at + size)
 
-  pub turn : {total : ℕ} {pair : Bool} → verdict_of Edition2015 bytes ≡ Entries total pair → (at : ℕ) → Standing at → at < length bytes → (size : ℕ)
+  pub turn : {total : ℕ} {pair : Bool} → verdict_of Edition2015 bytes ≡ entries_judged total pair → (at : ℕ) → Standing at → at < length bytes → (size : ℕ)
       → size ≡ size_of (left_at Edition2015 bytes at) → Turn pair at size
   turn {total} {pair} accepted at standing more size is-size =
       let count : ℕ = standing.count in

@@ -1,10 +1,9 @@
 -- WHAT READING A STEREO SET ANSWERS, straight from a loop's bytes: the loop's own refusal under the 2015 reading, or its layers judged.
 -- Assumes nothing.
-use Rattle.std.specs.Prelude.{ℕ, Bool, List, [], map}
+use Rattle.std.specs.Prelude.{ℕ, Bool, List, [], map, Err, Ok}
 use Rattle.framing.specs.Pieces.{Item, whole, broken, cut}
 use Rattle.vocabulary.specs.declared.stream_types.Reading.TheVariants.{Edition2015}
-use Rattle.es_loop.specs.declared.verdict.Verdict.{Verdict}
-use Rattle.es_loop.specs.declared.verdict.Verdict.TheVariants.{Entries, Refused}
+use Rattle.es_loop.specs.Answer.{Verdict}
 use Rattle.loop_entries.specs.Entries.{es_info_length, stream_of, pair_of, marked_stream, entry_of}
 use Rattle.es_loop.specs.Reading.{verdict_of}
 use Rattle.mvc_descriptors.specs.Finding.{extension_in}
@@ -29,8 +28,8 @@ abbrev pub views_in : List ℕ → List View
 views_in bytes = views_of (cut 5 es_info_length bytes)
 
 abbrev pub stereo_by : List ℕ → Verdict → StereoRead
-stereo_by bytes (Refused r) = refused_set r
-stereo_by bytes (Entries count pair) = set_of (layers_among (views_in bytes))
+stereo_by bytes (Err r) = refused_set r
+stereo_by bytes (Ok judged) = set_of (layers_among (views_in bytes))
 
 abbrev pub stereo_read : List ℕ → StereoRead
 stereo_read bytes = stereo_by bytes (verdict_of Edition2015 bytes)

@@ -1,10 +1,9 @@
 -- THE LAYERS JUDGED as a stereo set: 44, then 45, then 46, or the set.
 -- Assumes nothing.
-use Rattle.std.specs.Prelude.{false, cond, ◌&&◌, List, [], ◌∷◌, eqb}
+use Rattle.std.specs.Prelude.{false, cond, ◌&&◌, List, [], ◌∷◌, eqb, Err, Ok}
 use Rattle.vocabulary.specs.declared.refusal.Refusal.{Refusal}
 use Rattle.vocabulary.specs.declared.refusal.Refusal.TheVariants.{NotStereoSet, WrongMvcExtension, RangesMeet}
 use Rattle.loop_entries.specs.declared.Entry.{Entry}
-use Rattle.es_loop.specs.declared.reader.Outcome.TheVariants.{Accepted, Refused}
 use Rattle.loop_entries.specs.Entries.{blank_entry}
 use Rattle.mvc_extension.specs.declared.MvcExtension.{MvcExtension}
 use Rattle.mvc_extension.specs.Ranges.{wrong_ranges}
@@ -31,10 +30,10 @@ no_extension =
 -- 'A refusal returns number and place and no other content.'
 abbrev pub refused_set : Refusal → StereoRead
 refused_set r =
-    record { outcome = Refused r; base = blank_entry; second = blank_entry; base_extension = no_extension; second_extension = no_extension }
+    record { outcome = Err r; base = blank_entry; second = blank_entry; base_extension = no_extension; second_extension = no_extension }
 
 abbrev pub accepted_set : Entry → MvcExtension → Entry → MvcExtension → StereoRead
-accepted_set base x second y = record { outcome = Accepted; base = base; second = second; base_extension = x; second_extension = y }
+accepted_set base x second y = record { outcome = Ok tt; base = base; second = second; base_extension = x; second_extension = y }
 
 -- 46: 'a range whose least exceeds its greatest, or ranges that meet'
 abbrev pub ranges_judged : Entry → MvcExtension → Entry → MvcExtension → StereoRead

@@ -1,5 +1,6 @@
 // The call that reads: the loop judged by the 2015 reading, then walked once more for its layers.
 ghost use Rattle.std.specs.Prelude.{◌≡◌, ◌≤◌, length, take, drop};
+ghost use Rattle.es_loop.specs.Answer.{entries_judged};
 ghost use Rattle.framing.specs.Pieces.{whole};
 ghost use Rattle.vocabulary.specs.declared.stream_types.Reading.TheVariants.{Edition2015};
 ghost use Rattle.loop_entries.specs.Entries.{streams_of};
@@ -9,7 +10,7 @@ ghost use Rattle.stereo_set.specs.Reading.{view_of, views_in, stereo_read};
 
 use super::set::{StereoRead, refused, set_of};
 use super::views::{Layers, View, next_view, no_views};
-use es_loop::Verdict;
+use es_loop::Judged;
 use vocabulary::Reading;
 
 // A whole entry.
@@ -26,7 +27,7 @@ fn read_view(pair: bool, entry: &[u8]) -> View
 
 // The layers of a loop that was judged and accepted.
 fn find_layers(pair: bool, bytes: &[u8]) -> Layers
-    requires { verdict_of Edition2015 bytes.now ≡ Verdict.Entries (length (streams_of Edition2015 bytes.now)) pair }
+    requires { verdict_of Edition2015 bytes.now ≡ entries_judged (length (streams_of Edition2015 bytes.now)) pair }
     ensures { result ≡ layers_after no_views (views_in bytes.now) }
 {
     let mut layers = no_views();
@@ -46,7 +47,7 @@ pub fn read_stereo(bytes: &[u8]) -> StereoRead
     ensures { result ≡ stereo_read bytes.now }
 {
     match es_loop::judge(Reading::Edition2015, bytes) {
-        Verdict::Refused(refusal) => refused(refusal),
-        Verdict::Entries { count: _, pair } => set_of(find_layers(pair, bytes)),
+        Err(refusal) => refused(refusal),
+        Ok(Judged { count: _, pair }) => set_of(find_layers(pair, bytes)),
     }
 }

@@ -5,7 +5,7 @@ ghost use Rattle.stereo_set.specs.Set.{no_extension, refused_set, ranges_judged,
 
 use super::views::{Layers, View, blank_entry};
 use descriptors::layer_index;
-use es_loop::{Entry, Outcome};
+use es_loop::Entry;
 use mvc_descriptors::Found;
 use mvc_extension::MvcExtension;
 use vocabulary::Refusal;
@@ -18,7 +18,7 @@ const SECOND_TYPE: u8 = 0x20;
 // What is answered: the outcome and, where it is accepted, the two layers' entries and their descriptors.
 #[derive(Clone, Copy)]
 pub struct StereoRead {
-    pub outcome: Outcome,
+    pub outcome: Result<(), Refusal>,
     pub base: Entry,
     pub second: Entry,
     pub base_extension: MvcExtension,
@@ -45,7 +45,7 @@ pub fn refused(refusal: Refusal) -> StereoRead
     ensures { result ≡ refused_set refusal }
 {
     StereoRead {
-        outcome: Outcome::Refused(refusal),
+        outcome: Err(refusal),
         base: blank_entry(),
         second: blank_entry(),
         base_extension: no_extension(),
@@ -84,7 +84,7 @@ fn judge_ranges(
         return refused(Refusal::RangesMeet);
     }
     StereoRead {
-        outcome: Outcome::Accepted,
+        outcome: Ok(()),
         base,
         second,
         base_extension,
@@ -102,11 +102,10 @@ fn judge_second(
     ensures { result ≡ found_judged base (Found.One base_extension) second found }
 {
     match found {
-        Found::Missing => refused(Refusal::WrongMvcExtension),
         Found::One(second_extension) => {
             judge_ranges(base, base_extension, second, second_extension)
         }
-        Found::Wrong => refused(Refusal::WrongMvcExtension),
+        Found::Missing | Found::Wrong => refused(Refusal::WrongMvcExtension),
     }
 }
 
@@ -119,11 +118,10 @@ fn judge_described(base: View, second: View) -> StereoRead
     let base_found = base.found;
     let second_found = second.found;
     match base_found {
-        Found::Missing => refused(Refusal::WrongMvcExtension),
         Found::One(base_extension) => {
             judge_second(base_entry, base_extension, second_entry, second_found)
         }
-        Found::Wrong => refused(Refusal::WrongMvcExtension),
+        Found::Missing | Found::Wrong => refused(Refusal::WrongMvcExtension),
     }
 }
 

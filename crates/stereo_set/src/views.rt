@@ -57,27 +57,21 @@ pub fn no_views() -> Layers
 fn add_layer(layers: Layers, view: View) -> Layers
     ensures { result ≡ add_layer layers view }
 {
-    let first = layers.first;
-    let second = layers.second;
     if layers.count == 0 {
         return Layers {
             count: 1,
             first: view,
-            second,
+            ..layers
         };
     }
     if layers.count == 1 {
         return Layers {
             count: 2,
-            first,
             second: view,
+            ..layers
         };
     }
-    Layers {
-        count: 3,
-        first,
-        second,
-    }
+    Layers { count: 3, ..layers }
 }
 
 // One entry more. Of one that is no layer nothing is kept.

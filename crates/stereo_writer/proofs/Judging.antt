@@ -1,5 +1,6 @@
 -- What the loop writer's numbers say of entries that are to be written as a set, and what the set says of them.
 -- Assumes nothing.
+use Rattle.std.specs.Prelude.{Err, Ok}
 use Prim.Native.Nat.{ℕ, ◌+◌, ◌≤◌, ◌<◌}
 use mathlib.Core.Path.{◌≡◌, refl, sym, ◌∙◌, ap, ap₂, subst}
 use mathlib.Core.Bool.{Bool, true, false, cond, ◌||◌}
@@ -24,11 +25,9 @@ use Rattle.judging.specs.Judging.{type_not_allowed, wrong_embedded}
 use Rattle.judging.specs.Meaning.{has_descriptor}
 use Rattle.judging.proofs.Meant.{refusal_6, refusal_9}
 use Rattle.loop_entries.specs.declared.Entry.{Entry}
-use Rattle.es_loop.specs.declared.reader.Outcome.{Outcome}
-use Rattle.es_loop.specs.declared.reader.Outcome.TheVariants.{Accepted, Refused}
+use Rattle.es_loop.specs.Answer.{Outcome}
 use Rattle.loop_faults.specs.Conditions.{refusal_of}
-use Rattle.loop_writer.specs.declared.writer.Written.{Written}
-use Rattle.loop_writer.specs.declared.writer.Written.TheVariants.{Bytes, Refused as NotWritten}
+use Rattle.loop_writer.specs.Answer.{Written}
 use Rattle.loop_writer.specs.Layout.{loop_bytes, too_wide}
 use Rattle.loop_writer.specs.Verdict.{applies_to}
 use Rattle.loop_writer.specs.Writing.{in_room, judged_in, answer}
@@ -71,24 +70,24 @@ module _ (x y : MvcExtension) (entries : List Entry) (fine : any too_wide entrie
     -- in which there is room, as in one of 1,008 bytes
     room_alike : in_room (length (loop_bytes entries)) (length (loop_bytes entries)) ≡ in_room 1008 (length (loop_bytes entries))
     room_alike =
-        ap (λ (b : Bool). cond b (NotWritten NoRoom) (Bytes (length (loop_bytes entries)))) (le-ltb (length (loop_bytes entries)) (length (loop_bytes entries)) (omega arith))
-        ∙ sym (ap (λ (b : Bool). cond b (NotWritten NoRoom) (Bytes (length (loop_bytes entries)))) (le-ltb 1008 (length (loop_bytes entries)) small))
+        ap (λ (b : Bool). cond b (Err NoRoom) (Ok (length (loop_bytes entries)))) (le-ltb (length (loop_bytes entries)) (length (loop_bytes entries)) (omega arith))
+        ∙ sym (ap (λ (b : Bool). cond b (Err NoRoom) (Ok (length (loop_bytes entries)))) (le-ltb 1008 (length (loop_bytes entries)) small))
 
     abbrev lowest : ℕ
     lowest = lowest_number (applies_to entries) 10 (length entries)
 
     pub judged_alike : loop_answer ≡ judged_in 1008 entries
     judged_alike =
-        ap (λ (l : List Entry). cond (any too_wide l) (NotWritten TooWide) (cond (ltb 201 (length entries) || ltb 1008 (length (loop_bytes l))) (NotWritten LoopTooLong) (judged_in (length (loop_bytes entries)) l))) given_all
-        ∙ ap (λ (b : Bool). cond b (NotWritten TooWide) (cond (ltb 201 (length entries) || ltb 1008 (length (loop_bytes entries))) (NotWritten LoopTooLong) (judged_in (length (loop_bytes entries)) entries))) fine
-        ∙ ap (λ (b : Bool). cond b (NotWritten LoopTooLong) (judged_in (length (loop_bytes entries)) entries)) (ap₂ ◌||◌ (le-ltb 201 (length entries) few) (le-ltb 1008 (length (loop_bytes entries)) small))
-        ∙ ap (cond (ltb lowest 10) (NotWritten (refusal_of lowest (earliest_place (applies_to entries) lowest (length entries))))) room_alike
+        ap (λ (l : List Entry). cond (any too_wide l) (Err TooWide) (cond (ltb 201 (length entries) || ltb 1008 (length (loop_bytes l))) (Err LoopTooLong) (judged_in (length (loop_bytes entries)) l))) given_all
+        ∙ ap (λ (b : Bool). cond b (Err TooWide) (cond (ltb 201 (length entries) || ltb 1008 (length (loop_bytes entries))) (Err LoopTooLong) (judged_in (length (loop_bytes entries)) entries))) fine
+        ∙ ap (λ (b : Bool). cond b (Err LoopTooLong) (judged_in (length (loop_bytes entries)) entries)) (ap₂ ◌||◌ (le-ltb 201 (length entries) few) (le-ltb 1008 (length (loop_bytes entries)) small))
+        ∙ ap (cond (ltb lowest 10) (Err (refusal_of lowest (earliest_place (applies_to entries) lowest (length entries))))) room_alike
 
     pub data LoopCase : Written → Type 0 where
       refused_there : {refusal : Refusal} → Loop.Condition entries (number_of refusal) (place_of refusal)
           → ((m j : ℕ) → m < number_of refusal → Loop.Condition entries m j → ⊥)
-          → ((j : ℕ) → j < place_of refusal → Loop.Condition entries (number_of refusal) j → ⊥) → LoopCase (NotWritten refusal)
-      sound_there : {n : ℕ} → Sound x y entries → LoopCase (Bytes n)
+          → ((j : ℕ) → j < place_of refusal → Loop.Condition entries (number_of refusal) j → ⊥) → LoopCase (Err refusal)
+      sound_there : {n : ℕ} → Sound x y entries → LoopCase (Ok n)
 
     pub loop_case : LoopCase (judged_in 1008 entries)
     loop_case = subst LoopCase judged_alike (go (loop.answer_meant (length entries) entries (loop_bytes entries)))
@@ -120,7 +119,7 @@ module _ (x y : MvcExtension) (entries : List Entry) (fine : any too_wide entrie
 
     pub refused_only : {refusal : Refusal} → Loop.Condition entries (number_of refusal) (place_of refusal)
         → ((m j : ℕ) → m < number_of refusal → Loop.Condition entries m j → ⊥)
-        → ((j : ℕ) → j < place_of refusal → Loop.Condition entries (number_of refusal) j → ⊥) → judged_in 1008 entries ≡ NotWritten refusal
+        → ((j : ℕ) → j < place_of refusal → Loop.Condition entries (number_of refusal) j → ⊥) → judged_in 1008 entries ≡ Err refusal
     refused_only {refusal} at-k lower earlier =
         sym judged_alike
         ∙ sym (loop.answer_only (length entries) entries (loop_bytes entries)
@@ -128,7 +127,7 @@ module _ (x y : MvcExtension) (entries : List Entry) (fine : any too_wide entrie
         (λ m j l c. lower m j l (subst (λ (l : List Entry). Loop.Condition l m j) given_all c))
         (λ j l c. earlier j l (subst (λ (l : List Entry). Loop.Condition l (number_of refusal) j) given_all c)))).0
 
-    pub sound_only : Sound x y entries → judged_in 1008 entries ≡ Bytes (length (loop_bytes entries))
+    pub sound_only : Sound x y entries → judged_in 1008 entries ≡ Ok (length (loop_bytes entries))
     sound_only s =
         sym judged_alike
         ∙ sym (loop.answer_only (length entries) entries (loop_bytes entries)
@@ -196,9 +195,9 @@ module _ (x y : MvcExtension) (entries : List Entry) where
           }
 
   pub data SetOutcome : Outcome → Type 0 where
-    forty_four : ((base second : Entry) → TwoLayers entries base second → ⊥) → SetOutcome (Refused NotStereoSet)
-    forty_six : {base second : Entry} → TwoLayers entries base second → WrongRanges x y → SetOutcome (Refused RangesMeet)
-    a_set : {base second : Entry} → TwoLayers entries base second → (WrongRanges x y → ⊥) → SetOutcome Accepted
+    forty_four : ((base second : Entry) → TwoLayers entries base second → ⊥) → SetOutcome (Err NotStereoSet)
+    forty_six : {base second : Entry} → TwoLayers entries base second → WrongRanges x y → SetOutcome (Err RangesMeet)
+    a_set : {base second : Entry} → TwoLayers entries base second → (WrongRanges x y → ⊥) → SetOutcome (Ok tt)
 
   pub set_outcome : ((n k : ℕ) → Loop.Condition entries n k → ⊥) → SetOutcome (set_for x y entries).outcome
   set_outcome none = go (set_case views (fine_there none))

@@ -1,5 +1,6 @@
 -- The law that joins the meaning of writing a stereo set to what is computed, both ways.
 -- Assumes nothing.
+use Rattle.std.specs.Prelude.{Err, Ok}
 use Prim.Native.Nat.{ℕ, ◌+◌, ◌≤◌, ◌<◌}
 use mathlib.Core.Path.{◌≡◌, refl, sym, ◌∙◌, ap}
 use mathlib.Core.Bool.{Bool, true, false, cond}
@@ -14,10 +15,8 @@ use Rattle.syntax.specs.Table.{fits}
 use Rattle.vocabulary.specs.declared.refusal.Refusal.{Refusal}
 use Rattle.vocabulary.specs.declared.refusal.Refusal.TheVariants.{NotStereoSet, RangesMeet, NoRoom}
 use Rattle.loop_entries.specs.declared.Entry.{Entry}
-use Rattle.es_loop.specs.declared.reader.Outcome.{Outcome}
-use Rattle.es_loop.specs.declared.reader.Outcome.TheVariants.{Accepted, Refused as SetRefused}
-use Rattle.loop_writer.specs.declared.writer.Written.{Written}
-use Rattle.loop_writer.specs.declared.writer.Written.TheVariants.{Bytes, Refused}
+use Rattle.es_loop.specs.Answer.{Outcome}
+use Rattle.loop_writer.specs.Answer.{Written}
 use Rattle.loop_writer.specs.Layout.{loop_bytes, too_wide}
 use Rattle.loop_writer.specs.Writing.{in_room, judged_in, content_after}
 use Rattle.loop_writer.proofs.Writes.{bytes_meant, bytes_only}
@@ -55,7 +54,7 @@ module _ (x y : MvcExtension) (fit_x : fits mvc_extension_descriptor (mvc_extens
   stereo_meant = go (ltb 201 (length entries)) refl (ltb 1008 (loop_size + 20)) refl
     where
       in_room_lem : {base second : Entry} → Sound x y entries → TwoLayers entries base second → (WrongRanges x y → ⊥) → (b : Bool) → ltb room size ≡ b
-          → Meets (cond b (Refused NoRoom) (Bytes size))
+          → Meets (cond b (Err NoRoom) (Ok size))
       in_room_lem s two right true p = no_room s two right (the_bytes two) (ltb-true room size p)
       in_room_lem s two right false p = accepts s two right (the_bytes two) (ltb-false room size p)
 
@@ -81,7 +80,7 @@ module _ (x y : MvcExtension) (fit_x : fits mvc_extension_descriptor (mvc_extens
   abbrev Only : Written → List ℕ → Type 0
   Only w new = (w ≡ stereo_answer room x y entries) × (new ≡ stereo_content x y entries old)
 
-  refused : {r : Refusal} → stereo_answer room x y entries ≡ Refused r → Only (Refused r) old
+  refused : {r : Refusal} → stereo_answer room x y entries ≡ Err r → Only (Err r) old
   refused e = (sym e, sym (ap (λ (w : Written). content_after w (stereo_bytes x y entries) old) e))
 
   loop_size_lem : {loop : List ℕ} → Rattle.loop_writer.specs.Meaning.WritesEntries entries loop → length loop ≡ loop_size
@@ -100,17 +99,17 @@ module _ (x y : MvcExtension) (fit_x : fits mvc_extension_descriptor (mvc_extens
   by_outcome_lem o e = ap (λ (p : Outcome). after_set p (in_room room size)) e
 
   outcome_by : {base second : Entry} → TwoLayers entries base second → (b : Bool) → wrong_ranges x y ≡ b
-      → (set_for x y entries).outcome ≡ cond b (SetRefused RangesMeet) Accepted
+      → (set_for x y entries).outcome ≡ cond b (Err RangesMeet) (Ok tt)
   outcome_by two true p = ap (λ (r : StereoRead). r.outcome) (judged_by_two x y entries two) ∙ rw p
   outcome_by two false p = ap (λ (r : StereoRead). r.outcome) (judged_by_two x y entries two) ∙ rw p
 
   right_ranges : (WrongRanges x y → ⊥) → wrong_ranges x y ≡ false
   right_ranges right = false_unless (wrong_ranges x y) (λ t. right (ranges_meant x y t))
 
-  no_two : Sound x y entries → ((base second : Entry) → TwoLayers entries base second → ⊥) → (set_for x y entries).outcome ≡ SetRefused NotStereoSet
+  no_two : Sound x y entries → ((base second : Entry) → TwoLayers entries base second → ⊥) → (set_for x y entries).outcome ≡ Err NotStereoSet
   no_two s none = go (set_outcome x y entries s.none)
     where
-      go : {o : Outcome} → SetOutcome x y entries o → o ≡ SetRefused NotStereoSet
+      go : {o : Outcome} → SetOutcome x y entries o → o ≡ Err NotStereoSet
       go (forty_four f) = refl
       go (forty_six {base} {second} two wrong) = absurd (none base second two)
       go (a_set {base} {second} two right) = absurd (none base second two)
@@ -125,16 +124,16 @@ module _ (x y : MvcExtension) (fit_x : fits mvc_extension_descriptor (mvc_extens
       let long = loop_size_lem w in
       let short : loop_size + 20 ≤ 1008 = omega arith in
       refused (after_loop_lem few short ∙ ap (λ (v : Written). after_loop v (set_answer room x y entries)) (refused_only x y entries fine few short {refusal = refusal} at-k lower earlier))
-  stereo_only (not_the_two s none) = refused (as_set s ∙ by_outcome_lem (SetRefused NotStereoSet) (no_two s none))
-  stereo_only (wrong_ranges_lem s two wrong) = refused (as_set s ∙ by_outcome_lem (SetRefused RangesMeet) (outcome_by two true (ranges_only x y wrong)))
+  stereo_only (not_the_two s none) = refused (as_set s ∙ by_outcome_lem (Err NotStereoSet) (no_two s none))
+  stereo_only (wrong_ranges_lem s two wrong) = refused (as_set s ∙ by_outcome_lem (Err RangesMeet) (outcome_by two true (ranges_only x y wrong)))
   stereo_only (no_room s two right w h) =
       let large : room < size = rw (set_bytes_only x y w) at h in
-      refused (as_set s ∙ by_outcome_lem Accepted (outcome_by two false (right_ranges right)) ∙ rw (lt-ltb room size large))
+      refused (as_set s ∙ by_outcome_lem (Ok tt) (outcome_by two false (right_ranges right)) ∙ rw (lt-ltb room size large))
   stereo_only (accepts {bytes = bytes} s two right w h) =
       let same : bytes ≡ stereo_bytes x y entries = set_bytes_only x y w in
       let enough : size ≤ room = rw same at h in
-      let e : stereo_answer room x y entries ≡ Bytes size =
-      as_set s ∙ by_outcome_lem Accepted (outcome_by two false (right_ranges right)) ∙ rw (le-ltb room size enough) in (
-        ap (λ (l : List ℕ). Bytes (length l)) same ∙ sym e,
+      let e : stereo_answer room x y entries ≡ Ok size =
+      as_set s ∙ by_outcome_lem (Ok tt) (outcome_by two false (right_ranges right)) ∙ rw (le-ltb room size enough) in (
+        ap (λ (l : List ℕ). Ok (length l)) same ∙ sym e,
         ap (λ (l : List ℕ). l ++ drop (length l) old) same ∙ sym (ap (λ (w : Written). content_after w (stereo_bytes x y entries) old) e),
       )

@@ -1,5 +1,6 @@
 -- How many bytes a set takes: those of the loop, and 20 more.
 -- Assumes nothing.
+use Rattle.std.specs.Prelude.{Err, Ok}
 use Prim.Native.Nat.{ℕ, ◌+◌}
 use mathlib.Core.Path.{◌≡◌, refl, ◌∙◌, ap}
 use mathlib.Core.Bool.{Bool, true, false, cond, ◌&&◌, ◌||◌}
@@ -14,7 +15,7 @@ use Rattle.syntax.specs.Filled.{bytes_in}
 use Rattle.vocabulary.specs.declared.refusal.Refusal.{Refusal}
 use Rattle.records.specs.Records.{is_layer, record_tables}
 use Rattle.loop_entries.specs.declared.Entry.{Entry}
-use Rattle.es_loop.specs.declared.reader.Outcome.TheVariants.{Accepted, Refused}
+use Rattle.es_loop.specs.Answer.{Outcome}
 use Rattle.loop_writer.specs.Layout.{entry_bytes, loop_bytes}
 use Rattle.mvc_extension.specs.declared.MvcExtension.{MvcExtension}
 use Rattle.mvc_extension.specs.MvcExtension.{mvc_extension_descriptor, mvc_extension_fields}
@@ -76,7 +77,7 @@ module _ (x y : MvcExtension) where
       go false p ih = rw p (zero-add (extra_sizes es) ∙ ih)
 
   -- the two layers of a set each are
-  never : {A : Type 0} {r : Refusal} → Refused r ≡ Accepted → A
+  never : {A : Type 0} {r : Refusal} → ◌≡◌ {A = Outcome} (Err r) (Ok tt) → A
   never {A} {r} e = let z : ◌≡◌ {A = ℕ} 0 1 = cc in absurd (omega arith)
 
   both_given : (a b : View) → (is_base_layer a.entry && is_second_layer b.entry) ≡ true → given a + (given b + 0) ≡ 20
@@ -87,7 +88,7 @@ module _ (x y : MvcExtension) where
       either_right (is_base_layer b.entry) (is_second_layer b.entry) (both_right (is_base_layer a.entry) (is_second_layer b.entry) e) in
       rw (first, second)
 
-  two_given : (a b : View) → (arranged a b).outcome ≡ Accepted → given a + (given b + 0) ≡ 20
+  two_given : (a b : View) → (arranged a b).outcome ≡ Ok tt → given a + (given b + 0) ≡ 20
   two_given a b o = go (is_base_layer a.entry && is_second_layer b.entry) (is_base_layer b.entry && is_second_layer a.entry) refl refl
     where
       go : (p q : Bool) → (is_base_layer a.entry && is_second_layer b.entry) ≡ p → (is_base_layer b.entry && is_second_layer a.entry) ≡ q
@@ -96,14 +97,14 @@ module _ (x y : MvcExtension) where
       go false true e f = let swapped = both_given b a f in omega arith
       go false false e f = never (rw (e, f) at o)
 
-  set_given : (ls : List View) → (set_of ls).outcome ≡ Accepted → all_given ls ≡ 20
+  set_given : (ls : List View) → (set_of ls).outcome ≡ Ok tt → all_given ls ≡ 20
   set_given [] o = never o
   set_given (a ∷ []) o = never o
   set_given (a ∷ b ∷ []) o = two_given a b o
   set_given (a ∷ b ∷ c ∷ others) o = never o
 
   -- A SET TAKES 20 BYTES MORE.
-  pub set_size : (es : List Entry) → (set_for x y es).outcome ≡ Accepted → length (stereo_bytes x y es) ≡ length (loop_bytes es) + 20
+  pub set_size : (es : List Entry) → (set_for x y es).outcome ≡ Ok tt → length (stereo_bytes x y es) ≡ length (loop_bytes es) + 20
   set_size es o =
       let twenty : extra_sizes es ≡ 20 = layers_given es ∙ set_given (layers_among (map (view_for x y) es)) o in
       all_sizes es ∙ ap (λ (n : ℕ). length (loop_bytes es) + n) twenty

@@ -1,15 +1,14 @@
 -- WHAT WRITING A STEREO SET MEANS, in the words of W-211: the bytes, and the answer with what the buffer then holds. (25 is tested before, by whoever has the numbers.)
 -- proofs/Meant.antt has the law that joins this to what is computed: the computed answer has this meaning, and no other answer has it.
 -- Assumes nothing.
-use Rattle.std.specs.Prelude.{ℕ, ◌+◌, ◌≤◌, ◌<◌, ◌≡◌, List, [], ◌∷◌, ◌++◌, length, drop}
+use Rattle.std.specs.Prelude.{ℕ, ◌+◌, ◌≤◌, ◌<◌, ◌≡◌, List, [], ◌∷◌, ◌++◌, length, drop, Err, Ok}
 use Rattle.syntax.specs.Named.{WrittenBy}
 use Rattle.syntax.specs.Filled.{Filled, Writes}
 use Rattle.vocabulary.specs.declared.refusal.Refusal.{Refusal}
 use Rattle.vocabulary.specs.declared.refusal.Refusal.TheVariants.{LoopTooLong, NoRoom, NotStereoSet, RangesMeet}
 use Rattle.vocabulary.specs.Refusals.{number_of, place_of}
 use Rattle.loop_entries.specs.declared.Entry.{Entry}
-use Rattle.loop_writer.specs.declared.writer.Written.{Written}
-use Rattle.loop_writer.specs.declared.writer.Written.TheVariants.{Bytes, Refused}
+use Rattle.loop_writer.specs.Answer.{Written}
 use Rattle.loop_writer.specs.Layout.{entry_head_table}
 use Rattle.loop_writer.specs.Meaning.{WritesEntries, Condition}
 use Rattle.loop_writer.specs.Meaning as Loop
@@ -47,19 +46,19 @@ module _ (x y : MvcExtension) where
   -- THE ANSWER, and what the buffer then holds: on a refusal what it held, and on acceptance the bytes, and beyond them what it held.
   pub data Answers (entries : List Entry) (old : List ℕ) : Written → List ℕ → Type 0 where
     -- 'the loop writer's numbers': 1
-    too_many : 201 < length entries → Answers entries old (Refused LoopTooLong) old
-    too_long_lem : {loop : List ℕ} → WritesEntries entries loop → 1008 < length loop + 20 → Answers entries old (Refused LoopTooLong) old
+    too_many : 201 < length entries → Answers entries old (Err LoopTooLong) old
+    too_long_lem : {loop : List ℕ} → WritesEntries entries loop → 1008 < length loop + 20 → Answers entries old (Err LoopTooLong) old
     -- 3 and 6 to 9: the lowest that applies, at its earliest place
     refuses : {loop : List ℕ} {refusal : Refusal} → length entries ≤ 201 → WritesEntries entries loop → length loop + 20 ≤ 1008
         → Condition entries (number_of refusal) (place_of refusal) → ((m j : ℕ) → m < number_of refusal → Condition entries m j → ⊥)
-        → ((j : ℕ) → j < place_of refusal → Condition entries (number_of refusal) j → ⊥) → Answers entries old (Refused refusal) old
+        → ((j : ℕ) → j < place_of refusal → Condition entries (number_of refusal) j → ⊥) → Answers entries old (Err refusal) old
     -- 44
-    not_the_two : Sound entries → ((base second : Entry) → TwoLayers entries base second → ⊥) → Answers entries old (Refused NotStereoSet) old
+    not_the_two : Sound entries → ((base second : Entry) → TwoLayers entries base second → ⊥) → Answers entries old (Err NotStereoSet) old
     -- 46
-    wrong_ranges_lem : {base second : Entry} → Sound entries → TwoLayers entries base second → WrongRanges x y → Answers entries old (Refused RangesMeet) old
+    wrong_ranges_lem : {base second : Entry} → Sound entries → TwoLayers entries base second → WrongRanges x y → Answers entries old (Err RangesMeet) old
     -- 17 'last'
     no_room : {base second : Entry} {bytes : List ℕ} → Sound entries → TwoLayers entries base second → (WrongRanges x y → ⊥) → WritesSet entries bytes
-        → length old < length bytes → Answers entries old (Refused NoRoom) old
+        → length old < length bytes → Answers entries old (Err NoRoom) old
     -- the number of bytes written
     accepts : {base second : Entry} {bytes : List ℕ} → Sound entries → TwoLayers entries base second → (WrongRanges x y → ⊥) → WritesSet entries bytes
-        → length bytes ≤ length old → Answers entries old (Bytes (length bytes)) (bytes ++ drop (length bytes) old)
+        → length bytes ≤ length old → Answers entries old (Ok (length bytes)) (bytes ++ drop (length bytes) old)

@@ -18,13 +18,11 @@ pub fn layers_in(numbers: &[u16], base: MvcExtension, second: MvcExtension) -> L
 {
     let mut layers = stereo_set::no_views();
     let count = numbers.len() / 80;
-    let mut i = 0;
-    while i < count {
+    for i in 0..count {
         let start = i * 80;
         let end = start + 80;
         let entry = row_taking::entry_in(&numbers[start..end]);
         layers = stereo_set::next_view(layers, view_for(base, second, entry));
-        i += 1;
     }
     layers
 }
@@ -41,13 +39,11 @@ pub fn put_stereo_entries(
 {
     let count = numbers.len() / 80;
     let mut place = 0;
-    let mut i = 0;
-    while i < count {
+    for i in 0..count {
         let start = i * 80;
         let end = start + 80;
         let entry = row_taking::entry_in(&numbers[start..end]);
         place = put_stereo_entry(out, place, base, second, entry);
-        i += 1;
     }
     place
 }

@@ -10,17 +10,15 @@ fn place_of(members: &[u8; 64], count: usize, index: u8) -> usize
     requires { (count ≤ 64) × (length members.now ≡ 64) }
     ensures { result ≡ place_of index (take count members.now) }
 {
-    let mut at = 0;
-    while at < count {
+    for at in 0..count {
         if members[at] == index {
             return at;
         }
-        at += 1;
     }
-    at
+    count
 }
 
-// One index more, at a place of the list.
+// One index more, at a place of the list. What moves back overlaps where it goes, and std's slices copy only from one to another.
 fn insert(members: &mut [u8; 64], count: usize, place: usize, index: u8)
     requires { (place ≤ count) × (count < 64) × (length members.old ≡ 64) }
     ensures { members.new ≡ opened members.old count place (index ∷ []) }

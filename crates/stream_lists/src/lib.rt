@@ -19,7 +19,8 @@ pub struct StreamList {
     pub members: [u8; 64],
 }
 
-// The list of a point's references, or 42: one of them, or a dependency to be prepended, is no layer of the loop. The list is then empty.
+// The list of a point's references, or 42: one of them, or a dependency to be prepended, is no layer of the loop. The list is then empty,
+// and whoever lays out or counts a point's streams takes it so: an Option would have each of them put the empty list in.
 #[derive(Clone, Copy)]
 pub struct ListBuilt {
     pub absent: bool,
@@ -63,10 +64,9 @@ pub fn stream_list(layers: Layers, references: &[u8]) -> ListBuilt
 {
     let mut members = [0u8; 64];
     let mut count = 0;
-    let mut present: u64 = 0;
-    let mut at = 0;
-    while at < references.len() {
-        let reference = references[at];
+    let mut present = 0u64;
+    for reference in references {
+        let reference = *reference;
         if no_layer(layers, reference) {
             return ListBuilt {
                 absent: true,
@@ -76,7 +76,6 @@ pub fn stream_list(layers: Layers, references: &[u8]) -> ListBuilt
         let new = sets::without(asked(layers, reference), present);
         count = insertion::place_before(&mut members, count, present, reference % 64, new);
         present = sets::with(present | new, (reference % 64) as usize);
-        at += 1;
     }
     ListBuilt {
         absent: false,

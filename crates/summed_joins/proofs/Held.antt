@@ -8,8 +8,7 @@ use Rattle.closure.specs.declared.Layers.{Layers}
 use Rattle.rows.specs.Table.{Table}
 use Rattle.unit_lists.specs.Sequence.{Lists}
 use Rattle.join_answers.specs.Joining.{Room, room_of}
-use Rattle.recording_imports.specs.declared.RowsRead.{RowsRead}
-use Rattle.recording_imports.specs.declared.Imported.{Imported}
+use Rattle.recording_imports.specs.Answer.{RowsRead, Imported}
 use Rattle.recording_imports.specs.Imports.{count_of, first_rows, rows_held, join_held, lists_held}
 use Rattle.packet_answers.specs.Answers.{imported_answer}
 use Rattle.import_summaries.specs.Summaries.{with_summary, summary_after}

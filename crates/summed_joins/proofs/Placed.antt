@@ -1,5 +1,7 @@
 -- The whole import for C, step after step: the loop is asked, the recording read, and its rows joined with their summary.
 -- Assumes nothing.
+use Rattle.std.specs.Prelude.{Err, Ok}
+use Rattle.recording_imports.specs.Answer.{imported_units, RowsRead, Imported}
 use Prim.Native.Nat.{ℕ}
 use mathlib.Core.Bool.{Bool, true, false, cond}
 use mathlib.Core.List.{List}
@@ -14,9 +16,7 @@ use Rattle.join_answers.specs.Joining.{room_of}
 use Rattle.unit_starts.specs.Finding.{rows_in}
 use Rattle.recording_rows.specs.Columns.{Columns}
 use Rattle.recordings.specs.Reading.{recording_of}
-use Rattle.recording_imports.specs.declared.RowsRead.{RowsRead}
-use Rattle.recording_imports.specs.declared.Imported.{Imported}
-use Rattle.recording_imports.specs.declared.Imported.TheVariants.{Units, Refused, NotRead}
+use Rattle.recording_imports.specs.declared.Unread.TheVariants.{Refused, NotRead}
 use Rattle.recording_imports.specs.declared.LoopAsked.{LoopAsked}
 use Rattle.recording_imports.specs.Rows.{pid_table_of, rows_for, rows_of, columns_with}
 use Rattle.recording_imports.specs.Imports.{layers_of_loop, asked_of, table_of, import_of, places_for, import_columns, lists_with, count_of, first_rows, rows_held, join_held}
@@ -28,7 +28,7 @@ use Rattle.summed_joins.specs.Replies.{held_reply, import_placed}
 
 -- what the lists hold, with the summary in mind: where that has no room they are as they were
 units_summed : (layers : Layers) (t : Table) (closure units rows : ℕ) (before : Lists) (short : Bool)
-    → lists_with layers t (cond short (Refused NoRoom) (Units closure units rows)) before ≡ cond short before (lists_with layers t (Units closure units rows) before)
+    → lists_with layers t (cond short (Err (Refused NoRoom)) (imported_units closure units rows)) before ≡ cond short before (lists_with layers t (imported_units closure units rows) before)
 units_summed layers t closure units rows before true = refl
 units_summed layers t closure units rows before false = refl
 
@@ -38,9 +38,9 @@ as_before before false = refl
 
 lists_summed : (layers : Layers) (t : Table) (n : ℕ) (imported : Imported) (before : Lists)
     → lists_with layers t (with_summary n imported) before ≡ cond (ltb n 2) before (lists_with layers t imported before)
-lists_summed layers t n (Units closure units rows) before = units_summed layers t closure units rows before (ltb n 2)
-lists_summed layers t n (Refused refusal) before = as_before before (ltb n 2)
-lists_summed layers t n (NotRead refusal packet) before = as_before before (ltb n 2)
+lists_summed layers t n (Ok joined) before = units_summed layers t joined.closure joined.units joined.rows before (ltb n 2)
+lists_summed layers t n (Err (Refused refusal)) before = as_before before (ltb n 2)
+lists_summed layers t n (Err (NotRead refusal packet)) before = as_before before (ltb n 2)
 
 module _ (bytes : List ℕ) (target : ℕ) (packets : List ℕ) (most : ℕ) (before : Columns) (old : Lists) (summary : List ℕ) where
   abbrev pub places : ℕ

@@ -5,7 +5,7 @@ use Rattle.closure.specs.declared.Layers.{Layers}
 use Rattle.rows.specs.Table.{Table}
 use Rattle.unit_lists.specs.Sequence.{Lists}
 use Rattle.join_answers.specs.Joining.{room_of}
-use Rattle.recording_imports.specs.declared.RowsRead.{RowsRead}
+use Rattle.recording_imports.specs.Answer.{RowsRead}
 use Rattle.recording_imports.specs.Rows.{rows_of}
 use Rattle.recording_imports.specs.Imports.{layers_of_loop, table_of, import_of, count_of, first_rows, rows_held, join_held}
 use Rattle.import_summaries.specs.Summaries.{with_summary, ImportReply, import_reply}

@@ -11,12 +11,12 @@ ghost use Rattle.summed_joins.specs.Replies.{held_reply};
 use closure::Layers;
 use import_summaries::{summarise, without_summary};
 use long_imports::join_held;
-use recording_imports::RowsRead;
+use recording_imports::Unread;
 
 // Without room for the summary the units are found all the same, since every other number comes before 17, with lists of this function's own, so that the caller's are as
 // they were.
 pub fn join_summed(
-    rows: RowsRead,
+    rows: Result<usize, Unread>,
     layers: Layers,
     target: u64,
     indices: &[u8],

@@ -1,6 +1,6 @@
 -- A syntax table filled: each of its lines is given a number by its name. What is written is a list of filled tables, one after another.
 -- Assumes nothing.
-use Rattle.std.specs.Prelude.{ℕ, Bool, true, false, not, List, [], ◌∷◌, ◌++◌}
+use Rattle.std.specs.Prelude.{ℕ, Bool, true, false, cond, not, List, [], ◌∷◌, ◌++◌}
 use Rattle.syntax.specs.Table.{Table, fits}
 use Rattle.syntax.specs.Named.{Given, values_by, write_by, WrittenBy}
 
@@ -24,8 +24,7 @@ too_wide_in f = not (fits f.table (values_in f))
 
 -- a flag as one bit
 abbrev pub bit_of : Bool → ℕ
-bit_of true = 1
-bit_of false = 0
+bit_of flag = cond flag 1 0
 
 -- What writing filled tables means: the bytes of each, by the names of its lines, in order.
 pub data Writes : List Filled → List ℕ → Type 0 where

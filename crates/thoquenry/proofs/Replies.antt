@@ -1,5 +1,6 @@
 -- From what a function's code found to its reply, answer and buffer together.
 -- Assumes nothing.
+use Rattle.es_loop.specs.Answer.{entries_judged}
 use Prim.Native.Nat.{ℕ, ◌-◌, ◌*◌, ◌≤◌, ◌<◌}
 use mathlib.Core.Path.{◌≡◌, sym, ap, ap₂}
 use mathlib.Core.Bool.{Bool, true, false, cond}
@@ -13,10 +14,9 @@ use Rattle.vocabulary.specs.declared.refusal.Refusal.TheVariants.{NoRoom, TooWid
 use Rattle.vocabulary.specs.declared.stream_types.Reading.{Reading}
 use Rattle.loop_entries.specs.declared.Entry.{Entry}
 use Rattle.loop_entries.specs.declared.Stream.{Stream}
-use Rattle.es_loop.specs.declared.verdict.Verdict.TheVariants.{Entries}
 use Rattle.loop_entries.specs.Entries.{blank_entry, streams_of, entry_of}
 use Rattle.es_loop.specs.Reading.{verdict_of, answer_by}
-use Rattle.es_loop.proofs.Judged.{sound}
+use Rattle.es_loop.proofs.Verdicts.{sound}
 use Rattle.loop_writer.specs.Writing.{answer, content}
 use Rattle.buffers.specs.Buffers.{over}
 use Rattle.entry_rows.specs.Rows.{rows_of, some_too_wide, row_count, entries_in}
@@ -52,7 +52,7 @@ module _ (count : ℕ) (given : List Entry) (as_many : length given ≡ count) (
   room_for_rows h = has_room (length given * 80) buffer (reply (accepted count) (over (rows_of given) buffer)) (omega (arith, needed))
 
 -- how many entries an accepted loop has
-module _ (reading : Reading) (bytes : List ℕ) (count : ℕ) (pair : Bool) (judged : verdict_of reading bytes ≡ Entries count pair) where
+module _ (reading : Reading) (bytes : List ℕ) (count : ℕ) (pair : Bool) (judged : verdict_of reading bytes ≡ entries_judged count pair) where
   pub counted : count ≡ length (streams_of reading bytes)
   counted = (sound reading bytes count pair judged).counted
 
@@ -61,7 +61,7 @@ module _ (reading : Reading) (bytes : List ℕ) (count : ℕ) (pair : Bool) (jud
 
 -- what a loop answers by its verdict, laid in: the entries in their array are those of its streams
 pub laid_accepted : (streams : List Stream) (count : ℕ) (pair : Bool) (buffer : List ℕ) → count ≡ length streams
-    → entries_laid count (map entry_of streams) buffer ≡ rows_read (answer_by streams (Entries count pair)) buffer
+    → entries_laid count (map entry_of streams) buffer ≡ rows_read (answer_by streams (entries_judged count pair)) buffer
 laid_accepted streams count pair buffer e =
     ap₂ (λ (n : ℕ) (l : List Entry). entries_laid n l buffer) e
     (sym (take_at (map entry_of streams) (replicate (201 - length (map entry_of streams)) blank_entry) (length streams) (length-map streams entry_of)))

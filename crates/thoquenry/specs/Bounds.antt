@@ -1,7 +1,8 @@
 -- HOW LARGE A VALUE CAN BE. No place of a refusal is above 1,008, the bytes of the longest loop, and there are at most 64 layers.
 -- So every value that a call answers is far below 2^56, and a caller's THQ_VALUE gives back the whole of it.
 -- Assumes nothing.
-use Rattle.std.specs.Prelude.{ℕ, zero, suc, ◌+◌, ◌≤◌, ◌≡◌, refl, Bool, true, false, cond, ◌&&◌, ◌||◌, List, [], ◌∷◌, ◌++◌, eqb, leb, ltb, length, take, drop}
+use Rattle.es_loop.specs.Answer.{entries_judged, Outcome, Verdict as LoopVerdict}
+use Rattle.std.specs.Prelude.{ℕ, zero, suc, ◌+◌, ◌≤◌, ◌≡◌, refl, Bool, true, false, cond, ◌&&◌, ◌||◌, List, [], ◌∷◌, ◌++◌, eqb, leb, ltb, length, take, drop, Err, Ok}
 use Rattle.std.proofs.Common.{arith, ltb-false, length-take, length-append}
 use Rattle.std.proofs.lemmas.List.{length-map}
 use Rattle.combinators.specs.Below.{some, seek, count_short}
@@ -22,11 +23,9 @@ use Rattle.stamps.specs.declared.Stamps.{Stamps}
 use Rattle.stamps.specs.declared.Times.{Times}
 use Rattle.pes_fields.specs.declared.Extension.{Extension}
 use Rattle.pes_fields.specs.declared.Extension.TheVariants.{DoesNotFit as DataDoNotFit, WithoutTref, WithTref}
-use Rattle.pes_reader.specs.declared.Answer.{Answer}
-use Rattle.pes_reader.specs.declared.Answer.TheVariants.{Read, Refused as NotRead}
+use Rattle.pes_reader.specs.Answer.{Answer}
 use Rattle.pes_reader.specs.declared.Header.{Header}
-use Rattle.pes_writer.specs.declared.Written.{Written as HeaderWritten}
-use Rattle.pes_writer.specs.declared.Written.TheVariants.{Bytes as HeaderBytes, Refused as NoHeader}
+use Rattle.pes_writer.specs.Answer.{Written as HeaderWritten}
 use Rattle.stamps.specs.Tables.{pts_alone, pts_before_dts, dts, tref}
 use Rattle.pes_fields.specs.Tables.{head as packetHead}
 use Rattle.stamps.specs.Stamps.{stamps_of, time_field}
@@ -34,21 +33,15 @@ use Rattle.pes_fields.specs.HeaderData.{flags_of, header_data_of}
 use Rattle.pes_reader.specs.Reading.{is_video_header, data_of, end_of, judged as headerJudged, header_of as headerRead, said_by, fields_of, video_header_of, read_of}
 use Rattle.pes_writer.specs.Writing.{time_fields, tref_head, tref_fields, data_fields, head_of, header_of, too_wide as timesTooWide, write_of}
 use Rattle.closure.specs.declared.Layers.{Layers}
-use Rattle.closure.specs.declared.Closure.{Closure}
-use Rattle.closure.specs.declared.Closure.TheVariants.{Complete, Refused as NoClosure}
+use Rattle.closure.specs.Answer.{Closure}
 use Rattle.closure.specs.Closures.{is_layer, lacks, rested_on, answer_for, closure_of}
 use Rattle.loop_entries.specs.declared.Entry.{Entry}
 use Rattle.loop_entries.specs.declared.Stream.{Stream}
-use Rattle.es_loop.specs.declared.reader.Outcome.{Outcome}
-use Rattle.es_loop.specs.declared.reader.Outcome.TheVariants.{Accepted, Refused as LoopRefused}
 use Rattle.es_loop.specs.declared.reader.LoopRead.{LoopRead}
 use Rattle.loop_entries.specs.Entries.{es_info_length, stream_of, pair_of, marked_stream, streams_alone, streams_of}
 use Rattle.loop_faults.specs.Conditions.{applies, refusal_of}
-use Rattle.es_loop.specs.declared.verdict.Verdict.{Verdict as LoopVerdict}
-use Rattle.es_loop.specs.declared.verdict.Verdict.TheVariants.{Entries, Refused as Refuses}
 use Rattle.es_loop.specs.Reading.{judged, answer_by, loop_read}
-use Rattle.loop_writer.specs.declared.writer.Written.{Written}
-use Rattle.loop_writer.specs.declared.writer.Written.TheVariants.{Bytes, Refused as NotWritten}
+use Rattle.loop_writer.specs.Answer.{Written}
 use Rattle.loop_writer.specs.Layout.{loop_bytes, too_wide}
 use Rattle.loop_writer.specs.Verdict.{applies_to}
 use Rattle.loop_writer.specs.Writing.{in_room, judged_in, answer}
@@ -62,14 +55,14 @@ Placed refusal = place_of refusal ≤ 1008
 -- ---- times: every place is 0
 
 abbrev pub SmallTimes : Answer → Type 0
-SmallTimes (Read header) = Unit {0}
-SmallTimes (NotRead refusal) = Placed refusal
+SmallTimes (Ok header) = Unit {0}
+SmallTimes (Err refusal) = Placed refusal
 
 small_judged : (marked : Bool) (header : Header) → SmallTimes (headerJudged marked header)
 small_judged marked header =
     let before : Bool = is_before header.times.pts header.times.decoding in
-    either_way SmallTimes marked (cond before (NotRead PtsBeforeDts) (Read header)) (NotRead WrongMarker)
-    (either_way SmallTimes before (NotRead PtsBeforeDts) (Read header) (omega arith) tt) (omega arith)
+    either_way SmallTimes marked (cond before (Err PtsBeforeDts) (Ok header)) (Err WrongMarker)
+    (either_way SmallTimes before (Err PtsBeforeDts) (Ok header) (omega arith) tt) (omega arith)
 
 small_times : (end : ℕ) (stamps : Stamps) (extension : Extension) → SmallTimes (said_by end stamps extension)
 small_times end stamps DataDoNotFit = omega arith
@@ -78,14 +71,14 @@ small_times end stamps (WithTref tref) = small_judged (stamps.marked && tref.mar
 
 pub small_read : (bytes : List ℕ) → SmallTimes (read_of bytes)
 small_read bytes =
-    either_way SmallTimes (is_video_header bytes) (video_header_of bytes) (NotRead NotVideoHeader)
-    (either_way SmallTimes (leb 0b10 (named "PTS_DTS_flags" packetHead (number 9 bytes))) (fields_of (end_of bytes) (flags_of packetHead (number 9 bytes)) (data_of bytes)) (NotRead NoPts)
+    either_way SmallTimes (is_video_header bytes) (video_header_of bytes) (Err NotVideoHeader)
+    (either_way SmallTimes (leb 0b10 (named "PTS_DTS_flags" packetHead (number 9 bytes))) (fields_of (end_of bytes) (flags_of packetHead (number 9 bytes)) (data_of bytes)) (Err NoPts)
     (small_times (end_of bytes) (stamps_of (flags_of packetHead (number 9 bytes)).pts_dts (data_of bytes)) (header_data_of (flags_of packetHead (number 9 bytes)) (data_of bytes))) (omega arith))
     (omega arith)
 
 abbrev pub SmallHeader : HeaderWritten → Type 0
-SmallHeader (HeaderBytes count) = count ≤ 32768
-SmallHeader (NoHeader refusal) = Placed refusal
+SmallHeader (Ok count) = count ≤ 32768
+SmallHeader (Err refusal) = Placed refusal
 
 header_short : (times : Times) (with_tref : Bool) → length (header_of times with_tref) ≤ 32768
 header_short times with_tref =
@@ -100,9 +93,9 @@ header_short times with_tref =
 
 pub small_header : (times : Times) (with_tref : Bool) (room : ℕ) → SmallHeader (write_of times with_tref room)
 small_header times with_tref room =
-    either_way SmallHeader (timesTooWide times with_tref) (NoHeader TooWide) _ (omega arith)
-    (either_way SmallHeader (leb (length (header_of times with_tref)) room) _ (NoHeader NoRoom)
-    (either_way SmallHeader (is_before times.pts times.decoding) (NoHeader PtsBeforeDts) (HeaderBytes (length (header_of times with_tref))) (omega arith) (header_short times with_tref))
+    either_way SmallHeader (timesTooWide times with_tref) (Err TooWide) _ (omega arith)
+    (either_way SmallHeader (leb (length (header_of times with_tref)) room) _ (Err NoRoom)
+    (either_way SmallHeader (is_before times.pts times.decoding) (Err PtsBeforeDts) (Ok (length (header_of times with_tref))) (omega arith) (header_short times with_tref))
     (omega arith))
 
 -- ---- loops
@@ -134,8 +127,8 @@ refusal_place (suc (suc (suc (suc (suc (suc (suc (suc (suc (suc zero)))))))))) p
 refusal_place (suc (suc (suc (suc (suc (suc (suc (suc (suc (suc (suc n))))))))))) place = omega arith
 
 abbrev pub SmallOutcome : Outcome → Type 0
-SmallOutcome Accepted = Unit {0}
-SmallOutcome (LoopRefused refusal) = Placed refusal
+SmallOutcome (Ok tt) = Unit {0}
+SmallOutcome (Err refusal) = Placed refusal
 
 abbrev pub SmallLoop : LoopRead → Type 0
 SmallLoop read = SmallOutcome read.outcome × (read.count ≤ 32768)
@@ -150,16 +143,16 @@ small_entries streams h =
     let place : ℕ = earliest_place (applies streams) lowest (length streams) in
     let within = (seek_first (applies streams lowest) (length streams)).within in
     let at = refusal_place lowest place in
-    either_way (SmallBy streams) (ltb lowest 10) (Refuses (refusal_of lowest place)) (Entries (length streams) (pair_of streams)) (omega arith, omega arith) (tt, omega arith)
+    either_way (SmallBy streams) (ltb lowest 10) (Err (refusal_of lowest place)) (entries_judged (length streams) (pair_of streams)) (omega arith, omega arith) (tt, omega arith)
 
 pub small_loop : (reading : Reading) (bytes : List ℕ) → SmallLoop (loop_read reading bytes)
 small_loop reading bytes =
-    or_else (SmallBy (streams_of reading bytes)) (ltb 1008 (length bytes)) (Refuses LoopTooLong) (judged (streams_of reading bytes)) (omega arith, omega arith)
+    or_else (SmallBy (streams_of reading bytes)) (ltb 1008 (length bytes)) (Err LoopTooLong) (judged (streams_of reading bytes)) (omega arith, omega arith)
     (λ e. small_entries (streams_of reading bytes) (omega (arith, few_streams reading bytes, ltb-false 1008 (length bytes) e)))
 
 abbrev pub SmallWritten : Written → Type 0
-SmallWritten (Bytes count) = count ≤ 32768
-SmallWritten (NotWritten refusal) = Placed refusal
+SmallWritten (Ok count) = count ≤ 32768
+SmallWritten (Err refusal) = Placed refusal
 
 pub small_written : (room count : ℕ) (array : List Entry) → SmallWritten (answer room count array)
 small_written room count array =
@@ -168,31 +161,31 @@ small_written room count array =
     let place : ℕ = earliest_place (applies_to entries) lowest (length entries) in
     let within = (seek_first (applies_to entries lowest) (length entries)).within in
     let at = refusal_place lowest place in
-    or_else SmallWritten (any too_wide entries) (NotWritten TooWide) _ (omega arith) (λ fine.
-    or_else SmallWritten (ltb 201 count || ltb 1008 (length (loop_bytes entries))) (NotWritten LoopTooLong) (judged_in room entries) (omega arith) (λ short.
-    either_way SmallWritten (ltb lowest 10) (NotWritten (refusal_of lowest place)) (in_room room (length (loop_bytes entries)))
+    or_else SmallWritten (any too_wide entries) (Err TooWide) _ (omega arith) (λ fine.
+    or_else SmallWritten (ltb 201 count || ltb 1008 (length (loop_bytes entries))) (Err LoopTooLong) (judged_in room entries) (omega arith) (λ short.
+    either_way SmallWritten (ltb lowest 10) (Err (refusal_of lowest place)) (in_room room (length (loop_bytes entries)))
     (omega (arith, length-take count array, ltb-false 201 count (neither_left (ltb 201 count) (ltb 1008 (length (loop_bytes entries))) short)))
-    (either_way SmallWritten (ltb room (length (loop_bytes entries))) (NotWritten NoRoom) (Bytes (length (loop_bytes entries))) (omega arith)
+    (either_way SmallWritten (ltb room (length (loop_bytes entries))) (Err NoRoom) (Ok (length (loop_bytes entries))) (omega arith)
     (omega (arith, ltb-false 1008 (length (loop_bytes entries)) (neither_right (ltb 201 count) (ltb 1008 (length (loop_bytes entries))) short))))))
 
 -- ---- closures
 
 abbrev pub SmallClosure : Closure → Type 0
-SmallClosure (Complete members) = Unit {0}
-SmallClosure (NoClosure refusal) = Placed refusal
+SmallClosure (Ok members) = Unit {0}
+SmallClosure (Err refusal) = Placed refusal
 
 small_answer : (layers : Layers) (there : Bool) (set : ℕ) → SmallClosure (answer_for layers there set)
 small_answer layers false set = omega arith
 small_answer layers true set =
     let within = (seek_first (lacks layers set) 64).within in
-    either_way SmallClosure (some (lacks layers set) 64) (NoClosure (EmbeddedLayerAbsent (record { 0 = seek (lacks layers set) 64 }))) (Complete set) (omega arith) tt
+    either_way SmallClosure (some (lacks layers set) 64) (Err (EmbeddedLayerAbsent (record { 0 = seek (lacks layers set) 64 }))) (Ok set) (omega arith) tt
 
 pub small_closure_of : (layers : Layers) (target : ℕ) → SmallClosure (closure_of layers target)
 small_closure_of layers target = small_answer layers (is_layer layers target) (rested_on layers target)
 
 small_closure_for : (o : Outcome) (layers : Layers) (target : ℕ) → SmallOutcome o → SmallClosure (closure_for o layers target)
-small_closure_for Accepted layers target h = small_closure_of layers target
-small_closure_for (LoopRefused refusal) layers target h = h
+small_closure_for (Ok tt) layers target h = small_closure_of layers target
+small_closure_for (Err refusal) layers target h = h
 
 pub small_closure : (reading : Reading) (bytes : List ℕ) (target : ℕ) → SmallClosure (loop_closure reading bytes target)
 small_closure reading bytes target =

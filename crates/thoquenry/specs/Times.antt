@@ -1,13 +1,11 @@
 -- THE TIMES OF A PES HEADER, and whether a TREF stands in it, read and written: thq_read_times and thq_write_times.
 -- Assumes nothing.
-use Rattle.std.specs.Prelude.{ℕ, Bool, cond, List, [], ◌∷◌, eqb, ltb, length}
+use Rattle.std.specs.Prelude.{ℕ, Bool, cond, List, [], ◌∷◌, eqb, ltb, length, Err, Ok}
 use Rattle.vocabulary.specs.declared.refusal.Refusal.TheVariants.{NoRoom, TooWide}
 use Rattle.buffers.specs.Buffers.{over}
-use Rattle.pes_reader.specs.declared.Answer.{Answer}
-use Rattle.pes_reader.specs.declared.Answer.TheVariants.{Read, Refused}
+use Rattle.pes_reader.specs.Answer.{Answer}
 use Rattle.stamps.specs.declared.Times.{Times}
-use Rattle.pes_writer.specs.declared.Written.{Written}
-use Rattle.pes_writer.specs.declared.Written.TheVariants.{Bytes, Refused as NotWritten}
+use Rattle.pes_writer.specs.Answer.{Written}
 use Rattle.pes_reader.specs.Reading.{read_of}
 use Rattle.pes_writer.specs.Writing.{header_of, write_of, buffer_of}
 use Rattle.c_answers.specs.Answers.{accepted, refused, Reply, reply, unchanged}
@@ -18,10 +16,10 @@ abbrev pub bit_of : Bool → ℕ
 bit_of flag = cond flag 1 0
 
 abbrev pub times_read : Answer → List ℕ → Reply
-times_read (Read header) times =
+times_read (Ok header) times =
     reply (accepted 5)
     (over (header.times.pts ∷ header.times.decoding ∷ header.times.matching ∷ bit_of header.tref_sent ∷ header.end ∷ []) times)
-times_read (Refused refusal) times = unchanged refusal times
+times_read (Err refusal) times = unchanged refusal times
 
 -- 'Refusals: 17 where `times_length` is below 5; then 20 to 24.'
 abbrev pub read_times : List ℕ → List ℕ → Reply
@@ -29,8 +27,8 @@ read_times bytes times = cond (ltb (length times) 5) (unchanged NoRoom times) (t
 
 -- 'Counts the bytes written to `out`.'
 abbrev pub bytes_written : Written → ℕ
-bytes_written (Bytes count) = accepted count
-bytes_written (NotWritten refusal) = refused refusal
+bytes_written (Ok count) = accepted count
+bytes_written (Err refusal) = refused refusal
 
 abbrev pub times_written : Times → Bool → List ℕ → Reply
 times_written times with_tref out =

@@ -1,13 +1,11 @@
 // A loop read and written as rows of numbers, and the closure of a target.
 ghost use Rattle.std.specs.Prelude.{◌≡◌, map};
+ghost use Rattle.es_loop.specs.Answer.{entries_judged};
 ghost use Rattle.loop_entries.specs.Entries.{streams_of, entry_of};
 ghost use Rattle.es_loop.specs.Reading.{verdict_of, loop_read};
 ghost use Rattle.thoquenry.specs.Loops.{entries_laid, rows_read, read_loop, write_loop, closure_laid, closure_call};
 
-use c_answers::{Asked, accepted, not_a_call, reading_of, refused};
-use closure::Closure;
-use es_loop::Verdict;
-use loop_writer::Written;
+use c_answers::{accepted, not_a_call, reading_of, refused};
 use vocabulary::{Reading, Refusal};
 
 // The numbers of an entry.
@@ -21,7 +19,7 @@ fn lay_accepted(
     pair: bool,
     entries: &mut [u16],
 ) -> u64
-    requires { verdict_of reading bytes.now ≡ Verdict.Entries count pair }
+    requires { verdict_of reading bytes.now ≡ entries_judged count pair }
     ensures answer { result ≡ (entries_laid count (map entry_of (streams_of reading bytes.now)) entries.old).answer }
     ensures content { entries.new ≡ (entries_laid count (map entry_of (streams_of reading bytes.now)) entries.old).buffer }
 {
@@ -38,8 +36,8 @@ fn lay_rows(reading: Reading, bytes: &[u8], entries: &mut [u16]) -> u64
     ensures content { entries.new ≡ (rows_read (loop_read reading bytes.now) entries.old).buffer }
 {
     match es_loop::judge(reading, bytes) {
-        Verdict::Refused(refusal) => refused(refusal),
-        Verdict::Entries { count, pair } => lay_accepted(reading, bytes, count, pair, entries),
+        Err(refusal) => refused(refusal),
+        Ok(judged) => lay_accepted(reading, bytes, judged.count, judged.pair, entries),
     }
 }
 
@@ -49,8 +47,8 @@ pub fn thq_read_loop(reading: u64, bytes: &[u8], entries: &mut [u16]) -> u64
 {
     let asked = reading_of(reading);
     match asked {
-        Asked::Known(known) => lay_rows(known, bytes, entries),
-        Asked::Neither => not_a_call(),
+        Some(known) => lay_rows(known, bytes, entries),
+        None => not_a_call(),
     }
 }
 
@@ -63,25 +61,25 @@ pub fn thq_write_loop(entries: &[u16], out: &mut [u8]) -> u64
     }
     let written = row_writer::write_rows(entries, out);
     match written {
-        Written::Bytes(count) => accepted(count),
-        Written::Refused(refusal) => refused(refusal),
+        Ok(count) => accepted(count),
+        Err(refusal) => refused(refusal),
     }
 }
 
 // The members of a closure, laid into the buffer.
-fn lay_closure(found: Closure, set: &mut [u64]) -> u64
+fn lay_closure(found: Result<u64, Refusal>, set: &mut [u64]) -> u64
     ensures answer { result ≡ (closure_laid found set.old).answer }
     ensures content { set.new ≡ (closure_laid found set.old).buffer }
 {
     match found {
-        Closure::Complete(members) => {
+        Ok(members) => {
             if set.len() < 1 {
                 return refused(Refusal::NoRoom);
             }
             set[0] = members;
             accepted(sets::size(members))
         }
-        Closure::Refused(refusal) => refused(refusal),
+        Err(refusal) => refused(refusal),
     }
 }
 
@@ -91,7 +89,7 @@ pub fn thq_closure(reading: u64, bytes: &[u8], target: u64, set: &mut [u64]) -> 
 {
     let asked = reading_of(reading);
     match asked {
-        Asked::Known(known) => lay_closure(loop_layers::closure_of_loop(known, bytes, target), set),
-        Asked::Neither => not_a_call(),
+        Some(known) => lay_closure(loop_layers::closure_of_loop(known, bytes, target), set),
+        None => not_a_call(),
     }
 }

@@ -3,14 +3,8 @@ ghost use Rattle.std.specs.Prelude.{◌≡◌};
 ghost use Rattle.thoquenry.specs.Times.{bit_of, read_times, write_times};
 
 use c_answers::{accepted, refused};
-use pes::{Answer, Times, Written};
+use pes::Times;
 use vocabulary::Refusal;
-
-fn bit(flag: bool) -> u64
-    ensures { result ≡ bit_of flag }
-{
-    if flag { 1 } else { 0 }
-}
 
 pub fn thq_read_times(bytes: &[u8], times: &mut [u64]) -> u64
     ensures answer { result ≡ (read_times bytes.now times.old).answer }
@@ -21,15 +15,15 @@ pub fn thq_read_times(bytes: &[u8], times: &mut [u64]) -> u64
     }
     let read = pes::read(bytes);
     match read {
-        Answer::Read(header) => {
+        Ok(header) => {
             times[0] = header.times.pts;
             times[1] = header.times.decoding;
             times[2] = header.times.matching;
-            times[3] = bit(header.tref_sent);
+            times[3] = u64::from(header.tref_sent);
             times[4] = header.end as u64;
             accepted(5)
         }
-        Answer::Refused(refusal) => refused(refusal),
+        Err(refusal) => refused(refusal),
     }
 }
 
@@ -53,7 +47,7 @@ pub fn thq_write_times(
     };
     let written = pes::write(times, with_tref == 1, out);
     match written {
-        Written::Bytes(count) => accepted(count),
-        Written::Refused(refusal) => refused(refusal),
+        Ok(count) => accepted(count),
+        Err(refusal) => refused(refusal),
     }
 }

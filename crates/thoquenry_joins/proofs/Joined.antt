@@ -7,7 +7,7 @@ use lib.ListN.{length}
 use Rattle.closure.specs.declared.Layers.{Layers}
 use Rattle.rows.specs.Table.{Table}
 use Rattle.unit_lists.specs.Sequence.{Lists}
-use Rattle.join_answers.specs.declared.answer.Joined.{Joined}
+use Rattle.join_answers.specs.Answer.{Joined}
 use Rattle.join_answers.specs.Joining.{lists_after}
 use Rattle.thoquenry_joins.specs.Joins.{with_summary, joined_answer, summary_after, JoinReply, join_reply}
 use Rattle.thoquenry_joins.proofs.Rooms.{barred, short_summary, whole_summary, barred_lists, barred_summary}

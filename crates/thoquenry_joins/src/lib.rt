@@ -2,18 +2,16 @@
 // documents each; specs/Joins.antt has, for each, one definition of its answer and of what its lists hold afterwards.
 #![tactic(auto)]
 
-ghost use Rattle.std.specs.Prelude.{◌≡◌, ◌≤◌, length};
+ghost use Rattle.std.specs.Prelude.{◌≡◌, ◌≤◌, length, Some};
 ghost use Rattle.rows.specs.Table.{table, most_rows};
 ghost use Rattle.unit_lists.specs.Sequence.{lists};
 ghost use Rattle.join_answers.specs.Joining.{most_long};
 ghost use Rattle.join_answers.specs.Steps.{spaces};
 ghost use Rattle.thoquenry_joins.specs.Joins.{layers_given, with_summary, joined_answer, summary_after, join_over, join_call, join_long_call, import_asked, import_call};
 
-use c_answers::{Asked, accepted, not_a_call, reading_of, refused};
+use c_answers::{accepted, not_a_call, reading_of, refused};
 use closure::Layers;
-use combinators::lesser;
-use es_loop::Outcome;
-use joining::Joined;
+use joining::Units;
 use vocabulary::{Reading, Refusal};
 
 // The layers that a caller gives. A number that is not there is the empty set.
@@ -21,11 +19,9 @@ fn layers_given(present: u64, embedded: &[u64]) -> Layers
     ensures { result ≡ layers_given present embedded.now }
 {
     let mut named = [0u64; 64];
-    let end = lesser(embedded.len(), 64);
-    let mut i = 0;
-    while i < end {
+    let end = embedded.len().min(64);
+    for i in 0..end {
         named[i] = embedded[i];
-        i += 1;
     }
     Layers {
         present,
@@ -34,36 +30,28 @@ fn layers_given(present: u64, embedded: &[u64]) -> Layers
 }
 
 // The answer, and the summary where rows were joined.
-fn summarise(joined: Joined, summary: &mut [u64]) -> u64
+fn summarise(joined: Result<Units, Refusal>, summary: &mut [u64]) -> u64
     requires { 2 ≤ length summary.old }
     ensures answer { result ≡ joined_answer joined }
     ensures content { summary.new ≡ summary_after joined summary.old }
 {
     match joined {
-        Joined::Units {
-            closure,
-            units,
-            rows,
-        } => {
-            summary[0] = closure;
-            summary[1] = units as u64;
-            accepted(rows)
+        Ok(found) => {
+            summary[0] = found.closure;
+            summary[1] = found.units as u64;
+            accepted(found.rows)
         }
-        Joined::Refused(refusal) => refused(refusal),
+        Err(refusal) => refused(refusal),
     }
 }
 
 // The answer where the summary has no room: 17 in place of the units, and every lower number as it is.
-fn without_summary(joined: Joined) -> u64
+fn without_summary(joined: Result<Units, Refusal>) -> u64
     ensures { result ≡ joined_answer (with_summary 0 joined) }
 {
     match joined {
-        Joined::Units {
-            closure: _,
-            units: _,
-            rows: _,
-        } => refused(Refusal::NoRoom),
-        Joined::Refused(refusal) => refused(refusal),
+        Ok(_) => refused(Refusal::NoRoom),
+        Err(refusal) => refused(refusal),
     }
 }
 
@@ -224,18 +212,18 @@ fn import_under(
     sizes: &mut [u64],
     summary: &mut [u64],
 ) -> u64
-    ensures answer { result ≡ (import_asked (Asked.Known reading) bytes.now target (table indices.now decodings.now matches.now) (lists numbers.old lags.old sizes.old) summary.old).answer }
-    ensures content { lists numbers.new lags.new sizes.new ≡ (import_asked (Asked.Known reading) bytes.now target (table indices.now decodings.now matches.now) (lists numbers.old lags.old sizes.old) summary.old).after }
-    ensures summed { summary.new ≡ (import_asked (Asked.Known reading) bytes.now target (table indices.now decodings.now matches.now) (lists numbers.old lags.old sizes.old) summary.old).summary }
+    ensures answer { result ≡ (import_asked (Some reading) bytes.now target (table indices.now decodings.now matches.now) (lists numbers.old lags.old sizes.old) summary.old).answer }
+    ensures content { lists numbers.new lags.new sizes.new ≡ (import_asked (Some reading) bytes.now target (table indices.now decodings.now matches.now) (lists numbers.old lags.old sizes.old) summary.old).after }
+    ensures summed { summary.new ≡ (import_asked (Some reading) bytes.now target (table indices.now decodings.now matches.now) (lists numbers.old lags.old sizes.old) summary.old).summary }
 {
     let read = loop_layers::read_layers(reading, bytes);
     let outcome = read.outcome;
     let layers = read.layers;
     match outcome {
-        Outcome::Accepted => join_over(
+        Ok(()) => join_over(
             layers, target, indices, decodings, matches, numbers, lags, sizes, summary,
         ),
-        Outcome::Refused(refusal) => refused(refusal),
+        Err(refusal) => refused(refusal),
     }
 }
 
@@ -257,9 +245,9 @@ pub fn thq_import(
 {
     let asked = reading_of(reading);
     match asked {
-        Asked::Known(known) => import_under(
+        Some(known) => import_under(
             known, bytes, target, indices, decodings, matches, numbers, lags, sizes, summary,
         ),
-        Asked::Neither => not_a_call(),
+        None => not_a_call(),
     }
 }

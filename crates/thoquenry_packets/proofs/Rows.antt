@@ -7,7 +7,7 @@ use Rattle.loop_layers.specs.declared.table.TableRead.{TableRead}
 use Rattle.unit_starts.specs.Finding.{rows_in}
 use Rattle.recording_rows.specs.Columns.{Columns}
 use Rattle.recordings.specs.Reading.{recording_of}
-use Rattle.recording_imports.specs.declared.RowsRead.{RowsRead}
+use Rattle.recording_imports.specs.Answer.{RowsRead}
 use Rattle.recording_imports.specs.Rows.{loop_layers, pid_table_of, rows_for, columns_with, columns_under}
 use Rattle.recording_imports.proofs.Told.{under_loop}
 use Rattle.packet_answers.specs.Answers.{rows_answer}

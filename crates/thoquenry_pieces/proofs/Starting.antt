@@ -1,5 +1,6 @@
 -- The call that begins a state: its lists are those of the layers of the loop, or as they were.
 -- Assumes nothing.
+use Rattle.std.specs.Prelude.{Err, Ok}
 use Prim.Native.Nat.{ℕ, ◌≤◌}
 use mathlib.Core.Path.{◌≡◌, sym, ap, ap₂, ◌∙◌}
 use mathlib.Core.Bool.{Bool, cond, ◌&&◌}
@@ -12,8 +13,7 @@ use lib.Seq.{sets}
 use Rattle.buffers.proofs.Laws.{sets_over}
 use Rattle.sets.specs.Sets.{size}
 use Rattle.vocabulary.specs.declared.refusal.Refusal.{Refusal}
-use Rattle.es_loop.specs.declared.reader.Outcome.{Outcome}
-use Rattle.es_loop.specs.declared.reader.Outcome.TheVariants.{Accepted, Refused}
+use Rattle.es_loop.specs.Answer.{Outcome}
 use Rattle.loop_layers.specs.declared.table.LayerTable.{LayerTable}
 use Rattle.loop_layers.specs.declared.table.TableRead.{TableRead}
 use Rattle.pid_layers.specs.PidLayers.{pids}
@@ -60,9 +60,9 @@ module _ (bytes state counts : List ℕ) where
         ap (λ (x : TableRead). begun_by x.outcome x.table state counts) r
         ∙ sym (ap₂ (λ (t u : Bool). answered (t && u)) (eq-eqb (length state) state_bytes e) (eq-eqb (length counts) state_numbers f))
 
-    pub loop_begins : read.outcome ≡ Accepted → {reply : StateReply} → reply ≡ begun read.table state → reply ≡ start_call bytes state counts
+    pub loop_begins : read.outcome ≡ Ok tt → {reply : StateReply} → reply ≡ begun read.table state → reply ≡ start_call bytes state counts
     loop_begins o b = b ∙ sym (ap (λ (x : Outcome). begun_by x read.table state counts) o) ∙ on
 
-    pub loop_refuses : {refusal : Refusal} → read.outcome ≡ Refused refusal → {answer : ℕ} → answer ≡ refused refusal
+    pub loop_refuses : {refusal : Refusal} → read.outcome ≡ Err refusal → {answer : ℕ} → answer ≡ refused refusal
         → state_reply answer state counts ≡ start_call bytes state counts
     loop_refuses o a = ap (λ (n : ℕ). state_reply n state counts) a ∙ sym (ap (λ (x : Outcome). begun_by x read.table state counts) o) ∙ on

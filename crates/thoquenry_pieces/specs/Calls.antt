@@ -1,15 +1,14 @@
 -- A RECORDING IN PIECES, FOR C: thq_packets_start, thq_packets_feed and thq_packets_told. The state is two lists of the caller's, whose layout and meaning
 -- `packet_states` has; what is no state is no call, and everything is then as it was.
 -- Assumes nothing.
-use Rattle.std.specs.Prelude.{ℕ, ◌≡◌, Bool, true, false, cond, ◌&&◌, List, eqb, length}
+use Rattle.std.specs.Prelude.{ℕ, ◌≡◌, Bool, true, false, cond, ◌&&◌, List, eqb, length, Err, Ok}
 use Rattle.buffers.specs.Buffers.{over}
 use Rattle.sets.specs.Sets.{size}
-use Rattle.es_loop.specs.declared.reader.Outcome.{Outcome}
-use Rattle.es_loop.specs.declared.reader.Outcome.TheVariants.{Accepted, Refused}
+use Rattle.es_loop.specs.Answer.{Outcome}
 use Rattle.loop_layers.specs.declared.table.LayerTable.{LayerTable}
 use Rattle.unit_starts.specs.declared.Found.{Found}
 use Rattle.recording_rows.specs.Columns.{Columns, room_in}
-use Rattle.recordings.specs.declared.Recording.{Recording}
+use Rattle.recordings.specs.Answer.{Recording}
 use Rattle.recordings.specs.Reading.{answer_of}
 use Rattle.recording_imports.specs.Rows.{loop_layers, pid_table_of, rows_told}
 use Rattle.passing.specs.Passing.{stored_from, with_room}
@@ -33,8 +32,8 @@ abbrev pub begun : LayerTable → List ℕ → StateReply
 begun table state = state_reply (accepted (size table.layers.present)) (over (pid_table_of table) state) (counts_of starts_with 0 no_ends)
 
 abbrev pub begun_by : Outcome → LayerTable → List ℕ → List ℕ → StateReply
-begun_by Accepted table state counts = begun table state
-begun_by (Refused refusal) table state counts = state_reply (refused refusal) state counts
+begun_by (Ok tt) table state counts = begun table state
+begun_by (Err refusal) table state counts = state_reply (refused refusal) state counts
 
 abbrev pub start_call : List ℕ → List ℕ → List ℕ → StateReply
 start_call bytes state counts =

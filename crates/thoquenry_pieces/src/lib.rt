@@ -8,12 +8,10 @@ ghost use Rattle.packet_states.specs.States.{state_bytes, state_numbers, is_stat
 ghost use Rattle.thoquenry_pieces.specs.Calls.{state_reply, begun, start_call, FeedCall, room_told, told_by, told_call};
 
 use c_answers::{accepted, not_a_call, refused};
-use combinators::lesser;
-use es_loop::Outcome;
 use loop_layers::LayerTable;
 use packet_answers::rows_answer;
 use packet_states::{STATE_BYTES, STATE_NUMBERS};
-use recordings::Recording;
+use recordings::RecordingFault;
 use vocabulary::Reading;
 
 // A state of the layers, with nothing known yet. Counts the layers.
@@ -41,8 +39,8 @@ pub fn thq_packets_start(bytes: &[u8], state: &mut [u8], counts: &mut [u64]) -> 
     let read = loop_layers::read_table(Reading::Edition2015, bytes);
     let outcome = read.outcome;
     match outcome {
-        Outcome::Accepted => begin(read.table, state, counts),
-        Outcome::Refused(refusal) => refused(refusal),
+        Ok(()) => begin(read.table, state, counts),
+        Err(refusal) => refused(refusal),
     }
 }
 
@@ -50,10 +48,7 @@ pub fn thq_packets_start(bytes: &[u8], state: &mut [u8], counts: &mut [u64]) -> 
 fn shortest(indices: usize, decodings: usize, matches: usize, trefs: usize, numbers: usize) -> usize
     ensures { result ≡ min indices (min decodings (min matches (min trefs numbers))) }
 {
-    lesser(
-        indices,
-        lesser(decodings, lesser(matches, lesser(trefs, numbers))),
-    )
+    indices.min(decodings.min(matches.min(trefs.min(numbers))))
 }
 
 pub fn thq_packets_feed(
@@ -122,7 +117,7 @@ fn room_told(no_room: u64, rows: usize) -> usize
 }
 
 // What the recording is if it ends here.
-pub fn told(state: &[u8], counts: &[u64]) -> Recording
+pub fn told(state: &[u8], counts: &[u64]) -> Result<usize, RecordingFault>
     requires { is_state state.now counts.now ≡ true }
     ensures { result ≡ told_by counts.now }
 {

@@ -1,5 +1,6 @@
 -- What was read, as it is laid into the lists: how long each has to be, that there is room, and what they hold afterwards.
 -- Assumes nothing.
+use Rattle.std.specs.Prelude.{Err, Ok}
 use Prim.Native.Nat.{ℕ, suc, ◌+◌, ◌*◌, ◌/◌, ◌≤◌, ◌<◌}
 use mathlib.Core.Bool.{Bool, true, false, cond, ◌&&◌}
 use mathlib.Core.List.{List, [], ◌∷◌}
@@ -15,8 +16,7 @@ use Rattle.buffers.specs.Buffers.{over, Laid}
 use Rattle.buffers.proofs.Laws.{laid_over_lem}
 use Rattle.vocabulary.specs.declared.refusal.Refusal.{Refusal}
 use Rattle.vocabulary.specs.declared.refusal.Refusal.TheVariants.{NoRoom}
-use Rattle.es_loop.specs.declared.reader.Outcome.{Outcome}
-use Rattle.es_loop.specs.declared.reader.Outcome.TheVariants.{Accepted, Refused}
+use Rattle.es_loop.specs.Answer.{Outcome}
 use Rattle.operation_points.specs.Values.{PointValue, counts_of, reference_bytes, layer_bytes}
 use Rattle.program_points.specs.declared.PointsRead.{PointsRead}
 use Rattle.program_points.specs.declared.Tally.{Tally}
@@ -223,18 +223,18 @@ module _ (program : List ℕ) (b : AreBytes program) (read : PointsRead) (ready 
 
 -- ---- what was read, accepted or not
 
-pub ready_of : (program bytes : List ℕ) (read : PointsRead) → read ≡ points_read program bytes → read.outcome ≡ Accepted → Ready program read
+pub ready_of : (program bytes : List ℕ) (read : PointsRead) → read ≡ points_read program bytes → read.outcome ≡ Ok tt → Ready program read
 ready_of program bytes read e o =
     let w = accepted_read program bytes read e o in
     record { filled = w.filled; bytes = w.bytes; tally_is = w.tally_is }
 
 module _ (program bytes : List ℕ) (read : PointsRead) (e : read ≡ points_read program bytes) (old : Lists) where
-  pub reply_accepted : {r : PointsReply} → read.outcome ≡ Accepted → r ≡ told_points read.layers program old → r ≡ read_points program bytes old
+  pub reply_accepted : {r : PointsReply} → read.outcome ≡ Ok tt → r ≡ told_points read.layers program old → r ≡ read_points program bytes old
   unfolding read_points
   reply_accepted o answer =
       answer ∙ ap (λ (x : Outcome). reply_by x read.layers program old) (sym o) ∙ ap (λ (x : PointsRead). reply_to x program old) e
 
-  pub reply_refused : {answer : ℕ} (refusal : Refusal) → read.outcome ≡ Refused refusal → answer ≡ refused refusal → points_reply answer old ≡ read_points program bytes old
+  pub reply_refused : {answer : ℕ} (refusal : Refusal) → read.outcome ≡ Err refusal → answer ≡ refused refusal → points_reply answer old ≡ read_points program bytes old
   unfolding read_points
   reply_refused refusal o a =
       ap (λ (n : ℕ). points_reply n old) a ∙ ap (λ (x : Outcome). reply_by x read.layers program old) (sym o) ∙ ap (λ (x : PointsRead). reply_to x program old) e

@@ -1,11 +1,10 @@
 -- THE FUNCTION FOR C that reads a program's operation points: its answer, and what its seven lists hold afterwards.
 -- Assumes nothing.
-use Rattle.std.specs.Prelude.{ℕ, Bool, cond, ◌&&◌, List, ◌≡◌, leb, length}
+use Rattle.std.specs.Prelude.{ℕ, Bool, cond, ◌&&◌, List, ◌≡◌, leb, length, Err, Ok}
 use Rattle.buffers.specs.Buffers.{over}
 use Rattle.vocabulary.specs.declared.refusal.Refusal.TheVariants.{NoRoom}
 use Rattle.closure.specs.declared.Layers.{Layers}
-use Rattle.es_loop.specs.declared.reader.Outcome.{Outcome}
-use Rattle.es_loop.specs.declared.reader.Outcome.TheVariants.{Accepted, Refused}
+use Rattle.es_loop.specs.Answer.{Outcome}
 use Rattle.program_points.specs.declared.PointsRead.{PointsRead}
 use Rattle.program_points.specs.Told.{points_in, profiles_in, tally_of, Filled, points_read}
 use Rattle.point_rows.specs.Rows.{descriptor_numbers, point_numbers, reference_list, layer_list, stream_list, summary_of}
@@ -65,8 +64,8 @@ told_points layers program old =
 
 -- 'on any refusal every list keeps what it held'
 abbrev pub reply_by : Outcome → Layers → List ℕ → Lists → PointsReply
-reply_by Accepted layers program old = told_points layers program old
-reply_by (Refused refusal) layers program old = points_reply (refused refusal) old
+reply_by (Ok tt) layers program old = told_points layers program old
+reply_by (Err refusal) layers program old = points_reply (refused refusal) old
 
 abbrev pub reply_to : PointsRead → List ℕ → Lists → PointsReply
 reply_to read program old = reply_by read.outcome read.layers program old

@@ -9,7 +9,6 @@ ghost use Rattle.thoquenry_points.specs.Reading.{Ready, lists, points_reply, tol
 
 use c_answers::{accepted, refused};
 use closure::Layers;
-use es_loop::Outcome;
 use program_points::{PointsRead, Tally};
 use vocabulary::Refusal;
 
@@ -172,7 +171,7 @@ pub fn thq_read_points(
     let read = program_points::read_points(program, bytes);
     let outcome = read.outcome;
     match outcome {
-        Outcome::Accepted => lay_read(
+        Ok(()) => lay_read(
             read,
             program,
             descriptors,
@@ -183,6 +182,6 @@ pub fn thq_read_points(
             streams,
             summary,
         ),
-        Outcome::Refused(refusal) => refused(refusal),
+        Err(refusal) => refused(refusal),
     }
 }

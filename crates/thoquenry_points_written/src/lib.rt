@@ -7,7 +7,6 @@ ghost use Rattle.c_answers.specs.Answers.{reply};
 ghost use Rattle.thoquenry_points_written.specs.Writing.{write_points};
 
 use c_answers::{accepted, refused};
-use point_writer::Written;
 
 pub fn thq_write_points(
     profiles: &[u8],
@@ -20,7 +19,7 @@ pub fn thq_write_points(
 {
     let written = point_writer::write_points(profiles, points, references, layers, out);
     match written {
-        Written::Bytes(count) => accepted(count),
-        Written::Refused(refusal) => refused(refusal),
+        Ok(count) => accepted(count),
+        Err(refusal) => refused(refusal),
     }
 }

@@ -14,13 +14,13 @@ use Rattle.combinators.specs.Bools.{both_left, both_right, both_ways}
 use Rattle.sets.specs.Sets.{size}
 use Rattle.vocabulary.specs.declared.refusal.Refusal.TheVariants.{NoRoom, TooWide}
 use Rattle.loop_entries.specs.declared.Entry.{Entry}
-use Rattle.closure.specs.declared.Closure.{Closure}
+use Rattle.closure.specs.Answer.{Closure}
 use Rattle.entry_rows.specs.Rows.{row_count, row_at, row_too_wide, some_too_wide, entry_in}
 use Rattle.layer_set.specs.declared.«set».LayerSet.{LayerSet}
 use Rattle.layer_set.specs.declared.changing.Changed.{Changed}
 use Rattle.layer_set.specs.Sets.{stored_in, added_to, removed_from, closure_in}
 use Rattle.layer_set_rows.specs.Buffers.{set_in, rows_right, rows_hold, stored_holds, holds_set}
-use Rattle.c_answers.specs.declared.Asked.{Asked}
+use Rattle.c_answers.specs.Answer.{Asked}
 use Rattle.c_answers.specs.Answers.{refused, not_a_call, asked_for, Reply, reply, unchanged}
 use Rattle.thoquenry_sets.specs.Calls.{set_reply, after_change, read_into, read_set, add_set, remove_set, closure_laid, closure_set}
 

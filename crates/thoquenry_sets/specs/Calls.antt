@@ -1,20 +1,17 @@
 -- THE FUNCTIONS FOR C ON LAYER SETS: thq_set_read, thq_set_add, thq_set_remove and thq_set_closure, each one definition of its answer and of what its buffers then hold.
 -- Assumes nothing.
-use Rattle.std.specs.Prelude.{ℕ, cond, List, [], ◌∷◌, eqb, ltb, length}
+use Rattle.std.specs.Prelude.{ℕ, cond, List, [], ◌∷◌, eqb, ltb, length, Err, None, Ok, Some}
 use Rattle.buffers.specs.Buffers.{over}
 use Rattle.sets.specs.Sets.{size}
 use Rattle.vocabulary.specs.declared.refusal.Refusal.TheVariants.{NoRoom, TooWide}
-use Rattle.es_loop.specs.declared.reader.Outcome.{Outcome}
-use Rattle.es_loop.specs.declared.reader.Outcome.TheVariants.{Accepted, Refused}
-use Rattle.closure.specs.declared.Closure.{Closure}
-use Rattle.closure.specs.declared.Closure.TheVariants.{Complete, Refused as NoClosure}
+use Rattle.es_loop.specs.Answer.{Outcome}
+use Rattle.closure.specs.Answer.{Closure}
 use Rattle.entry_rows.specs.Rows.{some_too_wide, rows_of, entry_in}
 use Rattle.layer_set.specs.declared.«set».LayerSet.{LayerSet}
 use Rattle.layer_set.specs.declared.changing.Changed.{Changed}
 use Rattle.layer_set.specs.Sets.{stored_in, loop_set, added_to, removed_from, closure_in}
 use Rattle.layer_set_rows.specs.Buffers.{stored_numbers, set_in, holds_set}
-use Rattle.c_answers.specs.declared.Asked.{Asked}
-use Rattle.c_answers.specs.declared.Asked.TheVariants.{Known, Neither}
+use Rattle.c_answers.specs.Answer.{Asked}
 use Rattle.c_answers.specs.Answers.{accepted, refused, not_a_call, asked_for, Reply, reply, unchanged}
 
 -- What a call leaves: its answer, and the final content of the two buffers of the set.
@@ -32,8 +29,8 @@ set_laid s = set_reply (accepted (size s.layers.present)) (rows_of s.entries) (s
 
 -- what a change, or reading a loop, answered
 abbrev pub changed_laid : Outcome → LayerSet → List ℕ → List ℕ → SetReply
-changed_laid Accepted s layers stored = set_laid s
-changed_laid (Refused refusal) s layers stored = set_reply (refused refusal) layers stored
+changed_laid (Ok tt) s layers stored = set_laid s
+changed_laid (Err refusal) s layers stored = set_reply (refused refusal) layers stored
 
 abbrev pub after_change : Changed → List ℕ → List ℕ → SetReply
 after_change c layers stored = changed_laid c.outcome c.«set» layers stored
@@ -41,8 +38,8 @@ after_change c layers stored = changed_laid c.outcome c.«set» layers stored
 -- ---- thq_set_read: '1 to 9, at an entry', after 'THQ_NOT_A_CALL also where a length is not exactly that of a set'
 
 abbrev pub read_into : Asked → List ℕ → List ℕ → List ℕ → SetReply
-read_into (Known reading) bytes layers stored = changed_laid (loop_set reading bytes).outcome (loop_set reading bytes).«set» layers stored
-read_into Neither bytes layers stored = set_reply not_a_call layers stored
+read_into (Some reading) bytes layers stored = changed_laid (loop_set reading bytes).outcome (loop_set reading bytes).«set» layers stored
+read_into None bytes layers stored = set_reply not_a_call layers stored
 
 unfoldable pub read_set : ℕ → List ℕ → List ℕ → List ℕ → SetReply
 read_set reading bytes layers stored =
@@ -68,9 +65,9 @@ remove_set layers stored index =
 -- ---- thq_set_closure: 'THQ_NOT_A_CALL where the buffers hold no set; then 11, 12; then 17 where `closure_length` is 0'
 
 abbrev pub closure_laid : Closure → List ℕ → Reply
-closure_laid (Complete members) closure =
+closure_laid (Ok members) closure =
     cond (ltb (length closure) 1) (unchanged NoRoom closure) (reply (accepted (size members)) (over (members ∷ []) closure))
-closure_laid (NoClosure refusal) closure = unchanged refusal closure
+closure_laid (Err refusal) closure = unchanged refusal closure
 
 unfoldable pub closure_set : List ℕ → List ℕ → ℕ → List ℕ → Reply
 closure_set layers stored target closure =

@@ -2,15 +2,13 @@
 // definition of its answer and of what its buffers hold afterwards. Buffers that hold no set are no call.
 #![tactic(auto)]
 
-ghost use Rattle.std.specs.Prelude.{◌≡◌, length};
+ghost use Rattle.std.specs.Prelude.{◌≡◌, length, Some};
 ghost use Rattle.c_answers.specs.Answers.{reply};
 ghost use Rattle.layer_set.specs.Sets.{stored_in};
 ghost use Rattle.layer_set_rows.specs.Buffers.{stored_holds};
 ghost use Rattle.thoquenry_sets.specs.Calls.{set_reply, closure_laid, set_laid, changed_laid, read_into, read_set, add_set, remove_set, closure_set};
 
-use c_answers::{Asked, accepted, not_a_call, reading_of, refused};
-use closure::Closure;
-use es_loop::Outcome;
+use c_answers::{accepted, not_a_call, reading_of, refused};
 use layer_set::{Changed, LayerSet};
 use vocabulary::{Reading, Refusal};
 
@@ -25,10 +23,7 @@ const SET_STORED: usize = 192;
 fn stored_right(set: LayerSet, stored: &[u64]) -> bool
     ensures { result ≡ stored_holds (stored_in «set») stored.now }
 {
-    let closures = set.closures;
-    let sizes = set.sizes;
-    let absents = set.absents;
-    layer_set_rows::stored_holds(&closures, &sizes, &absents, stored)
+    layer_set_rows::stored_holds(&set.stored, stored)
 }
 
 // A set laid into its buffers. Counts its layers.
@@ -37,12 +32,9 @@ fn lay_set(set: LayerSet, layers: &mut [u16], stored: &mut [u64]) -> u64
     ensures { set_reply result layers.new stored.new ≡ set_laid «set» }
 {
     let entries = set.entries;
-    let closures = set.closures;
-    let sizes = set.sizes;
-    let absents = set.absents;
     let present = set.layers.present;
     layer_set_rows::lay_entries(entries, layers);
-    layer_set_rows::lay_stored(&closures, &sizes, &absents, stored);
+    layer_set_rows::lay_stored(&set.stored, stored);
     accepted(sets::size(present))
 }
 
@@ -54,15 +46,15 @@ fn lay_changed(changed: Changed, layers: &mut [u16], stored: &mut [u64]) -> u64
     let outcome = changed.outcome;
     let set = changed.set;
     match outcome {
-        Outcome::Accepted => lay_set(set, layers, stored),
-        Outcome::Refused(refusal) => refused(refusal),
+        Ok(()) => lay_set(set, layers, stored),
+        Err(refusal) => refused(refusal),
     }
 }
 
 // The set of a loop under a reading.
 fn read_into(reading: Reading, bytes: &[u8], layers: &mut [u16], stored: &mut [u64]) -> u64
     requires { (length layers.old ≡ 5120) × (length stored.old ≡ 192) }
-    ensures { set_reply result layers.new stored.new ≡ read_into (Asked.Known reading) bytes.now layers.old stored.old }
+    ensures { set_reply result layers.new stored.new ≡ read_into (Some reading) bytes.now layers.old stored.old }
 {
     let read = layer_set::read_set(reading, bytes);
     let outcome = read.outcome;
@@ -81,8 +73,8 @@ pub fn thq_set_read(reading: u64, bytes: &[u8], layers: &mut [u16], stored: &mut
     }
     let asked = reading_of(reading);
     match asked {
-        Asked::Known(known) => read_into(known, bytes, layers, stored),
-        Asked::Neither => not_a_call(),
+        Some(known) => read_into(known, bytes, layers, stored),
+        None => not_a_call(),
     }
 }
 
@@ -121,18 +113,18 @@ pub fn thq_set_remove(layers: &mut [u16], stored: &mut [u64], index: u64) -> u64
 }
 
 // The members of a closure, laid into the buffer.
-fn lay_closure(found: Closure, closure: &mut [u64]) -> u64
+fn lay_closure(found: Result<u64, Refusal>, closure: &mut [u64]) -> u64
     ensures { reply result closure.new ≡ closure_laid found closure.old }
 {
     match found {
-        Closure::Complete(members) => {
+        Ok(members) => {
             if closure.len() < 1 {
                 return refused(Refusal::NoRoom);
             }
             closure[0] = members;
             accepted(sets::size(members))
         }
-        Closure::Refused(refusal) => refused(refusal),
+        Err(refusal) => refused(refusal),
     }
 }
 

@@ -1,11 +1,10 @@
 -- thq_read_stereo: its answer, and what its two buffers hold afterwards.
 -- Assumes nothing.
-use Rattle.std.specs.Prelude.{ℕ, cond, List, ◌++◌, ltb, length}
+use Rattle.std.specs.Prelude.{ℕ, cond, List, ◌++◌, ltb, length, Err, Ok}
 use Rattle.buffers.specs.Buffers.{over}
 use Rattle.vocabulary.specs.declared.refusal.Refusal.{Refusal}
 use Rattle.vocabulary.specs.declared.refusal.Refusal.TheVariants.{NoRoom}
-use Rattle.es_loop.specs.declared.reader.Outcome.{Outcome}
-use Rattle.es_loop.specs.declared.reader.Outcome.TheVariants.{Accepted, Refused}
+use Rattle.es_loop.specs.Answer.{Outcome}
 use Rattle.entry_rows.specs.Rows.{row_of}
 use Rattle.mvc_extension.specs.MvcExtension.{mvc_extension_fields}
 use Rattle.stereo_set.specs.declared.set.StereoRead.{StereoRead}
@@ -40,8 +39,8 @@ set_laid read entries extensions =
 
 -- 'Refusals: 1 to 9, at an entry; then 44, 45, 46', before it
 abbrev pub set_read : Outcome → StereoRead → List ℕ → List ℕ → Left
-set_read Accepted read entries extensions = set_laid read entries extensions
-set_read (Refused refusal) read entries extensions = unchanged_both refusal entries extensions
+set_read (Ok tt) read entries extensions = set_laid read entries extensions
+set_read (Err refusal) read entries extensions = unchanged_both refusal entries extensions
 
 abbrev pub read_stereo : List ℕ → List ℕ → List ℕ → Left
 read_stereo bytes entries extensions = set_read (stereo_read bytes).outcome (stereo_read bytes) entries extensions

@@ -1,11 +1,10 @@
 -- thq_write_stereo: its answer, and what its buffer holds afterwards.
 -- Assumes nothing.
-use Rattle.std.specs.Prelude.{ℕ, Bool, cond, not, ◌||◌, List, length}
+use Rattle.std.specs.Prelude.{ℕ, Bool, cond, not, ◌||◌, List, length, Err, Ok}
 use Rattle.syntax.specs.Table.{fits}
 use Rattle.vocabulary.specs.declared.refusal.Refusal.TheVariants.{TooWide}
 use Rattle.loop_entries.specs.declared.Entry.{Entry}
-use Rattle.loop_writer.specs.declared.writer.Written.{Written}
-use Rattle.loop_writer.specs.declared.writer.Written.TheVariants.{Bytes, Refused}
+use Rattle.loop_writer.specs.Answer.{Written}
 use Rattle.entry_rows.specs.Rows.{some_too_wide, row_count, entries_below}
 use Rattle.mvc_extension.specs.declared.MvcExtension.{MvcExtension}
 use Rattle.mvc_extension.specs.MvcExtension.{mvc_extension_descriptor}
@@ -33,8 +32,8 @@ given_too_wide entries extensions = some_too_wide entries || (row_too_wide exten
 
 -- 'Counts the bytes written to `out`.'
 abbrev pub set_written : Written → ℕ
-set_written (Bytes count) = accepted count
-set_written (Refused refusal) = refused refusal
+set_written (Ok count) = accepted count
+set_written (Err refusal) = refused refusal
 
 -- 'Refusals: 25 first; then 1, 3 and 6 to 9, as the loop writer gives them with 20 bytes more; then 44, 46, 17.'
 abbrev pub write_stereo : List ℕ → List ℕ → List ℕ → Reply

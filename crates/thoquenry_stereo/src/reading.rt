@@ -5,7 +5,7 @@ ghost use Rattle.entry_rows.specs.Rows.{row_of};
 ghost use Rattle.thoquenry_stereo.specs.Reading.{set_laid, read_stereo};
 
 use c_answers::{accepted, refused};
-use es_loop::{Entry, Outcome};
+use es_loop::Entry;
 use stereo_set::StereoRead;
 use vocabulary::Refusal;
 
@@ -52,7 +52,7 @@ pub fn thq_read_stereo(bytes: &[u8], entries: &mut [u16], extensions: &mut [u16]
     let read = stereo_set::read_stereo(bytes);
     let outcome = read.outcome;
     match outcome {
-        Outcome::Accepted => lay_set(read, entries, extensions),
-        Outcome::Refused(refusal) => refused(refusal),
+        Ok(()) => lay_set(read, entries, extensions),
+        Err(refusal) => refused(refusal),
     }
 }

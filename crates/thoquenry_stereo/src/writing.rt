@@ -3,7 +3,6 @@ ghost use Rattle.std.specs.Prelude.{◌≡◌};
 ghost use Rattle.thoquenry_stereo.specs.Writing.{write_stereo};
 
 use c_answers::{accepted, refused};
-use loop_writer::Written;
 use vocabulary::Refusal;
 
 pub fn thq_write_stereo(entries: &[u16], extensions: &[u16], out: &mut [u8]) -> u64
@@ -23,7 +22,7 @@ pub fn thq_write_stereo(entries: &[u16], extensions: &[u16], out: &mut [u8]) -> 
     let second = mvc_rows::extension_at(extensions, 8);
     let written = stereo_writer::write_stereo(entries, base, second, out);
     match written {
-        Written::Bytes(count) => accepted(count),
-        Written::Refused(refusal) => refused(refusal),
+        Ok(count) => accepted(count),
+        Err(refusal) => refused(refusal),
     }
 }

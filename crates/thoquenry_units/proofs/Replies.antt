@@ -8,8 +8,8 @@ use lib.ListN.{length}
 use Rattle.rows.specs.Table.{Table}
 use Rattle.unit_lists.specs.Sequence.{Lists}
 use Rattle.join_answers.specs.Joining.{Room, room_of}
-use Rattle.recordings.specs.declared.Recording.{Recording}
-use Rattle.recording_imports.specs.declared.Imported.{Imported}
+use Rattle.recordings.specs.Answer.{Recording}
+use Rattle.recording_imports.specs.Answer.{Imported}
 use Rattle.recording_imports.specs.Imports.{layers_of_loop, first_rows, count_of, rows_to_join, import_told, lists_told}
 use Rattle.packet_answers.specs.Answers.{imported_answer}
 use Rattle.import_summaries.specs.Summaries.{with_summary, summary_after, ImportReply}

@@ -4,7 +4,7 @@ use Rattle.std.specs.Prelude.{ℕ, cond, List, length}
 use Rattle.rows.specs.Table.{Table}
 use Rattle.unit_lists.specs.Sequence.{Lists}
 use Rattle.join_answers.specs.Joining.{room_of}
-use Rattle.recordings.specs.declared.Recording.{Recording}
+use Rattle.recordings.specs.Answer.{Recording}
 use Rattle.recording_imports.specs.Imports.{layers_of_loop, first_rows, count_of, rows_to_join, import_told}
 use Rattle.import_summaries.specs.Summaries.{with_summary, ImportReply, import_reply}
 use Rattle.packet_states.specs.States.{is_state}

@@ -12,14 +12,14 @@ ghost use Rattle.thoquenry_units.specs.Units.{units_told, units_call};
 use c_answers::not_a_call;
 use import_summaries::{summarise, without_summary};
 use long_imports::import_told;
-use recordings::Recording;
+use recordings::RecordingFault;
 
 // The units of a recording with its answer. Without room for the summary they are found all the same, since every other number comes before 17, with lists of this
 // function's own, so that the caller's are as they were.
 fn units_told(
     bytes: &[u8],
     target: u64,
-    recording: Recording,
+    recording: Result<usize, RecordingFault>,
     indices: &[u8],
     decodings: &[u64],
     matches: &[u64],

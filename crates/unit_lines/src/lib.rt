@@ -22,10 +22,8 @@ fn put_numbers(out: &mut [u8], at: usize, numbers: &[u64]) -> usize
     ensures { Laid out.old at (numbers_text numbers.now) result out.new }
 {
     let mut place = text::put(out, at, b"");
-    let mut i = 0;
-    while i < numbers.len() {
+    for i in 0..numbers.len() {
         place = put_number(out, place, i, numbers[i]);
-        i += 1;
     }
     place
 }
@@ -46,10 +44,8 @@ pub fn put_lags(out: &mut [u8], at: usize, lags: &[i64]) -> usize
     ensures { Laid out.old at (lags_text lags.now) result out.new }
 {
     let mut place = text::put(out, at, b"");
-    let mut i = 0;
-    while i < lags.len() {
+    for i in 0..lags.len() {
         place = put_lag(out, place, lags[i]);
-        i += 1;
     }
     place
 }

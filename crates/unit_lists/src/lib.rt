@@ -30,13 +30,11 @@ fn write_unit(
     ensures beside { lags.new
         ≡ sets lags.old at (lags_from (table [] decodings.now []) time (slice first end kept.now)) }
 {
-    let mut from = first;
     let mut next = at;
-    while from < end {
+    for from in first..end {
         let row = kept[from];
         numbers[next] = row as u64;
         lags[next] = clock::lag(decodings[row], time);
-        from += 1;
         next += 1;
     }
 }
@@ -60,10 +58,8 @@ fn write_heads(
         heads.now (lists numbers.old lags.old sizes.old) }
 {
     let mut at = 0;
-    let mut unit = 0;
-    while unit < heads.len() {
-        let head = heads[unit];
-        let layer = indices[head] as usize;
+    for (unit, &head) in heads.iter().enumerate() {
+        let layer = usize::from(indices[head]);
         let size = sets::size(own[layer]);
         let first = places[head];
         write_unit(
@@ -78,7 +74,6 @@ fn write_heads(
         );
         sizes[unit] = size as u64;
         at += size;
-        unit += 1;
     }
 }
 

@@ -57,24 +57,19 @@ pub fn note(number: usize, event: Event, found: Found) -> Found
     requires { found.rows < 2 ^ 64 - 1 }
     ensures { result ≡ noted number event found }
 {
-    let fault = found.fault;
-    let refusal = found.refusal;
     match event {
         Event::Nothing => found,
         Event::Fault(fault_number) => Found {
-            fault: lower(fault, fault_number, number),
-            refusal,
-            rows: found.rows,
+            fault: lower(found.fault, fault_number, number),
+            ..found
         },
         Event::NotRead(reason) => Found {
-            fault,
-            refusal: lower(refusal, vocabulary::number(reason), number),
-            rows: found.rows,
+            refusal: lower(found.refusal, vocabulary::number(reason), number),
+            ..found
         },
         Event::Unit(_) => Found {
-            fault,
-            refusal,
             rows: found.rows + 1,
+            ..found
         },
     }
 }
@@ -92,9 +87,7 @@ fn note_start(given: Event, at: usize, starts: &mut [u64])
     ensures { starts.new ≡ sets starts.old at (map packet_in (row_in given)) }
 {
     match given {
-        Event::Nothing => (),
-        Event::Fault(_) => (),
-        Event::NotRead(_) => (),
+        Event::Nothing | Event::Fault(_) | Event::NotRead(_) => (),
         Event::Unit(row) => put_start(row.packet, at, starts),
     }
 }
@@ -115,6 +108,7 @@ pub fn walk(
 {
     let packets = bytes.len() / PACKET_BYTES;
     let mut so_far = found;
+    // A `while`: a turn goes on behind the packets that were passed over.
     let mut step = 0;
     while step < packets {
         let at = scanning::skip(table, kept, bytes, step, packets, ends);

@@ -3,7 +3,7 @@
 // that was half written is told as whole.
 #![tactic(auto)]
 
-ghost use Rattle.std.specs.Prelude.{◌≤◌, length};
+ghost use Rattle.std.specs.Prelude.{◌≤◌, length, IfOk};
 
 use std::fs::OpenOptions;
 use std::io;
@@ -12,167 +12,45 @@ use std::io::Write;
 // No line of a unit or of a row is longer: a unit has at most 64 rows (`unit_line_short` of the crate `unit_lines`).
 const LONGEST_LINE: usize = 2753;
 
-// How much of the buffer is filled, and whether all that was written was written whole.
+// The columns of rows.
+#[derive(Drop)]
+pub struct Rows<'a> {
+    pub indices: &'a mut [u8],
+    pub decodings: &'a mut [u64],
+    pub matches: &'a mut [u64],
+    pub trefs: &'a mut [u8],
+    pub packets: &'a mut [u64],
+}
+
+// The lists of units: row numbers and lags, and how many of them each unit has.
+#[derive(Drop)]
+pub struct Units<'a> {
+    pub numbers: &'a mut [u64],
+    pub lags: &'a mut [i64],
+    pub sizes: &'a mut [u64],
+}
+
+// Where it is written: to standard output, through a text; and the path of the file in which the command is told what was written, empty where nobody is.
+#[derive(Drop)]
+pub struct Output<'a> {
+    pub rt: &'a HostRuntime,
+    pub told: &'a str,
+    pub text: &'a mut [u8],
+}
+
+// What was answered, and what of it is to be written: rows where they are to be listed, and else units; or nothing yet, where there were more rows than places and `more` is asked for.
 #[derive(Clone, Copy)]
-struct Filled {
-    whole: bool,
-    end: usize,
+pub struct Answer {
+    pub listed: bool,
+    pub more: bool,
+    pub joined: u64,
+    pub rows: u64,
+    pub units: u64,
 }
 
-// Writes the text out.
-fn write_out(rt: &HostRuntime, text: &[u8], end: usize) -> bool
-    requires { end ≤ length text.now }
-{
-    let written = io::writer(rt).write_all(&text[..end]);
-    match written {
-        Ok(()) => true,
-        Err(error) => {
-            let _ = eprintln!(rt; "units: standard output was not written whole: {error}");
-            false
-        }
-    }
-}
-
-// Writes the text out where a line more might find no room.
-fn make_room(rt: &HostRuntime, text: &[u8], end: usize) -> Filled
-    requires { end ≤ length text.now }
-    ensures { result.end ≤ end }
-{
-    if LONGEST_LINE <= text.len() - end {
-        return Filled { whole: true, end };
-    }
-    Filled {
-        whole: write_out(rt, text, end),
-        end: 0,
-    }
-}
-
-fn number(list: &[u64], place: usize) -> u64 {
-    if list.len() <= place {
-        return 0;
-    }
-    list[place]
-}
-
-fn byte(list: &[u8], place: usize) -> u8 {
-    if list.len() <= place {
-        return 0;
-    }
-    list[place]
-}
-
-fn lesser(a: usize, b: usize) -> usize
-    ensures { (result ≤ a) × (result ≤ b) }
-{
-    if a <= b {
-        return a;
-    }
-    b
-}
-
-// How many rows a unit has, of so many that are left.
-fn size_of(sizes: &[u64], unit: usize, left: usize) -> usize
-    ensures { result ≤ left }
-{
-    let size = number(sizes, unit);
-    if left as u64 <= size {
-        return left;
-    }
-    size as usize
-}
-
-fn put_unit(text: &mut [u8], end: usize, numbers: &[u64], lags: &[i64]) -> usize
-    ensures { result ≤ length text.new }
-{
-    unit_lines::put_unit(text, end, numbers, lags)
-}
-
-// A line for each of so many units.
-fn write_units(
-    rt: &HostRuntime,
-    units: u64,
-    numbers: &[u64],
-    lags: &[i64],
-    sizes: &[u64],
-    text: &mut [u8],
-) -> bool {
-    let rows = lesser(numbers.len(), lags.len());
-    let mut at = 0;
-    let mut unit = 0;
-    let mut end = 0;
-    while unit < sizes.len() {
-        if units <= unit as u64 {
-            return write_out(rt, text, end);
-        }
-        let next = at + size_of(sizes, unit, rows - at);
-        end = put_unit(text, end, &numbers[at..next], &lags[at..next]);
-        let filled = make_room(rt, text, end);
-        if !filled.whole {
-            return false;
-        }
-        end = filled.end;
-        at = next;
-        unit += 1;
-    }
-    write_out(rt, text, end)
-}
-
-fn put_row(
-    text: &mut [u8],
-    end: usize,
-    row: usize,
-    indices: &[u8],
-    decodings: &[u64],
-    matches: &[u64],
-    trefs: &[u8],
-    packets: &[u64],
-) -> usize
-    ensures { result ≤ length text.new }
-{
-    unit_lines::put_row(
-        text,
-        end,
-        row as u64,
-        number(packets, row),
-        byte(indices, row),
-        number(decodings, row),
-        number(matches, row),
-        byte(trefs, row),
-    )
-}
-
-// A line for each of so many rows.
-fn write_rows(
-    rt: &HostRuntime,
-    rows: u64,
-    indices: &[u8],
-    decodings: &[u64],
-    matches: &[u64],
-    trefs: &[u8],
-    packets: &[u64],
-    text: &mut [u8],
-) -> bool {
-    let mut row = 0;
-    let mut end = 0;
-    while row < indices.len() {
-        if rows <= row as u64 {
-            return write_out(rt, text, end);
-        }
-        end = put_row(text, end, row, indices, decodings, matches, trefs, packets);
-        let filled = make_room(rt, text, end);
-        if !filled.whole {
-            return false;
-        }
-        end = filled.end;
-        row += 1;
-    }
-    write_out(rt, text, end)
-}
-
-fn put_refusal(text: &mut [u8], answer: u64) -> usize
-    ensures { result ≤ length text.new }
-{
-    unit_lines::put_refusal(text, 0, answer % 256, answer / 256)
+// What stands at a place of a list, or nothing where it ends before.
+fn at<T: Copy + Default>(list: &[T], place: usize) -> T {
+    list.get(place).copied().unwrap_or_default()
 }
 
 // A recording handed over where a loop was expected is refused as a loop, for some number that says little.
@@ -189,79 +67,114 @@ fn append(rt: &HostRuntime, path: &str, what: &[u8]) -> io::Result<()> {
 }
 
 // Tells the command what was written, where it was and there is a command to tell.
-fn tell(rt: &HostRuntime, told: &str, whole: bool, what: &[u8]) {
-    if whole & !told.is_empty() {
-        let appended = append(rt, told, what);
-        if let Err(error) = appended {
+fn tell(rt: &HostRuntime, told: &str, written: io::Result<()>, what: &[u8]) {
+    if let Err(error) = written {
+        let _ = eprintln!(rt; "units: standard output was not written whole: {error}");
+    } else if !told.is_empty() {
+        if let Err(error) = append(rt, told, what) {
             let _ = eprintln!(rt; "units: what was written cannot be told: {error}");
         }
     }
 }
 
-// Writes a text of so many bytes, and tells the command the same.
-fn write_and_tell(rt: &HostRuntime, told: &str, text: &[u8], end: usize)
-    requires { end ≤ length text.now }
-{
-    tell(rt, told, write_out(rt, text, end), &text[..end]);
-}
+impl Output<'_> {
+    // Writes the text out.
+    fn write_out(&self, end: usize) -> io::Result<()>
+        requires { end ≤ length self.now.text.now }
+    {
+        io::writer(self.rt).write_all(&self.text[..end])
+    }
 
-pub fn write_refusal(rt: &HostRuntime, told: &str, answer: u64, bytes: &[u8], text: &mut [u8]) {
-    let end = put_refusal(text, answer);
-    write_and_tell(rt, told, text, end);
-    hint(rt, bytes);
-}
+    // Writes the text out where a line more might find no room, and answers where the next one begins.
+    fn make_room(&self, end: usize) -> io::Result<usize>
+        requires { end ≤ length self.now.text.now }
+        ensures { IfOk result (λ next. next ≤ end) }
+    {
+        if LONGEST_LINE <= self.text.len() - end {
+            return Ok(end);
+        }
+        self.write_out(end)?;
+        Ok(0)
+    }
 
-// The refusals of joining, 14 to 18, are none of the rows that they name.
-fn has_rows(answer: u64) -> bool {
-    let number = answer % 256;
-    if number == 0 {
-        return true;
+    // A line for each of so many units.
+    fn write_units(&mut self, count: u64, units: &Units<'_>) -> io::Result<()> {
+        let rows = units.numbers.len().min(units.lags.len());
+        let mut at = 0;
+        let mut end = 0;
+        for size in units.sizes.iter().take(count as usize) {
+            let next = at + (*size as usize).min(rows - at);
+            end = unit_lines::put_unit(
+                self.text,
+                end,
+                &units.numbers[at..next],
+                &units.lags[at..next],
+            );
+            end = self.make_room(end)?;
+            at = next;
+        }
+        self.write_out(end)
     }
-    (13 < number) & (number < 19)
-}
 
-// Writes the answer: the rows where they are to be listed, and else the units. `rows` is how many rows there are, `answer` what joining answered, and `told` the path of the file in which
-// the command is told what was written; where it is empty nobody is.
-pub fn write_answer(
-    rt: &HostRuntime,
-    told: &str,
-    listed: bool,
-    more: bool,
-    answer: u64,
-    rows: u64,
-    units: u64,
-    bytes: &[u8],
-    indices: &[u8],
-    decodings: &[u64],
-    matches: &[u64],
-    trefs: &[u8],
-    packets: &[u64],
-    numbers: &[u64],
-    lags: &[i64],
-    sizes: &[u64],
-    text: &mut [u8],
-) {
-    if more & (answer % 256 == 13) {
-        tell(rt, told, true, b"more\n");
-        return;
+    fn put_row(&mut self, end: usize, row: usize, rows: &Rows<'_>) -> usize
+        ensures { result ≤ length self.new.text.now }
+    {
+        unit_lines::put_row(
+            self.text,
+            end,
+            row as u64,
+            at(rows.packets, row),
+            at(rows.indices, row),
+            at(rows.decodings, row),
+            at(rows.matches, row),
+            at(rows.trefs, row),
+        )
     }
-    if listed & has_rows(answer) {
-        tell(
-            rt,
-            told,
-            write_rows(rt, rows, indices, decodings, matches, trefs, packets, text),
-            b"rows\n",
-        );
-        return;
+
+    // A line for each of so many rows.
+    fn write_rows(&mut self, count: u64, rows: &Rows<'_>) -> io::Result<()> {
+        let mut end = 0;
+        for row in 0..rows.indices.len().min(count as usize) {
+            end = self.put_row(end, row, rows);
+            end = self.make_room(end)?;
+        }
+        self.write_out(end)
     }
-    if answer % 256 == 0 {
-        tell(
-            rt,
-            told,
-            write_units(rt, units, numbers, lags, sizes, text),
-            b"units\n",
-        );
-        return;
+
+    // Writes the text out, and tells the command the same.
+    fn write_and_tell(&self, end: usize)
+        requires { end ≤ length self.now.text.now }
+    {
+        let written = self.write_out(end);
+        tell(self.rt, self.told, written, &self.text[..end]);
     }
-    write_refusal(rt, told, answer, bytes, text);
+
+    // Writes a refusal.
+    pub fn write_refusal(&mut self, answer: u64, bytes: &[u8]) {
+        let end = unit_lines::put_refusal(self.text, 0, answer % 256, answer / 256);
+        self.write_and_tell(end);
+        hint(self.rt, bytes);
+    }
+
+    // Writes the answer. The refusals of joining, 14 to 18, are none of the rows that they name.
+    pub fn write_answer(
+        &mut self,
+        answer: Answer,
+        bytes: &[u8],
+        rows: &Rows<'_>,
+        units: &Units<'_>,
+    ) {
+        match answer.joined % 256 {
+            13 if answer.more => tell(self.rt, self.told, Ok(()), b"more\n"),
+            0 | 14..=18 if answer.listed => {
+                let written = self.write_rows(answer.rows, rows);
+                tell(self.rt, self.told, written, b"rows\n");
+            }
+            0 => {
+                let written = self.write_units(answer.units, units);
+                tell(self.rt, self.told, written, b"units\n");
+            }
+            _ => self.write_refusal(answer.joined, bytes),
+        }
+    }
 }

@@ -3,58 +3,48 @@
 // crates gives an exit status.
 #![tactic(auto)]
 
-use units_program::Question;
+use units_program::{Question, Recording, Room, Rows, Units, Work};
 
 const ROWS: usize = 65536;
 
 fn lend(rt: &HostRuntime, question: Question) {
-    let mut buffer = [0u8; 262144];
-    let mut state = [0u8; 20412];
-    let mut counts = [0u64; 72];
-    let mut indices = [0u8; ROWS];
-    let mut decodings = [0u64; ROWS];
-    let mut matches = [0u64; ROWS];
-    let mut trefs = [0u8; ROWS];
-    let mut packets = [0u64; ROWS];
-    let mut order = [0usize; ROWS];
-    let mut keys = [0u64; ROWS];
-    let mut kept = [0usize; ROWS];
-    let mut places = [0usize; ROWS];
-    let mut heads = [0usize; ROWS];
-    let mut claimed = [false; ROWS];
-    let mut used = [false; ROWS];
-    let mut numbers = [0u64; ROWS];
-    let mut lags = [0i64; ROWS];
-    let mut sizes = [0u64; ROWS];
-    let mut text = [0u8; 65536];
-    units_program::run(
-        rt,
-        question,
-        &mut buffer,
-        &mut state,
-        &mut counts,
-        &mut indices,
-        &mut decodings,
-        &mut matches,
-        &mut trefs,
-        &mut packets,
-        &mut order,
-        &mut keys,
-        &mut kept,
-        &mut places,
-        &mut heads,
-        &mut claimed,
-        &mut used,
-        &mut numbers,
-        &mut lags,
-        &mut sizes,
-        &mut text,
-    );
+    let rows = Rows {
+        indices: &mut [0; ROWS],
+        decodings: &mut [0; ROWS],
+        matches: &mut [0; ROWS],
+        trefs: &mut [0; ROWS],
+        packets: &mut [0; ROWS],
+    };
+    let recording = Recording {
+        state: &mut [0; 20412],
+        counts: &mut [0; 72],
+        rows,
+    };
+    let work = Work {
+        order: &mut [0; ROWS],
+        keys: &mut [0; ROWS],
+        kept: &mut [0; ROWS],
+        places: &mut [0; ROWS],
+        heads: &mut [0; ROWS],
+        claimed: &mut [false; ROWS],
+        used: &mut [false; ROWS],
+    };
+    let units = Units {
+        numbers: &mut [0; ROWS],
+        lags: &mut [0; ROWS],
+        sizes: &mut [0; ROWS],
+    };
+    let mut room = Room {
+        buffer: &mut [0; 262144],
+        recording,
+        work,
+        units,
+    };
+    units_program::run(rt, question, &mut room, &mut [0; 65536]);
 }
 
 fn main(rt: HostRuntime) {
-    let question = units_program::asked(&rt);
-    if question.known {
+    if let Some(question) = units_program::asked(&rt) {
         lend(&rt, question);
     }
 }

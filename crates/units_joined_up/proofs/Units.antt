@@ -1,5 +1,6 @@
 -- THE THEOREM: what was told and laid of the pieces is what is read of the whole, and so are the units.
 -- Assumes nothing.
+use Rattle.std.specs.Prelude.{Err, Ok}
 use Prim.Native.Nat.{ℕ, ◌≤◌, ◌<◌, min}
 use mathlib.Core.Path.{◌≡◌, refl, sym, ap, ap₂, subst, ◌∙◌}
 use mathlib.Core.Bool.{Bool, true, false, cond}
@@ -13,22 +14,20 @@ use lib.Seq.{take_at}
 use Rattle.buffers.specs.Buffers.{over}
 use Rattle.vocabulary.specs.declared.refusal.Refusal.TheVariants.{OutOfRange}
 use Rattle.closure.specs.declared.Layers.{Layers}
-use Rattle.es_loop.specs.declared.reader.Outcome.{Outcome}
-use Rattle.es_loop.specs.declared.reader.Outcome.TheVariants.{Accepted, Refused as LoopRefused}
+use Rattle.es_loop.specs.Answer.{Outcome}
 use Rattle.scanning.specs.declared.events.Row.{Row}
 use Rattle.unit_starts.specs.declared.Found.{Found}
 use Rattle.unit_starts.specs.Finding.{found_in}
 use Rattle.recording_rows.specs.Columns.{Columns, room_in, index_in, decoding_in, match_in}
-use Rattle.recordings.specs.declared.Recording.{Recording}
-use Rattle.recordings.specs.declared.Recording.TheVariants.{Rows as RowsThere, Faulty, NotRead as HeaderRefused, TooManyRows}
+use Rattle.recordings.specs.Answer.{Recording}
+use Rattle.recordings.specs.declared.RecordingFault.TheVariants.{Faulty, NotRead as HeaderRefused, TooManyRows}
 use Rattle.recordings.specs.Reading.{fault_of, header_refusal, answer_of}
 use Rattle.rows.specs.Table.{Table, table}
 use Rattle.unit_lists.specs.Sequence.{Lists}
-use Rattle.join_answers.specs.declared.answer.Joined.{Joined}
+use Rattle.join_answers.specs.Answer.{Joined}
 use Rattle.join_answers.specs.Joining.{Room, room_of, joined_of}
-use Rattle.recording_imports.specs.declared.RowsRead.{RowsRead}
-use Rattle.recording_imports.specs.declared.RowsRead.TheVariants.{Rows, Refused, NotRead}
-use Rattle.recording_imports.specs.declared.Imported.{Imported}
+use Rattle.recording_imports.specs.Answer.{RowsRead, Imported}
+use Rattle.recording_imports.specs.declared.Unread.TheVariants.{Refused, NotRead}
 use Rattle.recording_imports.specs.Rows.{pid_table, rows_of, rows_told, rows_for}
 use Rattle.recording_imports.specs.Imports.{layers_of_loop, outcome_asked, imported_by, imported_of, table_of, import_rows, import_of, places_for, columns_hold, held_rows, count_of, first_rows, rows_to_join, import_told}
 use Rattle.long_imports.proofs.Whole.{most_alike, Sound, rows_sound}
@@ -57,32 +56,32 @@ held_answer : (f : Found) (most room hold : ℕ) → room ≤ hold → held_rows
 held_answer f most room hold h = go (ltb f.fault.number 34) (ltb f.refusal.number 25)
   where
     last : (t : Bool) → ltb room f.rows ≡ t
-        → held_rows (min most hold) (rows_told (cond t TooManyRows (RowsThere f.rows))) ≡ rows_told (cond (ltb (min most room) f.rows) TooManyRows (RowsThere f.rows))
+        → held_rows (min most hold) (rows_told (cond t (Err TooManyRows) (Ok f.rows))) ≡ rows_told (cond (ltb (min most room) f.rows) (Err TooManyRows) (Ok f.rows))
     last true e =
         let more : room < f.rows = ltb-true room f.rows e in
-        sym (ap (λ (t : Bool). rows_told (cond t TooManyRows (RowsThere f.rows))) (lt-ltb (min most room) f.rows (omega arith)))
+        sym (ap (λ (t : Bool). rows_told (cond t (Err TooManyRows) (Ok f.rows))) (lt-ltb (min most room) f.rows (omega arith)))
     last false e =
         let fits : f.rows ≤ room = ltb-false room f.rows e in
-        ap (λ (t : Bool). cond t (Refused (OutOfRange 0)) (Rows f.rows)) (same_test most room hold f.rows h fits) ∙ both (ltb (min most room) f.rows)
+        ap (λ (t : Bool). cond t (Err (Refused (OutOfRange 0))) (Ok f.rows)) (same_test most room hold f.rows h fits) ∙ both (ltb (min most room) f.rows)
       where
-        both : (t : Bool) → cond t (Refused (OutOfRange 0)) (Rows f.rows) ≡ rows_told (cond t TooManyRows (RowsThere f.rows))
+        both : (t : Bool) → cond t (Err (Refused (OutOfRange 0))) (Ok f.rows) ≡ rows_told (cond t (Err TooManyRows) (Ok f.rows))
         both true = refl
         both false = refl
 
     go : (t u : Bool)
         → held_rows (min most hold)
-        (rows_told (cond t (Faulty (fault_of f.fault.number f.fault.packet))
-        (cond u (HeaderRefused (header_refusal f.refusal.number) f.refusal.packet) (cond (ltb room f.rows) TooManyRows (RowsThere f.rows)))))
-        ≡ rows_told (cond t (Faulty (fault_of f.fault.number f.fault.packet))
-        (cond u (HeaderRefused (header_refusal f.refusal.number) f.refusal.packet) (cond (ltb (min most room) f.rows) TooManyRows (RowsThere f.rows))))
+        (rows_told (cond t (Err (Faulty (fault_of f.fault.number f.fault.packet)))
+        (cond u (Err (HeaderRefused (header_refusal f.refusal.number) f.refusal.packet)) (cond (ltb room f.rows) (Err TooManyRows) (Ok f.rows)))))
+        ≡ rows_told (cond t (Err (Faulty (fault_of f.fault.number f.fault.packet)))
+        (cond u (Err (HeaderRefused (header_refusal f.refusal.number) f.refusal.packet)) (cond (ltb (min most room) f.rows) (Err TooManyRows) (Ok f.rows))))
     go true u = refl
     go false true = refl
     go false false = last (ltb room f.rows) refl
 
 held_asked : (outcome : Outcome) (f : Found) (most room hold : ℕ) → room ≤ hold
     → held_rows (min most hold) (rows_for outcome (answer_of f room)) ≡ rows_for outcome (answer_of f (min most room))
-held_asked Accepted f most room hold h = held_answer f most room hold h
-held_asked (LoopRefused refusal) f most room hold h = refl
+held_asked (Ok tt) f most room hold h = held_answer f most room hold h
+held_asked (Err refusal) f most room hold h = refl
 
 -- the three columns hold at least what all five do
 least_of : (a b c d e : ℕ) → min a (min b (min c (min d e))) ≤ min a (min b c)
@@ -94,11 +93,11 @@ module _ (bytes packets : List ℕ) (most : ℕ) (before : Columns) where
   abbrev there : List Row
   there = rows_of bytes packets
 
-  fitted : (count : ℕ) → Sound (pid_table bytes) packets most before (Rows count) → length there ≤ room_in before
+  fitted : (count : ℕ) → Sound (pid_table bytes) packets most before (Ok count) → length there ≤ room_in before
   fitted count sound = subst (λ (n : ℕ). n ≤ room_in before) sound.0 sound.1.1
 
   -- the first of the columns are the rows
-  shown : (count : ℕ) → Sound (pid_table bytes) packets most before (Rows count)
+  shown : (count : ℕ) → Sound (pid_table bytes) packets most before (Ok count)
       → first_rows count (joined_columns (stored_from 0 (with_room (room_in before) 0 there) before)) ≡ table_of there
   shown count sound =
       ap (λ (c : Columns). first_rows count (joined_columns c)) (all_over there before (fitted count sound))
@@ -114,22 +113,22 @@ module _ (bytes packets : List ℕ) (most : ℕ) (before : Columns) where
     -- joined, and replied
     same_units : (rows : RowsRead) → Sound (pid_table bytes) packets most before rows
         → imported_by rows (joined_of most layers target (first_rows (count_of rows) t) room) ≡ imported_by rows (joined_of (places_for most before) layers target (table_of there) room)
-    same_units (Rows count) sound =
+    same_units (Ok count) sound =
         let long : length (map index_in there) ≡ count = length-map there index_in ∙ sym sound.0 in
         ap (λ (x : Table). imported_of (joined_of most layers target (first_rows count x) room)) t_is
         ∙ ap (λ (x : Table). imported_of (joined_of most layers target x room)) (shown count sound)
         ∙ ap imported_of (most_alike layers (table_of there) room most (places_for most before) (omega (arith, sound.1.0)) (omega (arith, sound.1.0, sound.1.1)) target)
-    same_units (Refused refusal) sound = refl
-    same_units (NotRead refusal packet) sound = refl
+    same_units (Err (Refused refusal)) sound = refl
+    same_units (Err (NotRead refusal packet)) sound = refl
 
     same_reply : (rows : RowsRead) → Sound (pid_table bytes) packets most before rows → (joined : Joined) (size : ℕ) (old : Lists) (summary : List ℕ)
         → import_reply layers (first_rows (count_of rows) t) (with_summary size (imported_by rows joined)) old summary
         ≡ import_reply layers (table_of there) (with_summary size (imported_by rows joined)) old summary
-    same_reply (Rows count) sound joined size old summary =
+    same_reply (Ok count) sound joined size old summary =
         ap (λ (x : Table). import_reply layers x (with_summary size (imported_of joined)) old summary)
         (ap (λ (x : Table). first_rows count x) t_is ∙ shown count sound)
-    same_reply (Refused refusal) sound joined size old summary = refl
-    same_reply (NotRead refusal packet) sound joined size old summary = refl
+    same_reply (Err (Refused refusal)) sound joined size old summary = refl
+    same_reply (Err (NotRead refusal packet)) sound joined size old summary = refl
 
 -- ---- the theorem
 

@@ -2,14 +2,11 @@
 #![tactic(auto)]
 
 use std::alloc::AllocError;
-use units_program::Question;
+use units_program::{Question, Recording, Room, Rows, Units, Work};
 
 const ROWS: usize = 524288;
 
 fn lend(rt: &HostRuntime, question: Question) -> Result<(), AllocError> {
-    let mut buffer = [0u8; 65536];
-    let mut state = [0u8; 20412];
-    let mut counts = [0u64; 72];
     let mut indices = vec![in rt.alloc(); 0u8; ROWS]?;
     let mut decodings = vec![in rt.alloc(); 0u64; ROWS]?;
     let mut matches = vec![in rt.alloc(); 0u64; ROWS]?;
@@ -25,48 +22,50 @@ fn lend(rt: &HostRuntime, question: Question) -> Result<(), AllocError> {
     let mut numbers = vec![in rt.alloc(); 0u64; ROWS]?;
     let mut lags = vec![in rt.alloc(); 0i64; ROWS]?;
     let mut sizes = vec![in rt.alloc(); 0u64; ROWS]?;
-    let mut text = [0u8; 65536];
-    units_program::run(
-        rt,
-        question,
-        &mut buffer,
-        &mut state,
-        &mut counts,
-        &mut indices,
-        &mut decodings,
-        &mut matches,
-        &mut trefs,
-        &mut packets,
-        &mut order,
-        &mut keys,
-        &mut kept,
-        &mut places,
-        &mut heads,
-        &mut claimed,
-        &mut used,
-        &mut numbers,
-        &mut lags,
-        &mut sizes,
-        &mut text,
-    );
+    let rows = Rows {
+        indices: &mut indices,
+        decodings: &mut decodings,
+        matches: &mut matches,
+        trefs: &mut trefs,
+        packets: &mut packets,
+    };
+    let recording = Recording {
+        state: &mut [0; 20412],
+        counts: &mut [0; 72],
+        rows,
+    };
+    let work = Work {
+        order: &mut order,
+        keys: &mut keys,
+        kept: &mut kept,
+        places: &mut places,
+        heads: &mut heads,
+        claimed: &mut claimed,
+        used: &mut used,
+    };
+    let units = Units {
+        numbers: &mut numbers,
+        lags: &mut lags,
+        sizes: &mut sizes,
+    };
+    let mut room = Room {
+        buffer: &mut [0; 65536],
+        recording,
+        work,
+        units,
+    };
+    units_program::run(rt, question, &mut room, &mut [0; 65536]);
     Ok(())
 }
 
-// The larger program leaves no recording to another.
-fn question_of(asked: Question) -> Question {
-    Question {
-        known: asked.known,
-        target: asked.target,
-        rows: asked.rows,
-        more: false,
-    }
-}
-
 fn main(rt: HostRuntime) {
-    let question = units_program::asked(&rt);
-    if question.known {
-        let lent = lend(&rt, question_of(question));
-        if let Err(error) = lent {
+    if let Some(asked) = units_program::asked(&rt) {
+        // The larger program leaves no recording to another.
+        let question = Question {
+            more: false,
+            ..asked
+        };
+        if let Err(error) = lend(&rt, question) {
             let _ = eprintln!(rt; "units: there is no room for so many rows: {error}");
         }
     }

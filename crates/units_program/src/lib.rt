@@ -9,176 +9,131 @@ mod reading;
 
 pub use asking::{Question, asked};
 use std::str;
+pub use unit_writing::{Rows, Units};
+use unit_writing::{Answer, Output};
 
-// The rows joined, and the answer written.
-fn join(
-    rt: &HostRuntime,
-    told: &str,
-    question: Question,
-    bytes: &[u8],
-    state: &[u8],
-    counts: &[u64],
-    indices: &[u8],
-    decodings: &[u64],
-    matches: &[u64],
-    trefs: &[u8],
-    packets: &[u64],
-    order: &mut [usize],
-    keys: &mut [u64],
-    kept: &mut [usize],
-    places: &mut [usize],
-    heads: &mut [usize],
-    claimed: &mut [bool],
-    used: &mut [bool],
-    numbers: &mut [u64],
-    lags: &mut [i64],
-    sizes: &mut [u64],
-    text: &mut [u8],
-) {
-    let mut summary = [0u64; 2];
-    let answer = thoquenry_units::thq_packets_units(
-        bytes,
-        question.target,
-        state,
-        counts,
-        indices,
-        decodings,
-        matches,
-        order,
-        keys,
-        kept,
-        places,
-        heads,
-        claimed,
-        used,
-        numbers,
-        lags,
-        sizes,
-        &mut summary,
-    );
-    let held = thoquenry_pieces::thq_packets_told(state, counts);
-    unit_writing::write_answer(
-        rt,
-        told,
-        question.rows,
-        question.more,
-        answer,
-        held / 256,
-        summary[1],
-        bytes,
-        indices,
-        decodings,
-        matches,
-        trefs,
-        packets,
-        numbers,
-        lags,
-        sizes,
-        text,
-    );
+// The work space of joining, a place in each list for every row.
+#[derive(Drop)]
+pub struct Work<'a> {
+    pub order: &'a mut [usize],
+    pub keys: &'a mut [u64],
+    pub kept: &'a mut [usize],
+    pub places: &'a mut [usize],
+    pub heads: &'a mut [usize],
+    pub claimed: &'a mut [bool],
+    pub used: &'a mut [bool],
 }
 
-// The recording under a loop of these bytes, from its start to what is written.
-fn run_loop(
-    rt: &HostRuntime,
-    told: &str,
-    question: Question,
-    bytes: &[u8],
-    buffer: &mut [u8],
-    state: &mut [u8],
-    counts: &mut [u64],
-    indices: &mut [u8],
-    decodings: &mut [u64],
-    matches: &mut [u64],
-    trefs: &mut [u8],
-    packets: &mut [u64],
-    order: &mut [usize],
-    keys: &mut [u64],
-    kept: &mut [usize],
-    places: &mut [usize],
-    heads: &mut [usize],
-    claimed: &mut [bool],
-    used: &mut [bool],
-    numbers: &mut [u64],
-    lags: &mut [i64],
-    sizes: &mut [u64],
-    text: &mut [u8],
-) {
-    let fed = reading::read_under(
-        rt, bytes, buffer, state, counts, indices, decodings, matches, trefs, packets,
-    );
-    if !fed.whole {
-        return;
-    }
-    if fed.begun % 256 != 0 {
-        unit_writing::write_refusal(rt, told, fed.begun, bytes, text);
-        return;
-    }
-    join(
-        rt, told, question, bytes, state, counts, indices, decodings, matches, trefs, packets,
-        order, keys, kept, places, heads, claimed, used, numbers, lags, sizes, text,
-    );
+// A recording that is read in pieces: its state, as long as the functions for C ask, and its rows, a place in each column for every one.
+#[derive(Drop)]
+pub struct Recording<'a> {
+    pub state: &'a mut [u8],
+    pub counts: &'a mut [u64],
+    pub rows: Rows<'a>,
 }
 
-// All of it, for what is asked. State and counts are as long as the pieces' functions ask; each column and each list has a place for every row.
-pub fn run(
-    rt: &HostRuntime,
-    question: Question,
-    buffer: &mut [u8],
-    state: &mut [u8],
-    counts: &mut [u64],
-    indices: &mut [u8],
-    decodings: &mut [u64],
-    matches: &mut [u64],
-    trefs: &mut [u8],
-    packets: &mut [u64],
-    order: &mut [usize],
-    keys: &mut [u64],
-    kept: &mut [usize],
-    places: &mut [usize],
-    heads: &mut [usize],
-    claimed: &mut [bool],
-    used: &mut [bool],
-    numbers: &mut [u64],
-    lags: &mut [i64],
-    sizes: &mut [u64],
-    text: &mut [u8],
-) {
-    let mut input = [0u8; 1009];
-    let read = reading::read_loop(rt, &mut input);
-    match read {
+impl Recording<'_> {
+    // Begins under a loop of these bytes.
+    fn start(&mut self, bytes: &[u8]) -> u64 {
+        thoquenry_pieces::thq_packets_start(bytes, self.state, self.counts)
+    }
+
+    fn feed(&mut self, piece: &[u8]) {
+        let rows = &mut self.rows;
+        thoquenry_pieces::thq_packets_feed(
+            piece,
+            self.state,
+            self.counts,
+            rows.indices,
+            rows.decodings,
+            rows.matches,
+            rows.trefs,
+            rows.packets,
+        );
+    }
+
+    // How many rows there are.
+    fn held(&self) -> u64 {
+        thoquenry_pieces::thq_packets_told(self.state, self.counts) / 256
+    }
+
+    // The rows joined, and how many units there are.
+    fn join(
+        &self,
+        bytes: &[u8],
+        target: u64,
+        work: &mut Work<'_>,
+        units: &mut Units<'_>,
+    ) -> (u64, u64) {
+        let mut summary = [0; 2];
+        let joined = thoquenry_units::thq_packets_units(
+            bytes,
+            target,
+            self.state,
+            self.counts,
+            self.rows.indices,
+            self.rows.decodings,
+            self.rows.matches,
+            work.order,
+            work.keys,
+            work.kept,
+            work.places,
+            work.heads,
+            work.claimed,
+            work.used,
+            units.numbers,
+            units.lags,
+            units.sizes,
+            &mut summary,
+        );
+        (joined, summary[1])
+    }
+}
+
+// The room in which a recording is read and joined.
+#[derive(Drop)]
+pub struct Room<'a> {
+    pub buffer: &'a mut [u8],
+    pub recording: Recording<'a>,
+    pub work: Work<'a>,
+    pub units: Units<'a>,
+}
+
+impl Room<'_> {
+    // The recording under a loop of these bytes, from its start to what is written.
+    fn run_loop(&mut self, question: Question, bytes: &[u8], output: &mut Output<'_>) {
+        let begun = self.recording.start(bytes);
+        if begun % 256 != 0 {
+            output.write_refusal(begun, bytes);
+        } else if reading::read_whole(output.rt, self.buffer, &mut self.recording) {
+            let (joined, units) = self
+                .recording
+                .join(bytes, question.target, &mut self.work, &mut self.units);
+            let answer = Answer {
+                listed: question.rows,
+                more: question.more,
+                joined,
+                rows: self.recording.held(),
+                units,
+            };
+            output.write_answer(answer, bytes, &self.recording.rows, &self.units);
+        }
+    }
+}
+
+// All of it, for what is asked; what is written goes through the text.
+pub fn run<'a>(rt: &'a HostRuntime, question: Question, room: &mut Room<'_>, text: &'a mut [u8]) {
+    let mut input = [0; 1009];
+    match reading::read_loop(rt, &mut input) {
+        Ok(count) => {
+            let mut word = [0; 4096];
+            let told = asking::argument(rt, asking::TOLD, &mut word);
+            let told = str::from_utf8(told).unwrap_or("");
+            let mut output = Output { rt, told, text };
+            room.run_loop(question, &input[..count], &mut output);
+        }
         Err(error) => {
             let _ = eprintln!(rt; "units: descriptor 3 cannot be read: {error}");
-        }
-        Ok(count) => {
-            let mut word = [0u8; 4096];
-            let length = asking::read_argument(rt, asking::TOLD, &mut word);
-            let told = str::from_utf8(&word[..length]).unwrap_or("");
-            run_loop(
-                rt,
-                told,
-                question,
-                &input[..count],
-                buffer,
-                state,
-                counts,
-                indices,
-                decodings,
-                matches,
-                trefs,
-                packets,
-                order,
-                keys,
-                kept,
-                places,
-                heads,
-                claimed,
-                used,
-                numbers,
-                lags,
-                sizes,
-                text,
-            );
         }
     }
 }

@@ -62,43 +62,7 @@ pub fn enhancement(
     }
 }
 
-// The layers on which an extension's layer rests, and how many they are.
-#[derive(Clone, Copy)]
-pub struct Below {
-    pub count: u8,
-    pub layers: [LayerIndex; 63],
-}
-
-pub fn above(index: u8) -> Below {
-    let mut layers = no_layers();
-    layers[0] = LayerIndex(index);
-    Below { count: 1, layers }
-}
-
-pub fn two_below(first: u8, second: u8) -> Below {
-    let mut layers = no_layers();
-    layers[0] = LayerIndex(first);
-    layers[1] = LayerIndex(second);
-    Below { count: 2, layers }
-}
-
-// Layers 0 to 11.
-pub fn twelve_below() -> Below {
-    let mut layers = no_layers();
-    layers[1] = LayerIndex(1);
-    layers[2] = LayerIndex(2);
-    layers[3] = LayerIndex(3);
-    layers[4] = LayerIndex(4);
-    layers[5] = LayerIndex(5);
-    layers[6] = LayerIndex(6);
-    layers[7] = LayerIndex(7);
-    layers[8] = LayerIndex(8);
-    layers[9] = LayerIndex(9);
-    layers[10] = LayerIndex(10);
-    layers[11] = LayerIndex(11);
-    Below { count: 12, layers }
-}
-
+// A layer with an extension descriptor, and the layers that it rests on.
 pub fn extension(
     stream_type: u8,
     pid: u16,
@@ -108,18 +72,21 @@ pub fn extension(
     nuh_layer_id: u8,
     tref_present_flag: bool,
     channel: u8,
-    below: Below,
+    below: &[u8],
 ) -> Entry {
+    let mut embedded = no_layers();
+    for (layer, index) in embedded.iter_mut().zip(below) {
+        *layer = LayerIndex(*index);
+    }
     let record = ExtensionRecord {
         dimension_bits,
         layer_index: LayerIndex(index),
         temporal_id: TemporalId(temporal_id),
         nuh_layer_id: NuhLayerId(nuh_layer_id),
         tref_present_flag,
-        num_embedded_layers: below.count,
+        num_embedded_layers: below.len().min(63) as u8,
         channel: HierarchyChannel(channel),
     };
-    let embedded = below.layers;
     Entry {
         stream_type,
         pid,
@@ -129,6 +96,6 @@ pub fn extension(
 }
 
 // A further view of HEVC: its nuh_layer_id and its channel are its index.
-pub fn view(pid: u16, index: u8, below: Below) -> Entry {
+pub fn view(pid: u16, index: u8, below: &[u8]) -> Entry {
     extension(0x28, pid, 1, index, 0, index, false, index, below)
 }

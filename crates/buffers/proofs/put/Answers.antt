@@ -13,7 +13,7 @@ slice_bounds-put_whole-end c = sym (length-take-le _ c.args.bytes.now (omega ari
 
 pub put_whole-requires : goal.put_whole-requires
 put_whole-requires c =
-    omega (arith, length-take-le c.lesser-count.result c.args.bytes.now (omega arith))
+    omega (arith, length-take-le c.min-count.result c.args.bytes.now (omega arith))
 
 pub returns : goal.returns
-returns c = laid_cut (omega arith) c.lesser-count.ensures c.put_whole.ensures
+returns c = laid_cut (omega arith) c.min-count.ensures c.put_whole.ensures

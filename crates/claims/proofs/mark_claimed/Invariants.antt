@@ -1,6 +1,6 @@
--- `claims::mark_claimed` meets its contract. The invariant: the rows that a row so far claims are marked (Marking). The measure is the number of rows left.
+-- `claims::mark_claimed` meets its contract. The invariant: the rows that a row so far claims are marked (Marking).
 -- In the goals the layers are `t1`. Assumes nothing.
-use Prim.Native.Nat.{◌≤◌, ◌-◌}
+use Prim.Native.Nat.{◌≤◌}
 use lib.ListN.{length}
 use Rattle.claims.specs.Marks.{Stands}
 use Rattle.rows.specs.Table.{table}
@@ -11,7 +11,3 @@ abbrev pub invariant-loop-row : goal.invariant-loop-row
 invariant-loop-row l =
     (l.row ≤ length l.indices)
     × Stands (length l.indices) (claimed_below l.layers l.closure (table l.indices l.decodings l.matches) l.initial.claimed l.row) l.initial.claimed l.claimed
-
-abbrev pub decreases-loop-row : goal.decreases-loop-row
-decreases-loop-row l =
-    length l.indices - l.row

@@ -2,7 +2,7 @@
 -- number of layers left. Assumes nothing.
 use Prim.Native.Nat.{ℕ, ◌<◌}
 use mathlib.Core.List.{[]}
-use mathlib.Core.Path.{sym, subst}
+use mathlib.Core.Path.{sym, ◌∙◌, subst}
 use native.Mathlib.Omega.{arith}
 use lib.ListN.{length}
 use Rattle.sets.specs.Sets.{members_of}
@@ -18,7 +18,7 @@ pub row_at-row-requires : goal.row_at-row-requires
 row_at-row-requires c =
     let loop = c.loop-left in
     let more = c.loop-left-test.true in
-    (c.requires.0.sorted, walk_layer _ _ _ _ _ _ loop.invariant more _ c.lowest-layer.ensures, c.requires.0.rising _ (walk_member _ _ _ _ _ _ loop.invariant more _ c.lowest-layer.ensures))
+    (c.requires.0.sorted, walk_layer _ _ _ _ _ _ loop.invariant more _ (c.from-layer.ensures ∙ c.lowest.ensures), c.requires.0.rising _ (walk_member _ _ _ _ _ _ loop.invariant more _ (c.from-layer.ensures ∙ c.lowest.ensures)))
 
 pub mark-requires : goal.mark-requires
 mark-requires c = omega (arith, c.loop-left.invariant.as_long, c.requires.1)
@@ -36,8 +36,8 @@ loop-left-preserved c =
     let more = c.loop-left-test.true in
     let t = table a.indices.now a.decodings.now [] in
     rw (c.mark.ensures, c.rest-left.ensures)
-    (walk_next t a.layers a.time a.marks.now loop.left loop.marks loop.invariant more _ c.lowest-layer.ensures pre.1
-    (pre.0.rising _ (walk_member t a.layers a.time a.marks.now loop.left loop.marks loop.invariant more _ c.lowest-layer.ensures)) _ c.row_at-row.ensures)
+    (walk_next t a.layers a.time a.marks.now loop.left loop.marks loop.invariant more _ (c.from-layer.ensures ∙ c.lowest.ensures) pre.1
+    (pre.0.rising _ (walk_member t a.layers a.time a.marks.now loop.left loop.marks loop.invariant more _ (c.from-layer.ensures ∙ c.lowest.ensures))) _ c.row_at-row.ensures)
 
 pub shape_of-marks : goal.shape_of-marks
 shape_of-marks c = c.loop-left.invariant.as_long

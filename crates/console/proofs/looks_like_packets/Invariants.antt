@@ -9,6 +9,3 @@ use Rattle.console.proofs.looks_like_packets.Given as goal
 
 abbrev pub invariant-loop-k : goal.invariant-loop-k
 invariant-loop-k l = (l.k ≤ l.packets) × (every (starts_packet l.bytes) l.k ≡ true)
-
-abbrev pub decreases-loop-k : goal.decreases-loop-k
-decreases-loop-k l = l.packets - l.k

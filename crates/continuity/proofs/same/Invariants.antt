@@ -9,6 +9,3 @@ use Rattle.continuity.proofs.same.Given as goal
 
 abbrev pub invariant-loop-at : goal.invariant-loop-at
 invariant-loop-at l = (l.at ≤ length l.one) × (l.differences ≡ count (differs l.one l.other) l.at)
-
-abbrev pub decreases-loop-at : goal.decreases-loop-at
-decreases-loop-at l = length l.one - l.at

@@ -7,11 +7,8 @@ use Rattle.descriptor_heads.proofs.first_descriptor.Goals as goal
 pub returns-then-left-lt2 : goal.returns-then-left-lt2
 returns-then-left-lt2 c = framed_short c.args.left.now (omega arith)
 
-pub overflow_cast-length : goal.overflow_cast-length
-overflow_cast-length c = omega (arith, c.shared_slice_known-1.given 1)
-
 pub returns-then-left-length : goal.returns-then-left-length
 returns-then-left-length c = framed_none c.args.left.now (λ i. omega (arith, c.shared_slice_known-1.given i)) (omega arith)
 
 pub returns : goal.returns
-returns c = framed_some c.args.left.now (λ i. omega (arith, c.shared_slice_known-2-1.given i)) (omega arith)
+returns c = rw c.from-length.ensures (framed_some c.args.left.now (λ i. omega (arith, c.shared_slice_known-2-1.given i)) (omega arith))

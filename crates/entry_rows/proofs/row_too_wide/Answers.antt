@@ -3,10 +3,10 @@
 use mathlib.Core.Path.{sym, ◌∙◌, ap}
 use Rattle.entry_rows.proofs.Judged.{kind_wide, type_wide, pid_wide, hierarchy_decides, extension_decides, fieldless_fine}
 use native.Mathlib.Omega.{arith}
-use Prim.Native.Nat.{ℕ}
+use Prim.Native.Nat.{ℕ, ◌-◌}
 use mathlib.Core.Bool.{Bool, ◌||◌}
 use mathlib.Core.List.{List}
-use lib.ListN.{get_or, take, length-take, length-drop}
+use lib.ListN.{length, get_or, take, drop, length-take, length-drop}
 use Rattle.combinators.specs.Bools.{either_left}
 use Rattle.combinators.specs.Lists.{any, part_to_end}
 use Rattle.extension.specs.Extension.{extension_head}
@@ -34,9 +34,6 @@ returns-then-extension_too_wide c =
     let wide = sym c.extension_too_wide.ensures ∙ c.if-extension_too_wide.true in
     sym (either_left _ _ wide) ∙ extension_decides row (omega (arith, c.if-row-gt255.false)) (omega (arith, c.if-row-gt8191.false)) c.if-kind-eq2.true
 
-pub overflow_cast-row : goal.overflow_cast-row
-overflow_cast-row c = omega (arith, (c.shared_slice_known-then-kind-eq2-1.given 15).fits)
-
 pub list_too_wide-requires : goal.list_too_wide-requires
 list_too_wide-requires c =
     let row = c.args.row.now in
@@ -49,6 +46,7 @@ returns-then-kind-eq2 c =
     let row = c.args.row.now in
     let fine = sym c.extension_too_wide.ensures ∙ c.if-extension_too_wide.false in
     c.list_too_wide.ensures
+    ∙ ap (λ (n : ℕ). any layer_too_wide (take n (take (length row - 16) (drop 16 row)))) c.from.ensures
     ∙ ap (λ (l : List ℕ). any layer_too_wide (take (get_or row 15 0) l)) (part_to_end row 16)
     ∙ sym (ap (λ (t : Bool). t || any layer_too_wide (list_in row)) fine)
     ∙ extension_decides row (omega (arith, c.if-row-gt255.false)) (omega (arith, c.if-row-gt8191.false)) c.if-kind-eq2.true

@@ -9,6 +9,3 @@ use Rattle.entry_rows.proofs.some_too_wide.Given as goal
 
 abbrev pub invariant-loop-i : goal.invariant-loop-i
 invariant-loop-i l = (l.i ≤ l.count) × (some (λ k. row_too_wide (row_at l.numbers k)) l.i ≡ false)
-
-abbrev pub decreases-loop-i : goal.decreases-loop-i
-decreases-loop-i l = l.count - l.i

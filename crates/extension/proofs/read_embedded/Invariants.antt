@@ -9,6 +9,3 @@ use Rattle.extension.proofs.read_embedded.Given as goal
 
 abbrev pub invariant-loop-i : goal.invariant-loop-i
 invariant-loop-i l = (l.i ≤ length l.list) × (l.layers ≡ pad_to 63 no_layer (layers_of (take l.i l.list)))
-
-abbrev pub decreases-loop-i : goal.decreases-loop-i
-decreases-loop-i l = length l.list - l.i

@@ -15,9 +15,6 @@ use Rattle.heads.proofs.first_unpaired.Goals as goal
 pub loop-row-init : goal.loop-row-init
 loop-row-init c = c.requires.2
 
-pub overflow_cast-layer : goal.overflow_cast-layer
-overflow_cast-layer c = omega (arith, c.shared_slice_known-in-loop-row-1.given c.loop-row.row)
-
 pub bounds-claimed-row : goal.bounds-claimed-row
 bounds-claimed-row c = omega (arith, c.requires.1)
 
@@ -27,7 +24,7 @@ assemble-complete-requires c =
     let t = table a.indices.now a.decodings.now a.matches.now in
     let f = frame a.closure a.claimed.now [] a.edges.now in
     let row = c.loop-row.row in
-    (c.requires.0, head_layer t f row c.ranges.closure.fits (head_tested t f row _ true c.member.ensures c.if-member-claimed.true), refl)
+    (c.requires.0, rw c.from-layer.ensures (head_layer t f row c.ranges.closure.fits (head_tested t f row _ true (rw c.from-layer.ensures at c.member.ensures) c.if-member-claimed.true)), refl)
 
 pub returns-then-not-complete : goal.returns-then-not-complete
 returns-then-not-complete c =
@@ -36,8 +33,8 @@ returns-then-not-complete c =
     let f = frame a.closure a.claimed.now [] a.edges.now in
     let loop = c.loop-row in
     seek_here _ _ loop.row c.loop-row-test.true loop.invariant
-    (is_unpaired t f loop.row (head_tested t f loop.row _ true c.member.ensures c.if-member-claimed.true) false
-    (sym c.assemble-complete.ensures.complete ∙ c.if-not-complete.true))
+    (is_unpaired t f loop.row (head_tested t f loop.row _ true (rw c.from-layer.ensures at c.member.ensures) c.if-member-claimed.true) false
+    (sym (rw c.from-layer.ensures at c.assemble-complete.ensures.complete) ∙ c.if-not-complete.true))
 
 pub loop-row-preserved : goal.loop-row-preserved
 loop-row-preserved c =
@@ -48,10 +45,10 @@ loop-row-preserved c =
     elim c.if-member-claimed.branch [
       | then-member-claimed+else-not-complete w ↦
           below_more _ _ loop.invariant
-          (is_unpaired t f loop.row (head_tested t f loop.row _ true c.member.ensures w.if-member-claimed.true) true
-          (sym w.assemble-complete.ensures.complete ∙ w.if-not-complete.false))
+          (is_unpaired t f loop.row (head_tested t f loop.row _ true (rw c.from-layer.ensures at c.member.ensures) w.if-member-claimed.true) true
+          (sym (rw c.from-layer.ensures at w.assemble-complete.ensures.complete) ∙ w.if-not-complete.false))
       | else-member-claimed w ↦
-          below_more _ _ loop.invariant (no_head t f loop.row (head_tested t f loop.row _ false c.member.ensures w.if-member-claimed.false))
+          below_more _ _ loop.invariant (no_head t f loop.row (head_tested t f loop.row _ false (rw c.from-layer.ensures at c.member.ensures) w.if-member-claimed.false))
     ]
 
 pub returns : goal.returns

@@ -1,5 +1,4 @@
--- `heads::judge` meets its contract. The invariant, what is known after some rows, and each turn are in Claiming. The measure is the
--- number of rows left. Assumes nothing.
+-- `heads::judge` meets its contract. The invariant, what is known after some rows, and each turn are in Claiming. Assumes nothing.
 use Prim.Native.Nat.{ℕ, ◌+◌, ◌≤◌, ◌<◌}
 use mathlib.Core.Bool.{true, false}
 use mathlib.Core.List.{List}
@@ -30,7 +29,7 @@ abbrev frame_at : Then-member-claimed → Frame
 frame_at c = let a = c.args in frame a.closure a.claimed.now a.own.now a.edges.now
 
 head : (c : Then-member-claimed) → is_head (table_at c) (frame_at c) c.loop-row.row ≡ true
-head c = head_tested (table_at c) (frame_at c) c.loop-row.row _ true c.member.ensures c.if-member-claimed.true
+head c = head_tested (table_at c) (frame_at c) c.loop-row.row _ true (rw c.from-layer.ensures at c.member.ensures) c.if-member-claimed.true
 
 layer_below : (c : Then-member-claimed) → layer_of (table_at c) c.loop-row.row < 64
 layer_below c = head_layer (table_at c) (frame_at c) c.loop-row.row c.ranges.closure.fits (head c)
@@ -41,19 +40,19 @@ few c = omega (arith, c.loop-row.invariant.0.counted, count_short (is_head (tabl
 
 -- where it has an assembly
 complete : (c : Else-not-complete) → (assembly_of (table c.args.indices.now c.args.decodings.now c.args.matches.now) (frame c.args.closure c.args.claimed.now c.args.own.now c.args.edges.now) c.loop-row.row).complete ≡ true
-complete c = sym c.assemble-complete.ensures.complete ∙ c.if-not-complete.false
+complete c = sym (rw c.from-layer.ensures at c.assemble-complete.ensures.complete) ∙ c.if-not-complete.false
 
 placed : (c : Else-not-complete)
     → Placed (own_of (table c.args.indices.now c.args.decodings.now c.args.matches.now) (frame c.args.closure c.args.claimed.now c.args.own.now c.args.edges.now) c.loop-row.row) (assembly_of (table c.args.indices.now c.args.decodings.now c.args.matches.now) (frame c.args.closure c.args.claimed.now c.args.own.now c.args.edges.now) c.loop-row.row).rows (length c.loop-row.used)
-placed c = chosen _ _ _ _ _ _ _ _ c.loop-row.invariant.0 c.loop-row-test.true (head_tested (table c.args.indices.now c.args.decodings.now c.args.matches.now) (frame c.args.closure c.args.claimed.now c.args.own.now c.args.edges.now) c.loop-row.row _ true c.member.ensures c.if-member-claimed.true) c.requires.1 (complete c)
+placed c = chosen _ _ _ _ _ _ _ _ c.loop-row.invariant.0 c.loop-row-test.true (head_tested (table c.args.indices.now c.args.decodings.now c.args.matches.now) (frame c.args.closure c.args.claimed.now c.args.own.now c.args.edges.now) c.loop-row.row _ true (rw c.from-layer.ensures at c.member.ensures) c.if-member-claimed.true) c.requires.1 (complete c)
 
 -- and what was asked of its rows
 asked : (c : After-any_used)
     → c.any_used.result ≡ any (λ row. get_or c.loop-row.used row false) (unit_of (table c.args.indices.now c.args.decodings.now c.args.matches.now) (frame c.args.closure c.args.claimed.now c.args.own.now c.args.edges.now) c.loop-row.row)
 asked c =
-    c.any_used.ensures
+    (rw c.from-layer.ensures at c.any_used.ensures)
     ∙ ap (λ (rows : List ℕ). any (λ row. get_or c.loop-row.used row false) (unit_from (members_of (own_of (table c.args.indices.now c.args.decodings.now c.args.matches.now) (frame c.args.closure c.args.claimed.now c.args.own.now c.args.edges.now) c.loop-row.row)) rows))
-    c.assemble-complete.ensures.content
+    (rw c.from-layer.ensures at c.assemble-complete.ensures.content)
 
 pub clear-requires : goal.clear-requires
 clear-requires c = omega (arith, c.requires.3)
@@ -62,17 +61,11 @@ pub loop-row-init : goal.loop-row-init
 loop-row-init c =
     (walked_start _ _ _ _ _ _ c.clear.ensures c.requires.3 c.requires.4 c.requires.5, refl, refl, refl, refl)
 
-pub bounds-indices-row : goal.bounds-indices-row
-bounds-indices-row c = omega (arith, c.loop-row-test.true)
-
-pub overflow_cast-layer : goal.overflow_cast-layer
-overflow_cast-layer c = omega (arith, c.shared_slice_known-in-loop-row-1.given c.loop-row.row)
-
 pub bounds-claimed-row : goal.bounds-claimed-row
 bounds-claimed-row c = omega (arith, c.loop-row-test.true, c.requires.2)
 
 pub assemble-complete-requires : goal.assemble-complete-requires
-assemble-complete-requires c = (c.requires.0, layer_below (goal.at.assemble-complete-requires c).Then-member-claimed, c.loop-row.invariant.4)
+assemble-complete-requires c = (c.requires.0, rw c.from-layer.ensures (layer_below (goal.at.assemble-complete-requires c).Then-member-claimed), c.loop-row.invariant.4)
 
 pub shape_of-used-then-not-complete : goal.shape_of-used-then-not-complete
 shape_of-used-then-not-complete c = c.loop-row.invariant.1 ∙ c.clear.ensures.as_long
@@ -86,7 +79,7 @@ shape_of-places-then-not-complete c = c.loop-row.invariant.3
 pub returns-then-not-complete : goal.returns-then-not-complete
 returns-then-not-complete c =
     stopped _ _ _ _ _ c.loop-row-test.true
-    (no_assembly _ _ _ _ _ _ _ _ c.loop-row.invariant.0 c.loop-row-test.true (head (goal.at.returns-then-not-complete c).Then-member-claimed) (sym c.assemble-complete.ensures.complete ∙ c.if-not-complete.true))
+    (no_assembly _ _ _ _ _ _ _ _ c.loop-row.invariant.0 c.loop-row-test.true (head (goal.at.returns-then-not-complete c).Then-member-claimed) (sym (rw c.from-layer.ensures at c.assemble-complete.ensures.complete) ∙ c.if-not-complete.true))
 
 pub offset_bounds-own-layer : goal.offset_bounds-own-layer
 offset_bounds-own-layer c = omega (arith, layer_below (goal.at.offset_bounds-own-layer c).Then-member-claimed)
@@ -96,10 +89,7 @@ bounds-own-layer c = omega (arith, layer_below (goal.at.bounds-own-layer c).Then
 
 pub any_used-requires : goal.any_used-requires
 any_used-requires c =
-    subst (λ (rows : List ℕ). Placed (own_of (table_at (goal.at.any_used-requires c).Then-member-claimed) (frame_at (goal.at.any_used-requires c).Then-member-claimed) c.loop-row.row) rows (length c.loop-row.used)) (sym c.assemble-complete.ensures.content) (placed (goal.at.any_used-requires c).Else-not-complete)
-
-pub overflow_add-row : goal.overflow_add-row
-overflow_add-row c = omega (arith, c.loop-row-test.true, c.well_formed)
+    rw c.from-layer.ensures (subst (λ (rows : List ℕ). Placed (own_of (table_at (goal.at.any_used-requires c).Then-member-claimed) (frame_at (goal.at.any_used-requires c).Then-member-claimed) c.loop-row.row) rows (length c.loop-row.used)) (sym (rw c.from-layer.ensures at c.assemble-complete.ensures.content)) (placed (goal.at.any_used-requires c).Else-not-complete))
 
 pub first_unpaired-unpaired-requires : goal.first_unpaired-unpaired-requires
 first_unpaired-unpaired-requires c = (
@@ -127,14 +117,14 @@ returns-then-any_used c =
 fits : (c : Else-any_used)
     → c.loop-row.place + length (unit_of (table c.args.indices.now c.args.decodings.now c.args.matches.now) (frame c.args.closure c.args.claimed.now c.args.own.now c.args.edges.now) c.loop-row.row) ≤ length c.args.indices.now
 fits c =
-    unit_fits _ _ _ _ _ _ _ _ c.loop-row.invariant.0 c.loop-row-test.true (head_tested (table c.args.indices.now c.args.decodings.now c.args.matches.now) (frame c.args.closure c.args.claimed.now c.args.own.now c.args.edges.now) c.loop-row.row _ true c.member.ensures c.if-member-claimed.true) c.requires.1 (sym c.assemble-complete.ensures.complete ∙ c.if-not-complete.false) (sym c.if-any_used.false ∙ (c.any_used.ensures
+    unit_fits _ _ _ _ _ _ _ _ c.loop-row.invariant.0 c.loop-row-test.true (head_tested (table c.args.indices.now c.args.decodings.now c.args.matches.now) (frame c.args.closure c.args.claimed.now c.args.own.now c.args.edges.now) c.loop-row.row _ true (rw c.from-layer.ensures at c.member.ensures) c.if-member-claimed.true) c.requires.1 (sym (rw c.from-layer.ensures at c.assemble-complete.ensures.complete) ∙ c.if-not-complete.false) (sym c.if-any_used.false ∙ ((rw c.from-layer.ensures at c.any_used.ensures)
     ∙ ap (λ (rows : List ℕ). any (λ row. get_or c.loop-row.used row false) (unit_from (members_of (own_of (table c.args.indices.now c.args.decodings.now c.args.matches.now) (frame c.args.closure c.args.claimed.now c.args.own.now c.args.edges.now) c.loop-row.row)) rows))
-    c.assemble-complete.ensures.content))
+    (rw c.from-layer.ensures at c.assemble-complete.ensures.content)))
 
 pub keep-requires : goal.keep-requires
 keep-requires c = (
-  subst (λ (rows : List ℕ). Placed (own_of (table_at (goal.at.keep-requires c).Then-member-claimed) (frame_at (goal.at.keep-requires c).Then-member-claimed) c.loop-row.row) rows (length c.loop-row.used)) (sym c.assemble-complete.ensures.content) (placed (goal.at.keep-requires c).Else-not-complete),
-  members_room _ _ _ _ _ _ _ _ c.loop-row.invariant.0 c.loop-row-test.true (head (goal.at.keep-requires c).Then-member-claimed) c.requires.1 (complete (goal.at.keep-requires c).Else-not-complete) (sym c.if-any_used.false ∙ asked (goal.at.keep-requires c).After-any_used),
+  rw c.from-layer.ensures (subst (λ (rows : List ℕ). Placed (own_of (table_at (goal.at.keep-requires c).Then-member-claimed) (frame_at (goal.at.keep-requires c).Then-member-claimed) c.loop-row.row) rows (length c.loop-row.used)) (sym (rw c.from-layer.ensures at c.assemble-complete.ensures.content)) (placed (goal.at.keep-requires c).Else-not-complete)),
+  rw c.from-layer.ensures (members_room _ _ _ _ _ _ _ _ c.loop-row.invariant.0 c.loop-row-test.true (head (goal.at.keep-requires c).Then-member-claimed) c.requires.1 (complete (goal.at.keep-requires c).Else-not-complete) (sym c.if-any_used.false ∙ asked (goal.at.keep-requires c).After-any_used)),
 )
 
 pub offset_bounds-places-row : goal.offset_bounds-places-row
@@ -144,17 +134,11 @@ pub bounds-places-row : goal.bounds-places-row
 bounds-places-row c = omega (arith, c.loop-row-test.true, few (goal.at.bounds-places-row c).Then-member-claimed, c.loop-row.invariant.0.room_places)
 
 pub overflow_add-place : goal.overflow_add-place
-overflow_add-place c = omega (arith, fits (goal.at.overflow_add-place c).Else-any_used, unit_size (table_at (goal.at.overflow_add-place c).Then-member-claimed) (frame_at (goal.at.overflow_add-place c).Then-member-claimed) c.loop-row.row, c.size-place.ensures, c.well_formed)
+overflow_add-place c = omega (arith, fits (goal.at.overflow_add-place c).Else-any_used, unit_size (table_at (goal.at.overflow_add-place c).Then-member-claimed) (frame_at (goal.at.overflow_add-place c).Then-member-claimed) c.loop-row.row, (rw c.from-layer.ensures at c.size-place.ensures), c.well_formed)
 
 pub overflow_add-units : goal.overflow_add-units
 overflow_add-units c =
     omega (arith, few (goal.at.overflow_add-units c).Then-member-claimed, c.loop-row-test.true, c.well_formed)
-
-pub overflow_add-row-in-loop-row : goal.overflow_add-row-in-loop-row
-overflow_add-row-in-loop-row c = omega (arith, c.loop-row-test.true)
-
-pub loop-row-smaller : goal.loop-row-smaller
-loop-row-smaller c = omega (arith, c.loop-row-test.true)
 
 pub loop-row-preserved : goal.loop-row-preserved
 loop-row-preserved c =
@@ -165,26 +149,26 @@ loop-row-preserved c =
     let f = frame a.closure a.claimed.now a.own.now a.edges.now in
     elim c.if-member-claimed.branch [
       | then-member-claimed+else-not-complete+else-any_used w ↦
-          (let is_head = head_tested t f loop.row _ true c.member.ensures w.if-member-claimed.true in
-          let whole = sym w.assemble-complete.ensures.complete ∙ w.if-not-complete.false in
-          let content = w.assemble-complete.ensures.content in
-          let is_marked = w.keep.ensures.marks ∙ ap (λ (rows : List ℕ). marked (unit_from (members_of (own_of t f loop.row)) rows) loop.used) content in
-          let is-kept = w.keep.ensures.content ∙ ap (λ (rows : List ℕ). sets loop.kept loop.place (unit_from (members_of (own_of t f loop.row)) rows)) content in
+          (let is_head = head_tested t f loop.row _ true (rw c.from-layer.ensures at c.member.ensures) w.if-member-claimed.true in
+          let whole = sym (rw c.from-layer.ensures at w.assemble-complete.ensures.complete) ∙ w.if-not-complete.false in
+          let content = (rw c.from-layer.ensures at w.assemble-complete.ensures.content) in
+          let is_marked = (rw c.from-layer.ensures at w.keep.ensures.marks) ∙ ap (λ (rows : List ℕ). marked (unit_from (members_of (own_of t f loop.row)) rows) loop.used) content in
+          let is-kept = (rw c.from-layer.ensures at w.keep.ensures.content) ∙ ap (λ (rows : List ℕ). sets loop.kept loop.place (unit_from (members_of (own_of t f loop.row)) rows)) content in
           rw (w.used-is, w.kept-is, w.places-is, w.rows-is, w.units-is, w.place-is) (
             walked_head _ _ _ _ _ _ _ _ loop.invariant.0 inside is_head c.requires.1 whole
-                (sym w.if-any_used.false ∙ w.any_used.ensures
+                (sym w.if-any_used.false ∙ (rw c.from-layer.ensures at w.any_used.ensures)
                 ∙ ap (λ (rows : List ℕ). any (λ row. get_or loop.used row false) (unit_from (members_of (own_of t f loop.row)) rows)) content)
-                _ _ _ is_marked is-kept (w.size-place.ensures ∙ sym (unit_size t f loop.row)),
+                _ _ _ is_marked is-kept ((rw c.from-layer.ensures at w.size-place.ensures) ∙ sym (unit_size t f loop.row)),
             ap length is_marked ∙ length_marked (unit_of t f loop.row) loop.used ∙ loop.invariant.1,
             ap length is-kept ∙ length-sets loop.kept loop.place (unit_of t f loop.row) ∙ loop.invariant.2,
             length-set loop.places loop.row loop.place ∙ loop.invariant.3,
-            w.keep.ensures.blank
+            (rw c.from-layer.ensures at w.keep.ensures.blank)
                 ∙ ap (cleared (length a.indices.now) (members_of (own_of t f loop.row))) content
                 ∙ cleared_again t f c.requires.1 loop.row inside is_head whole (head_layer t f loop.row c.ranges.closure.fits is_head),
           ))
       | else-member-claimed w ↦
           rw (w.used-is, w.kept-is, w.places-is, w.rows-is, w.units-is, w.place-is) (
-            walked_other _ _ _ _ _ _ _ _ loop.invariant.0 inside (head_tested t f loop.row _ false c.member.ensures w.if-member-claimed.false),
+            walked_other _ _ _ _ _ _ _ _ loop.invariant.0 inside (head_tested t f loop.row _ false (rw c.from-layer.ensures at c.member.ensures) w.if-member-claimed.false),
             loop.invariant.1,
             loop.invariant.2,
             loop.invariant.3,

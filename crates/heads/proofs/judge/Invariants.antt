@@ -1,6 +1,5 @@
 -- `heads::judge` meets its contract. The invariant, what is known after some rows, and each turn are in Claiming. The measure is the
 -- number of rows left. Assumes nothing.
-use Prim.Native.Nat.{◌-◌}
 use mathlib.Core.Path.{◌≡◌}
 use lib.ListN.{length}
 use Rattle.rows.specs.Table.{table}
@@ -16,7 +15,3 @@ invariant-loop-row l =
     × (length l.kept ≡ length l.initial.kept)
     × (length l.places ≡ length l.initial.places)
     × (l.rows ≡ no_rows (length l.indices))
-
-abbrev pub decreases-loop-row : goal.decreases-loop-row
-decreases-loop-row l =
-    length l.indices - l.row

@@ -9,8 +9,8 @@ use Rattle.judging.proofs.extension_on.Goals as goal
 pub returns-in-36 : goal.returns-in-36
 returns-in-36 c = sym (range_member 36 38 extension_on refl c.args.stream_type (omega arith) (omega arith))
 
-pub returns-in-40-to-43 : goal.returns-in-40-to-43
-returns-in-40-to-43 c = sym (range_member 40 44 extension_on refl c.args.stream_type (omega arith) (omega arith))
+pub returns-in-36-2 : goal.returns-in-36-2
+returns-in-36-2 c = sym (range_member 40 44 extension_on refl c.args.stream_type (omega arith) (omega arith))
 
 pub returns-in_default : goal.returns-in_default
 returns-in_default c = sym (no_member c.args.stream_type extension_on (omega arith))

@@ -1,5 +1,6 @@
 -- `judging::wrong_embedded` meets its contract: which arm was taken says which record it is, and the callee judges what it lists.
 -- Assumes nothing.
+use mathlib.Core.Logic.{inl, inr}
 use mathlib.Core.Path.{◌≡◌, ◌∙◌, ap, sym}
 use mathlib.Core.List.{List, map}
 use native.Mathlib.Omega.{arith}
@@ -15,7 +16,10 @@ use Rattle.judging.proofs.wrong_embedded.Goals as goal
 pub returns-in-NoRecord : goal.returns-in-NoRecord
 returns-in-NoRecord c stream_type =
     let a = c.args in
-    sym (ap (λ (r : Record). wrong_embedded stream_type r a.embedded) c.in-NoRecord.is)
+    elim c.in-NoRecord.is [
+      | inl e ↦ sym (ap (λ (r : Record). wrong_embedded stream_type r a.embedded) e)
+      | inr e ↦ sym (implied_sound stream_type a.embedded) ∙ sym (ap (λ (r : Record). wrong_embedded stream_type r a.embedded) e)
+    ]
 
 pub returns-in-Hierarchy : goal.returns-in-Hierarchy
 returns-in-Hierarchy c stream_type =
@@ -27,10 +31,5 @@ returns-in-Extension c stream_type =
     let a = c.args in
     let extension = c.in-Extension.extension in
     let room : length a.embedded ≡ 63 = omega arith in
-    let all = all_listed a.embedded extension.num_embedded_layers c.listed_count.result room c.listed_count.ensures in
+    let all = all_listed a.embedded extension.num_embedded_layers c.listed_count-count.result room c.listed_count-count.ensures in
     c.wrong_list.ensures ∙ ap (λ (l : List LayerIndex). wrong_list extension.layer_index.0 (map plain l)) all ∙ sym (ap (λ (r : Record). wrong_embedded stream_type r a.embedded) c.in-Extension.is)
-
-pub returns-in-Implied : goal.returns-in-Implied
-returns-in-Implied c stream_type =
-    let a = c.args in
-    sym (implied_sound stream_type a.embedded) ∙ sym (ap (λ (r : Record). wrong_embedded stream_type r a.embedded) c.in-Implied.is)

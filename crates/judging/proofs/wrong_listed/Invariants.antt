@@ -8,8 +8,5 @@ use Rattle.records.specs.Records.{plain}
 use Rattle.judging.proofs.Loops.{Passed}
 use Rattle.judging.proofs.wrong_listed.Given as goal
 
-abbrev pub invariant-loop-i : goal.invariant-loop-i
-invariant-loop-i l = Passed (plain l.own) (map plain (layers_of l.list)) l.marks l.i
-
-abbrev pub decreases-loop-i : goal.decreases-loop-i
-decreases-loop-i l = length l.list - l.i
+abbrev pub invariant-loop-byte : goal.invariant-loop-byte
+invariant-loop-byte l = Passed (plain l.own) (map plain (layers_of l.list)) l.marks l.byte-index

@@ -6,6 +6,3 @@ use Rattle.kept_packets.proofs.settle.Given as goal
 
 abbrev pub invariant-loop-slot : goal.invariant-loop-slot
 invariant-loop-slot l = Settling l.initial.kept l.bytes l.initial.ends l.kept l.ends l.slot
-
-abbrev pub decreases-loop-slot : goal.decreases-loop-slot
-decreases-loop-slot l = 64 - l.slot

@@ -9,8 +9,8 @@ use Rattle.listing.proofs.put_closure.Goals as goal
 -- slice-aggregate-put : tie.Need-slice-aggregate-put
 -- slice-aggregate-put c = search rules
 
-pub returns-in-Complete : goal.returns-in-Complete
-returns-in-Complete c = laid_as (sym (ap closure_text c.in-Complete.is)) c.put_members.ensures
+pub returns-in-Ok : goal.returns-in-Ok
+returns-in-Ok c = laid_as (sym (ap closure_text c.in-Ok.is)) c.put_members.ensures
 
-pub returns-in-Refused : goal.returns-in-Refused
-returns-in-Refused c = laid_as (sym (ap closure_text c.in-Refused.is)) c.put.ensures
+pub returns-in-Err : goal.returns-in-Err
+returns-in-Err c = laid_as (sym (ap closure_text c.in-Err.is)) c.put.ensures

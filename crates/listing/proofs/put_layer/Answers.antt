@@ -1,32 +1,10 @@
 -- `listing::put_layer` meets its contract: the seven pieces of the line, one after the other.
 -- Assumes nothing.
-use Rattle.text.proofs.Laws.{laid_then, laid_length}
-use Rattle.listing.specs.Lines.{layer_line}
+use mathlib.Core.Path.{ap}
+use Rattle.text.specs.Text.{ascii}
+use Rattle.text.proofs.Laws.{laid_then, laid_length, laid_as}
+use Rattle.listing.specs.Lines.{labelled, layer_line}
 use Rattle.listing.proofs.put_layer.Goals as goal
-
--- LEFT: no goal of today has the name slice-aggregate-put-labelled
--- slice-aggregate-put-labelled : tie.Need-slice-aggregate-put-labelled
--- slice-aggregate-put-labelled c = search rules
-
--- LEFT: no goal of today has the name slice-aggregate-put-labelled-2
--- slice-aggregate-put-labelled-2 : tie.Need-slice-aggregate-put-labelled-2
--- slice-aggregate-put-labelled-2 c = search rules
-
--- LEFT: no goal of today has the name slice-aggregate-put-labelled-3
--- slice-aggregate-put-labelled-3 : tie.Need-slice-aggregate-put-labelled-3
--- slice-aggregate-put-labelled-3 c = search rules
-
--- LEFT: no goal of today has the name slice-aggregate-put-labelled-4
--- slice-aggregate-put-labelled-4 : tie.Need-slice-aggregate-put-labelled-4
--- slice-aggregate-put-labelled-4 c = search rules
-
--- LEFT: no goal of today has the name slice-aggregate-put
--- slice-aggregate-put : tie.Need-slice-aggregate-put
--- slice-aggregate-put c = search rules
-
--- LEFT: no goal of today has the name slice-aggregate-put-2
--- slice-aggregate-put-2 : tie.Need-slice-aggregate-put-2
--- slice-aggregate-put-2 c = search rules
 
 pub returns : goal.returns
 unfolding layer_line
@@ -35,8 +13,12 @@ returns c =
     (laid_then
     (laid_then
     (laid_then
-    (laid_then (laid_then c.put_labelled-place.ensures c.put_labelled-place-2.ensures) c.put_labelled-place-3.ensures)
-    c.put_labelled-place-4.ensures)
+    (laid_then
+    (laid_then
+    (laid_as (ap (labelled (ascii "layer ")) c.from.ensures) c.put_labelled-place.ensures)
+    (laid_as (ap (labelled (ascii " pid ")) c.from-2.ensures) c.put_labelled-place-2.ensures))
+    (laid_as (ap (labelled (ascii " type ")) c.from-3.ensures) c.put_labelled-place-3.ensures))
+    (laid_as (ap (labelled (ascii " channel ")) c.from-4.ensures) c.put_labelled-place-4.ensures))
     c.put-place.ensures)
     c.put_closure-place.ensures)
     c.put.ensures

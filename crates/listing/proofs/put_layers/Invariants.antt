@@ -7,6 +7,3 @@ use Rattle.listing.proofs.put_layers.Given as goal
 
 abbrev pub invariant-loop-index : goal.invariant-loop-index
 invariant-loop-index l = (l.index ≤ 64) × Laid l.initial.out l.initial.place (texts (set_line l.kept) l.index) l.place l.out
-
-abbrev pub decreases-loop-index : goal.decreases-loop-index
-decreases-loop-index l = 64 - l.index

@@ -8,4 +8,4 @@ pub returns : goal.returns
 returns c =
     let a = c.args in
     c.held_rows.ensures
-    ∙ ap (λ (n : ℕ). held_rows n a.rows) (c.lesser-3.ensures ∙ ap (min a.most) (c.lesser-2.ensures ∙ ap (min a.indices) c.lesser.ensures))
+    ∙ ap (λ (n : ℕ). held_rows n a.rows) (c.min-3.ensures ∙ ap (min a.most) (c.min-2.ensures ∙ ap (min a.indices) c.min.ensures))

@@ -27,7 +27,7 @@ pub returns : goal.returns
 returns c =
     let left = c.args.left.now in
     let known = c.shared_slice_known-3-1.given in
-    rw (c.wide.ensures, c.wide-2.ensures)
+    rw (c.from.ensures, c.from-2.ensures)
     (sym
     (ap (λ (b : Bool). cond b 5 (5 + es_info_length left)) (le-ltb (length left) 5 c.if-left-lt5.false)
     ∙ ap (λ (n : ℕ). 5 + n) (length_bytes left (λ i. omega (arith, known i)))))

@@ -1,6 +1,6 @@
 -- `loop_faults::mark_next` meets its contract: the marks are read and set at the entry's PID and at its record's slot.
 -- Assumes nothing.
-use mathlib.Core.Path.{refl, ◌∙◌, ap}
+use mathlib.Core.Path.{◌∙◌, ap}
 use Prim.Native.Nat.{ℕ}
 use mathlib.Core.Bool.{Bool, true, false, ◌&&◌}
 use mathlib.Core.List.{List}
@@ -28,9 +28,9 @@ returns c =
     let layer = c.is_layer in
     let pids : List Bool = a.pids.now in
     let indices : List Bool = a.indices.now in
-    let number = c.lowest_fault-number.ensures
+    let number = (rw c.from-pid.ensures at c.lowest_fault-number.ensures)
     ∙ ap (λ (i : ℕ). first_true (tests a.given (get_or pids a.outline.pid false) (layer.result && get_or indices i false) a.outline)) slot.ensures.0
     ∙ ap (λ (b : Bool). first_true (tests a.given (get_or pids a.outline.pid false) (b && get_or indices (slot_of a.outline.stream_type a.outline.«record») false) a.outline)) layer.ensures in record {
       value = (number, slot.ensures.1);
-      pids_after = (refl, ap (λ (i : ℕ). set indices i true) slot.ensures.0);
+      pids_after = (ap (λ (i : ℕ). set pids i true) c.from-pid.ensures, ap (λ (i : ℕ). set indices i true) slot.ensures.0);
     }

@@ -12,7 +12,7 @@ returns-then-is_layer c =
     let t = a.stream_type in
     let r = a.«record» in
     let index : c.layer_index-index.result.0 ≡ index_of t r = ap plain c.layer_index-index.ensures in
-    (c.wide.ensures ∙ index ∙ sym (ap (λ (b : Bool). cond b (index_of t r) 256) (sym c.is_layer.ensures ∙ c.if-is_layer.true)), omega (arith, c.layer_index-index.type_inv.1.1.0.1, index))
+    (c.from.ensures ∙ index ∙ sym (ap (λ (b : Bool). cond b (index_of t r) 256) (sym c.is_layer.ensures ∙ c.if-is_layer.true)), omega (arith, c.layer_index-index.type_inv.1.1.0.1, index))
 
 pub returns : goal.returns
 returns c =

@@ -1,6 +1,7 @@
 -- `loop_outlines::wrong_found` meets its contract: which arm was taken says which record it is, and an extension's list lies within the bytes.
 -- Assumes nothing.
 use Prim.Native.Nat.{ℕ, ◌-◌}
+use mathlib.Core.Logic.{inl, inr}
 use mathlib.Core.Path.{◌≡◌, sym, ◌∙◌, ap, subst}
 use mathlib.Core.List.{List, [], map}
 use native.Mathlib.Omega.{arith}
@@ -38,7 +39,12 @@ slice_bounds-wrong_listed-end c =
 pub returns-in-NoRecord : goal.returns-in-NoRecord
 returns-in-NoRecord c stream_type =
     let a = c.args in
-    sym (ap (λ (r : Record). wrong_embedded stream_type r (pad_to 63 no_layer (list_before a.info.now r a.end))) c.in-NoRecord.is)
+    elim c.in-NoRecord.is [
+      | inl e ↦ sym (ap (λ (r : Record). wrong_embedded stream_type r (pad_to 63 no_layer (list_before a.info.now r a.end))) e)
+      | inr e ↦
+          sym (implied_sound stream_type (pad_to 63 no_layer []))
+          ∙ sym (ap (λ (r : Record). wrong_embedded stream_type r (pad_to 63 no_layer (list_before a.info.now r a.end))) e)
+    ]
 
 pub returns-in-Hierarchy : goal.returns-in-Hierarchy
 returns-in-Hierarchy c stream_type =
@@ -62,12 +68,7 @@ returns-in-Extension c stream_type =
     let long : length layers ≡ num =
     length-map (take num (drop start info)) layer_index_of ∙ length-take-le num (drop start info) (omega (arith, length-drop start info)) in
     c.wrong_listed.ensures
+    ∙ ap (λ (n : ℕ). wrong_list own (map plain (layers_of (take (a.end - (a.end - n)) (drop (a.end - n) info))))) c.from.ensures
     ∙ ap (λ (n : ℕ). wrong_list own (map plain (layers_of (take n (drop start info))))) same
     ∙ sym (ap (λ (l : List LayerIndex). wrong_list own (map plain l)) (padded_list layers num long))
     ∙ sym (ap (λ (r : Record). wrong_embedded stream_type r (pad_to 63 no_layer (list_before info r a.end))) c.in-Extension.is)
-
-pub returns-in-Implied : goal.returns-in-Implied
-returns-in-Implied c stream_type =
-    let a = c.args in
-    sym (implied_sound stream_type (pad_to 63 no_layer []))
-    ∙ sym (ap (λ (r : Record). wrong_embedded stream_type r (pad_to 63 no_layer (list_before a.info.now r a.end))) c.in-Implied.is)

@@ -6,25 +6,25 @@ use Rattle.mvc_extension.proofs.read_mvc_extension.Goals as goal
 
 pub overflow_mul-result : goal.overflow_mul-result
 overflow_mul-result c =
-    let known = c.shared_slice_known-9-1.given in omega (arith, known 0, known 1, known 2, known 3, known 4, known 5, known 6, c.wide-average_high.ensures, c.wide-average_low.ensures, c.wide-maximum_high.ensures, c.wide-maximum_low.ensures, c.wide-first.ensures, c.wide-second.ensures, c.wide-third.ensures)
+    let known = c.shared_slice_known-9-1.given in omega (arith, known 0, known 1, known 2, known 3, known 4, known 5, known 6, c.from-average_high.ensures, c.from-average_low.ensures, c.from-maximum_high.ensures, c.from-maximum_low.ensures, c.from-first.ensures, c.from-second.ensures, c.from-third.ensures)
 
 pub overflow_add-result : goal.overflow_add-result
 overflow_add-result c =
-    let known = c.shared_slice_known-9-1.given in omega (arith, known 0, known 1, known 2, known 3, known 4, known 5, known 6, c.wide-average_high.ensures, c.wide-average_low.ensures, c.wide-maximum_high.ensures, c.wide-maximum_low.ensures, c.wide-first.ensures, c.wide-second.ensures, c.wide-third.ensures)
+    let known = c.shared_slice_known-9-1.given in omega (arith, known 0, known 1, known 2, known 3, known 4, known 5, known 6, c.from-average_high.ensures, c.from-average_low.ensures, c.from-maximum_high.ensures, c.from-maximum_low.ensures, c.from-first.ensures, c.from-second.ensures, c.from-third.ensures)
 
 pub overflow_mul-result-2 : goal.overflow_mul-result-2
 overflow_mul-result-2 c =
-    let known = c.shared_slice_known-9-1.given in omega (arith, known 0, known 1, known 2, known 3, known 4, known 5, known 6, c.wide-average_high.ensures, c.wide-average_low.ensures, c.wide-maximum_high.ensures, c.wide-maximum_low.ensures, c.wide-first.ensures, c.wide-second.ensures, c.wide-third.ensures)
+    let known = c.shared_slice_known-9-1.given in omega (arith, known 0, known 1, known 2, known 3, known 4, known 5, known 6, c.from-average_high.ensures, c.from-average_low.ensures, c.from-maximum_high.ensures, c.from-maximum_low.ensures, c.from-first.ensures, c.from-second.ensures, c.from-third.ensures)
 
 pub overflow_add-result-2 : goal.overflow_add-result-2
 overflow_add-result-2 c =
-    let known = c.shared_slice_known-9-1.given in omega (arith, known 0, known 1, known 2, known 3, known 4, known 5, known 6, c.wide-average_high.ensures, c.wide-average_low.ensures, c.wide-maximum_high.ensures, c.wide-maximum_low.ensures, c.wide-first.ensures, c.wide-second.ensures, c.wide-third.ensures)
+    let known = c.shared_slice_known-9-1.given in omega (arith, known 0, known 1, known 2, known 3, known 4, known 5, known 6, c.from-average_high.ensures, c.from-average_low.ensures, c.from-maximum_high.ensures, c.from-maximum_low.ensures, c.from-first.ensures, c.from-second.ensures, c.from-third.ensures)
 
 pub overflow_add-result-4 : goal.overflow_add-result-4
 overflow_add-result-4 c =
-    let known = c.shared_slice_known-9-1.given in omega (arith, known 0, known 1, known 2, known 3, known 4, known 5, known 6, c.wide-average_high.ensures, c.wide-average_low.ensures, c.wide-maximum_high.ensures, c.wide-maximum_low.ensures, c.wide-first.ensures, c.wide-second.ensures, c.wide-third.ensures)
+    let known = c.shared_slice_known-9-1.given in omega (arith, known 0, known 1, known 2, known 3, known 4, known 5, known 6, c.from-average_high.ensures, c.from-average_low.ensures, c.from-maximum_high.ensures, c.from-maximum_low.ensures, c.from-first.ensures, c.from-second.ensures, c.from-third.ensures)
 
 pub returns : goal.returns
 returns c =
     let a = c.args in
-    rw (c.wide-average_high.ensures, c.wide-average_low.ensures, c.wide-maximum_high.ensures, c.wide-maximum_low.ensures, c.wide-first.ensures, c.wide-second.ensures, c.wide-third.ensures) (mvc_extension_bytes a.payload.now (λ i. omega (arith, c.shared_slice_known-9-1.given i)))
+    rw (c.from-average_high.ensures, c.from-average_low.ensures, c.from-maximum_high.ensures, c.from-maximum_low.ensures, c.from-first.ensures, c.from-second.ensures, c.from-third.ensures) (mvc_extension_bytes a.payload.now (λ i. omega (arith, c.shared_slice_known-9-1.given i)))

@@ -39,4 +39,4 @@ returns c =
     let a = c.args in
     let there : a.there ≡ true = c.if-not-there.false in
     rw there
-    (ap₂ (λ (x y : ℕ). x + y) (ap₂ (λ (x y : ℕ). x * 65536 + y * 256) c.wide.ensures c.wide-2.ensures) c.wide-3.ensures)
+    (ap₂ (λ (x y : ℕ). x + y) (ap₂ (λ (x y : ℕ). x * 65536 + y * 256) c.from.ensures c.from-2.ensures) c.from-3.ensures)

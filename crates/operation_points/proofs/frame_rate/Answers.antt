@@ -26,4 +26,4 @@ pub returns : goal.returns
 returns c =
     let a = c.args in
     let there : a.there ≡ true = c.if-not-there.false in
-    rw there (ap₂ (λ (x y : ℕ). x * 256 + y) c.narrow.ensures c.narrow-2.ensures)
+    rw there (ap₂ (λ (x y : ℕ). x * 256 + y) c.from.ensures c.from-2.ensures)

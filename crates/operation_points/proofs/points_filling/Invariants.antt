@@ -1,9 +1,7 @@
--- `operation_points::points_filling` meets its contract (Judging has the turns). The measure is the number of points left. Assumes nothing.
+-- `operation_points::points_filling` meets its contract (Judging has the turns). Assumes nothing.
+use Prim.Native.Nat.{◌-◌}
 use Rattle.operation_points.proofs.Judging.{Passing}
 use Rattle.operation_points.proofs.points_filling.Given as goal
 
-abbrev pub invariant-loop-left : goal.invariant-loop-left
-invariant-loop-left l = Passing l.payload l.count l.first l.left l.at
-
-abbrev pub decreases-loop-left : goal.decreases-loop-left
-decreases-loop-left l = l.left
+abbrev pub invariant-loop : goal.invariant-loop
+invariant-loop l = Passing l.payload l.count l.first (l.count - l.counter) l.at

@@ -6,7 +6,7 @@ pub returns-then-payload-eq0 : goal.returns-then-payload-eq0
 returns-then-payload-eq0 c = head_empty c.args.payload.now c.if-payload-eq0.true
 
 pub returns-then-payload-count_at : goal.returns-then-payload-count_at
-returns-then-payload-count_at c = head_misfit c.args.payload.now (λ i. (c.shared_slice_known-1.given i).fits) c.if-payload-count_at.true
+returns-then-payload-count_at c = head_misfit c.args.payload.now (λ i. (c.shared_slice_known-1.given i).fits) (rw c.from.ensures at c.if-payload-count_at.true)
 
 pub returns : goal.returns
-returns c = head_fits c.args.payload.now (λ i. (c.shared_slice_known-2-1.given i).fits) c.if-payload-count_at.false
+returns c = rw c.from.ensures (head_fits c.args.payload.now (λ i. (c.shared_slice_known-2-1.given i).fits) (rw c.from.ensures at c.if-payload-count_at.false))

@@ -2,7 +2,8 @@
 -- Assumes nothing.
 use mathlib.Core.Path.{◌≡◌, refl, ap, ◌∙◌}
 use Prim.Native.Nat.{ℕ}
-use lib.ListN.{take}
+use lib.ListN.{length, take}
+use lib.Seq.{length-take-le, take_all}
 use Rattle.combinators.specs.Padding.{pad_to}
 use native.Mathlib.Omega.{arith}
 use Rattle.packet_states.proofs.Copies.{filled_next, filled}
@@ -11,15 +12,20 @@ use Rattle.packet_states.proofs.ends_in.Goals as goal
 pub loop-i-init : goal.loop-i-init
 loop-i-init c = (omega arith, refl)
 
+pub bounds-ends-i : goal.bounds-ends-i
+bounds-ends-i c = omega (arith, length-take-le 64 c.args.counts.now c.requires)
+
 pub loop-i-preserved : goal.loop-i-preserved
 loop-i-preserved c =
-    let list = c.args.counts.now in
+    let front = take 64 c.args.counts.now in
+    let size : length front ≡ 64 = length-take-le 64 c.args.counts.now c.requires in
     let loop = c.loop-i in
-    (omega arith, rw loop.invariant.1 (filled_next 64 list loop.i (omega arith) (omega arith)))
+    (omega arith, rw loop.invariant.1 (filled_next 64 front loop.i (omega arith) (omega arith)))
 
 pub returns : goal.returns
 returns c =
-    let a = c.args in
+    let front = take 64 c.args.counts.now in
+    let size : length front ≡ 64 = length-take-le 64 c.args.counts.now c.requires in
     let loop = c.loop-i in
     let all : loop.i ≡ 64 = omega arith in
-    loop.invariant.1 ∙ ap (λ (n : ℕ). pad_to 64 0 (take n a.counts.now)) all ∙ filled 64 a.counts.now (omega arith)
+    loop.invariant.1 ∙ ap (λ (n : ℕ). pad_to 64 0 (take n front)) all ∙ filled 64 front (omega arith) ∙ take_all 64 front (omega arith)

@@ -7,6 +7,3 @@ use Rattle.packet_states.proofs.put_ends.Given as goal
 
 abbrev pub invariant-loop-i : goal.invariant-loop-i
 invariant-loop-i l = (l.i ≤ 64) × (length l.counts ≡ length l.initial.counts) × (l.counts ≡ sets l.initial.counts 0 (take l.i l.ends))
-
-abbrev pub decreases-loop-i : goal.decreases-loop-i
-decreases-loop-i l = 64 - l.i

@@ -1,29 +1,19 @@
--- `packet_states::put_numbers` meets its contract. The invariant: the first i numbers are stored. Assumes nothing.
-use Prim.Native.Nat.{ℕ, ◌+◌, ◌<◌}
-use mathlib.Core.List.{List}
-use mathlib.Core.Path.{refl, ap, ◌∙◌}
+-- `packet_states::put_numbers` meets its contract: the part of the list that was copied into is where the numbers are stored. Assumes nothing.
+use Prim.Native.Nat.{ℕ, ◌+◌, ◌-◌}
+use mathlib.Core.List.{List, ◌++◌, append_assoc}
+use mathlib.Core.Path.{◌≡◌, sym, ◌∙◌, ap}
+use borrow.Rule.Slice.PartMut.{put_mid}
+use lib.ListN.{length, take}
 use native.Mathlib.Omega.{arith}
-use lib.ListN.{length, set, get_or, length-set}
-use lib.Seq.{sets, take_all}
-use Rattle.buffers.proofs.Laws.{one_more}
+use lib.Seq.{sets-eq, drop-drop}
 use Rattle.packet_states.proofs.put_numbers.Goals as goal
-
-pub loop-i-init : goal.loop-i-init
-loop-i-init c = (omega arith, omega arith, refl)
-
-pub loop-i-preserved : goal.loop-i-preserved
-loop-i-preserved c =
-    let a = c.args in
-    let here = c.loop-i in
-    let left : here.i < length a.numbers.now = omega arith in (
-      omega arith,
-      simp length-set (omega arith),
-      ap (λ (l : List ℕ). set l (a.at + here.i) (get_or a.numbers.now here.i 0)) here.invariant.2
-          ∙ one_more a.counts.now a.at a.numbers.now here.i 0 left,
-    )
 
 pub returns : goal.returns
 returns c =
     let a = c.args in
-    let here = c.loop-i in
-    here.invariant.2 ∙ ap (sets a.counts.now a.at) (take_all here.i a.numbers.now (omega arith))
+    let count : a.at + length a.numbers.now - a.at ≡ length a.numbers.now = omega arith in
+    ap (λ (n : ℕ). put_mid a.at n a.counts.now c.copy_from_slice.new.self) count
+    ∙ ap (put_mid a.at (length a.numbers.now) a.counts.now) c.copy_from_slice.ensures.after
+    ∙ ap (λ (l : List ℕ). take a.at a.counts.now ++ (a.numbers.now ++ l)) (drop-drop (length a.numbers.now) a.at a.counts.now)
+    ∙ sym (append_assoc (take a.at a.counts.now) a.numbers.now _)
+    ∙ sym (sets-eq a.numbers.now a.counts.now a.at (omega arith))

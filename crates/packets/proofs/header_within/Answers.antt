@@ -14,10 +14,10 @@ returns-then-payload-lt9 c =
 
 pub overflow_add-result : goal.overflow_add-result
 overflow_add-result c =
-    omega (arith, c.wide.ensures, (c.shared_slice_known-2-1.given 8).fits)
+    omega (arith, c.from.ensures, (c.shared_slice_known-2-1.given 8).fits)
 
 pub returns : goal.returns
 returns c =
     let l = c.args.payload.now in
     simp (le-leb 9 (length l) c.if-payload-lt9.false)
-    (ap (λ (n : ℕ). leb (9 + n) (length l)) (c.wide.ensures ∙ sym (data_length_of_head l (λ i. (c.shared_slice_known-2-1.given i).fits))))
+    (ap (λ (n : ℕ). leb (9 + n) (length l)) (c.from.ensures ∙ sym (data_length_of_head l (λ i. (c.shared_slice_known-2-1.given i).fits))))

@@ -8,4 +8,4 @@ returns-then-packet-lt2 c =
 
 pub returns : goal.returns
 returns c =
-    simp (c.wide.ensures, le-leb 2 c.args.packet.adaptation_field_control c.if-packet-lt2.false)
+    simp (c.from.ensures, le-leb 2 c.args.packet.adaptation_field_control c.if-packet-lt2.false)

@@ -19,28 +19,28 @@ pub offset_bounds-numbers-from : goal.offset_bounds-numbers-from
 offset_bounds-numbers-from c =
     let a = c.args in
     let old = columns a.indices.now a.decodings.now a.matches.now a.trefs.now a.numbers.now in
-    let place = to_old a.table.now a.bytes.now a.first a.found a.room a.kept.now a.ends.now old c.requires.4 c.requires.3 c.walk-after.ensures c.lesser-from.ensures c.lesser-to.ensures in
-    let order = in_order a.table.now a.bytes.now a.first a.found a.room a.kept.now a.ends.now old c.requires.4 c.requires.3 c.walk-after.ensures c.lesser-from.ensures c.lesser-to.ensures in
+    let place = to_old a.table.now a.bytes.now a.first a.found a.room a.kept.now a.ends.now old c.requires.4 c.requires.3 c.walk-after.ensures c.min-from.ensures c.min-to.ensures in
+    let order = in_order a.table.now a.bytes.now a.first a.found a.room a.kept.now a.ends.now old c.requires.4 c.requires.3 c.walk-after.ensures c.min-from.ensures c.min-to.ensures in
     omega (arith, place, order, c.well_formed)
 
 pub slice_bounds-lay-count : goal.slice_bounds-lay-count
 slice_bounds-lay-count c =
     let a = c.args in
     let old = columns a.indices.now a.decodings.now a.matches.now a.trefs.now a.numbers.now in
-    in_order a.table.now a.bytes.now a.first a.found a.room a.kept.now a.ends.now old c.requires.4 c.requires.3 c.walk-after.ensures c.lesser-from.ensures c.lesser-to.ensures
+    in_order a.table.now a.bytes.now a.first a.found a.room a.kept.now a.ends.now old c.requires.4 c.requires.3 c.walk-after.ensures c.min-from.ensures c.min-to.ensures
 
 pub slice_bounds-lay-start : goal.slice_bounds-lay-start
 slice_bounds-lay-start c =
     let a = c.args in
     let old = columns a.indices.now a.decodings.now a.matches.now a.trefs.now a.numbers.now in
-    in_order a.table.now a.bytes.now a.first a.found a.room a.kept.now a.ends.now old c.requires.4 c.requires.3 c.walk-after.ensures c.lesser-from.ensures c.lesser-to.ensures
+    in_order a.table.now a.bytes.now a.first a.found a.room a.kept.now a.ends.now old c.requires.4 c.requires.3 c.walk-after.ensures c.min-from.ensures c.min-to.ensures
 
 pub lay-requires : goal.lay-requires
 lay-requires c =
     let a = c.args in
     let old = columns a.indices.now a.decodings.now a.matches.now a.trefs.now a.numbers.now in (
-      part_room a.table.now a.bytes.now a.first a.found a.room a.kept.now a.ends.now old c.requires.4 c.requires.3 c.walk-after.ensures c.lesser-from.ensures c.lesser-to.ensures,
-      part_inside a.table.now a.bytes.now a.first a.found a.room a.kept.now a.ends.now old c.requires.4 c.requires.3 c.walk-after.ensures c.lesser-from.ensures c.lesser-to.ensures,
+      part_room a.table.now a.bytes.now a.first a.found a.room a.kept.now a.ends.now old c.requires.4 c.requires.3 c.walk-after.ensures c.min-from.ensures c.min-to.ensures,
+      part_inside a.table.now a.bytes.now a.first a.found a.room a.kept.now a.ends.now old c.requires.4 c.requires.3 c.walk-after.ensures c.min-from.ensures c.min-to.ensures,
     )
 
 pub settle-requires : goal.settle-requires
@@ -56,5 +56,5 @@ pub returns : goal.returns
 returns c =
     let a = c.args in
     let old = columns a.indices.now a.decodings.now a.matches.now a.trefs.now a.numbers.now in
-    passed_all a.table.now a.bytes.now a.first a.found a.room a.kept.now a.ends.now old c.requires.4 c.requires.3 c.walk-after.ensures c.lesser-from.ensures c.lesser-to.ensures
+    passed_all a.table.now a.bytes.now a.first a.found a.room a.kept.now a.ends.now old c.requires.4 c.requires.3 c.walk-after.ensures c.min-from.ensures c.min-to.ensures
     c.lay.ensures c.settle.ensures

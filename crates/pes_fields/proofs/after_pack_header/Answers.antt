@@ -31,26 +31,26 @@ pub returns-then-bytes-at : goal.returns-then-bytes-at
 returns-then-bytes-at c =
     let l = c.args.bytes.now in
     let flags = c.args.flags in
-    sym (after_short (2 * c.wide.result + 2 * c.wide-2.result) l (after_buffer flags) c.if-bytes-at.true)
-    ∙ skipped flags l (omega (arith, flag_of_counter flags, flag_of_buffer flags, c.wide.ensures, c.wide-2.ensures))
+    sym (after_short (2 * c.from.result + 2 * c.from-2.result) l (after_buffer flags) c.if-bytes-at.true)
+    ∙ skipped flags l (omega (arith, flag_of_counter flags, flag_of_buffer flags, c.from.ensures, c.from-2.ensures))
 
 pub returns-then-flags-eq1 : goal.returns-then-flags-eq1
 returns-then-flags-eq1 c =
     let l = c.args.bytes.now in
     let flags = c.args.flags in
-    let at = 2 * c.wide.result + 2 * c.wide-2.result in
+    let at = 2 * c.from.result + 2 * c.from-2.result in
     c.second_extension.ensures
     ∙ ap second_extension_of (part_to_end l at)
     ∙ ap (λ (t : Bool). cond t (second_extension_of (drop at l)) (WithoutTref true)) (sym (eq-eqb _ 1 (flag_of_second flags ∙ c.if-flags-eq1.true)))
     ∙ sym (after_fits at l (after_buffer flags) c.if-bytes-at.false)
-    ∙ skipped flags l (omega (arith, flag_of_counter flags, flag_of_buffer flags, c.wide.ensures, c.wide-2.ensures))
+    ∙ skipped flags l (omega (arith, flag_of_counter flags, flag_of_buffer flags, c.from.ensures, c.from-2.ensures))
 
 pub returns : goal.returns
 returns c =
     let l = c.args.bytes.now in
     let flags = c.args.flags in
-    let at = 2 * c.wide.result + 2 * c.wide-2.result in
+    let at = 2 * c.from.result + 2 * c.from-2.result in
     ap (λ (t : Bool). cond t (second_extension_of (drop at l)) (WithoutTref true))
     (sym (ne_eqb _ 1 (λ e. c.if-flags-eq1.false (sym (flag_of_second flags) ∙ e))))
     ∙ sym (after_fits at l (after_buffer flags) c.if-bytes-at.false)
-    ∙ skipped flags l (omega (arith, flag_of_counter flags, flag_of_buffer flags, c.wide.ensures, c.wide-2.ensures))
+    ∙ skipped flags l (omega (arith, flag_of_counter flags, flag_of_buffer flags, c.from.ensures, c.from-2.ensures))

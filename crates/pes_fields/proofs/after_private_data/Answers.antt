@@ -38,20 +38,20 @@ returns-then-bytes-lt1 c =
 
 pub overflow_add-at : goal.overflow_add-at
 overflow_add-at c =
-    omega (arith, c.wide-at.ensures, (c.shared_slice_known-1.given 0).fits)
+    omega (arith, c.from-at.ensures, (c.shared_slice_known-1.given 0).fits)
 
 pub returns-then-bytes-at : goal.returns-then-bytes-at
 returns-then-bytes-at c =
     let l = c.args.bytes.now in
-    let at = 1 + c.wide-at.result in
+    let at = 1 + c.from-at.result in
     sym (after_short at l (after_pack_header c.args.flags) c.if-bytes-at.true)
-    ∙ pack-header c.args.flags l c.if-flags-eq0.false (ap (λ (n : ℕ). 1 + n) c.wide-at.ensures)
+    ∙ pack-header c.args.flags l c.if-flags-eq0.false (ap (λ (n : ℕ). 1 + n) c.from-at.ensures)
 
 pub returns : goal.returns
 returns c =
     let l = c.args.bytes.now in
-    let at = 1 + c.wide-at.result in
+    let at = 1 + c.from-at.result in
     c.after_pack_header-2.ensures
     ∙ ap (after_pack_header c.args.flags) (part_to_end l at)
     ∙ sym (after_fits at l (after_pack_header c.args.flags) c.if-bytes-at.false)
-    ∙ pack-header c.args.flags l c.if-flags-eq0.false (ap (λ (n : ℕ). 1 + n) c.wide-at.ensures)
+    ∙ pack-header c.args.flags l c.if-flags-eq0.false (ap (λ (n : ℕ). 1 + n) c.from-at.ensures)

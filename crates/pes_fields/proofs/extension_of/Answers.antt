@@ -27,24 +27,24 @@ returns-then-bytes-lt1 c =
 
 pub overflow_mul-at : goal.overflow_mul-at
 overflow_mul-at c =
-    omega (arith, c.wide.ensures, (c.shared_slice_known-1.given 0).fits)
+    omega (arith, c.from.ensures, (c.shared_slice_known-1.given 0).fits)
 
 pub overflow_add-at : goal.overflow_add-at
 overflow_add-at c =
-    omega (arith, c.wide.ensures, (c.shared_slice_known-1.given 0).fits)
+    omega (arith, c.from.ensures, (c.shared_slice_known-1.given 0).fits)
 
 pub returns-then-bytes-at : goal.returns-then-bytes-at
 returns-then-bytes-at c =
     let l = c.args.bytes.now in
-    let at = 1 + 16 * c.wide.result in
+    let at = 1 + 16 * c.from.result in
     sym (after_short at l (after_private_data (get_or l 0 0)) c.if-bytes-at.true)
-    ∙ private-data l at (c.shared_slice_known-1.given 0).fits (ap (λ (n : ℕ). 1 + 16 * n) c.wide.ensures)
+    ∙ private-data l at (c.shared_slice_known-1.given 0).fits (ap (λ (n : ℕ). 1 + 16 * n) c.from.ensures)
 
 pub returns : goal.returns
 returns c =
     let l = c.args.bytes.now in
-    let at = 1 + 16 * c.wide.result in
+    let at = 1 + 16 * c.from.result in
     c.after_private_data.ensures
     ∙ ap (after_private_data (get_or l 0 0)) (part_to_end l at)
     ∙ sym (after_fits at l (after_private_data (get_or l 0 0)) c.if-bytes-at.false)
-    ∙ private-data l at (c.shared_slice_known-1.given 0).fits (ap (λ (n : ℕ). 1 + 16 * n) c.wide.ensures)
+    ∙ private-data l at (c.shared_slice_known-1.given 0).fits (ap (λ (n : ℕ). 1 + 16 * n) c.from.ensures)

@@ -21,15 +21,15 @@ returns-then-bytes-end c =
     let b = get_or l 0 0 in
     simp (
       le-leb _ _ c.if-bytes-lt1.false,
-      lt-leb (named "PES_extension_field_length" second_extension b) (length (drop 1 l)) (omega (arith, length-drop 1 l, length_of_second b, c.wide-end.ensures, c.if-bytes-end.true)),
+      lt-leb (named "PES_extension_field_length" second_extension b) (length (drop 1 l)) (omega (arith, length-drop 1 l, length_of_second b, c.from-end.ensures, c.if-bytes-end.true)),
     )
 
 pub returns : goal.returns
 returns c =
     let l = c.args.bytes.now in
     let b = get_or l 0 0 in
-    let e : c.wide-end.result ≡ named "PES_extension_field_length" second_extension b = omega (arith, length_of_second b, c.wide-end.ensures) in
-    let part : 1 + c.wide-end.result - 1 ≡ named "PES_extension_field_length" second_extension b = omega arith in
+    let e : c.from-end.result ≡ named "PES_extension_field_length" second_extension b = omega (arith, length_of_second b, c.from-end.ensures) in
+    let part : 1 + c.from-end.result - 1 ≡ named "PES_extension_field_length" second_extension b = omega arith in
     simp (
       le-leb _ _ c.if-bytes-lt1.false,
       le-leb (named "PES_extension_field_length" second_extension b) (length (drop 1 l)) (omega (arith, length-drop 1 l, e, c.if-bytes-end.false)),

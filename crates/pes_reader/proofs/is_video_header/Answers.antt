@@ -46,11 +46,11 @@ returns-then-bytes-gt239 c =
 
 pub overflow_add-result : goal.overflow_add-result
 overflow_add-result c =
-    omega (arith, c.wide.ensures, (c.shared_slice_known-1.given 8).fits)
+    omega (arith, c.from.ensures, (c.shared_slice_known-1.given 8).fits)
 
 pub returns : goal.returns
 returns c =
     let l = c.args.bytes.now in
     sym
     (video_header_of_bytes l (λ i. (c.shared_slice_known-1.given i).fits)
-    ∙ simp (le-leb 9 (length l) c.if-bytes-lt9.false, sym c.starts_a_packet-starts.ensures ∙ c.if-not-starts.false, eq-eqb (get_or l 6 0 / 64) 0b10 c.if-bytes-ne2.false, le-leb 0xE0 (get_or l 3 0) c.if-bytes-lt224.false, le-leb (get_or l 3 0) 0xEF c.if-bytes-gt239.false) (ap (λ (n : ℕ). leb (9 + n) (length l)) (sym c.wide.ensures)))
+    ∙ simp (le-leb 9 (length l) c.if-bytes-lt9.false, sym c.starts_a_packet-starts.ensures ∙ c.if-not-starts.false, eq-eqb (get_or l 6 0 / 64) 0b10 c.if-bytes-ne2.false, le-leb 0xE0 (get_or l 3 0) c.if-bytes-lt224.false, le-leb (get_or l 3 0) 0xEF c.if-bytes-gt239.false) (ap (λ (n : ℕ). leb (9 + n) (length l)) (sym c.from.ensures)))

@@ -1,5 +1,6 @@
 -- `pes_writer::write` meets its contract: its three tests are the definition's, in its order, and a refusal comes before anything
 -- is written. Assumes nothing.
+use Rattle.std.specs.Prelude.{Ok}
 use borrow.Author.Tests.{le-leb, lt-leb}
 use native.Mathlib.Omega.{arith}
 use Prim.Native.Nat.{◌≤◌}
@@ -9,7 +10,6 @@ use Rattle.pes_writer.specs.OwnShape.{Narrow}
 use Rattle.buffers.proofs.Laws.{laid_over_lem}
 use Rattle.pes_writer.specs.Writing.{header_of}
 use Rattle.pes_writer.proofs.WritingLaws.{narrow, header_length}
-use Rattle.pes_writer.specs.declared.Written.TheVariants.{Bytes}
 use Rattle.pes_writer.proofs.write.Goals as goal
 
 pub returns-then-any_too_wide : goal.returns-then-any_too_wide
@@ -62,6 +62,6 @@ returns c =
         le-leb (length (header_of a.times a.with_tref)) (length a.out.now) room,
         sym c.before-2.ensures ∙ c.if-before.false,
       )
-          (ap Bytes e);
+          (ap Ok e);
       out_after = laid_over_lem put room;
     }

@@ -7,6 +7,3 @@ use Rattle.pid_layers.proofs.layers_by_pid.Given as goal
 
 abbrev pub invariant-loop-index : goal.invariant-loop-index
 invariant-loop-index l = (l.index ≤ 64) × (l.table ≡ tabled (replicate pids 255) l.present l.pids l.index)
-
-abbrev pub decreases-loop-index : goal.decreases-loop-index
-decreases-loop-index l = 64 - l.index

@@ -1,5 +1,6 @@
 -- `pid_layers::put_layer` meets its contract: a PID that there is not is passed over. Assumes nothing.
 use native.Mathlib.Omega.{arith}
+use Prim.Native.Nat.{ℕ}
 use mathlib.Core.Path.{sym, ap, ◌∙◌}
 use mathlib.Core.Bool.{Bool, cond}
 use lib.ListN.{set}
@@ -20,4 +21,5 @@ returns-then-place-ge-PIDS c =
 pub returns : goal.returns
 returns c =
     let a = c.args in
-    sym (ap (λ (t : Bool). cond t (set a.table.now a.pid a.index) a.table.now) (sym c.member.ensures ∙ c.if-not-member.false))
+    ap (λ (n : ℕ). set a.table.now n a.index) c.from-place.ensures
+    ∙ sym (ap (λ (t : Bool). cond t (set a.table.now a.pid a.index) a.table.now) (sym c.member.ensures ∙ c.if-not-member.false))

@@ -10,21 +10,17 @@ use Rattle.point_fields.specs.Fields.{reference_bytes, reference_too_wide}
 use native.Mathlib.Omega.{arith}
 use Rattle.point_bytes.proofs.put_references.Goals as goal
 
-pub loop-i-init : goal.loop-i-init
-loop-i-init c = (omega arith, pieces_start c.args.references.now reference_bytes c.put-place.ensures)
+pub loop-reference-init : goal.loop-reference-init
+loop-reference-init c = (omega arith, pieces_start c.args.references.now reference_bytes c.put-place.ensures)
 
 pub reference_byte-byte-requires : goal.reference_byte-byte-requires
-reference_byte-byte-requires c = let a = c.args in any_none a.references.now 0 reference_too_wide (length a.references.now) c.loop-i.i (omega arith) (omega arith) (ap (any reference_too_wide) (take_all (length a.references.now) a.references.now (omega arith)) ∙ c.requires)
+reference_byte-byte-requires c = let a = c.args in any_none a.references.now 0 reference_too_wide (length a.references.now) c.loop-reference.reference-index (omega arith) (omega arith) (ap (any reference_too_wide) (take_all (length a.references.now) a.references.now (omega arith)) ∙ c.requires)
 
--- LEFT: no goal of today has the name slice-aggregate-put-2
--- slice-aggregate-put-2 : tie.Need-slice-aggregate-put-2 invariant-loop decreases-loop
--- slice-aggregate-put-2 c = search rules
-
-pub loop-i-preserved : goal.loop-i-preserved
-loop-i-preserved c = (omega arith, pieces_next c.args.references.now reference_bytes c.loop-i.i 0 (omega arith) c.loop-i.invariant.1 (laid_as c.reference_byte-byte.ensures c.put-place-in-loop-i.ensures))
+pub loop-reference-preserved : goal.loop-reference-preserved
+loop-reference-preserved c = (omega arith, pieces_next c.args.references.now reference_bytes c.loop-reference.reference-index 0 (omega arith) c.loop-reference.invariant.1 (laid_as c.reference_byte-byte.ensures c.put-place-in-loop-reference.ensures))
 
 pub returns : goal.returns
-returns c = let a = c.args in laid_as (ap (gather reference_bytes) (take_all (length a.references.now) a.references.now (omega arith))) (pieces_end a.references.now reference_bytes c.loop-i.i (length a.references.now) (omega arith) c.put-place.ensures c.loop-i.invariant.1)
+returns c = let a = c.args in laid_as (ap (gather reference_bytes) (take_all (length a.references.now) a.references.now (omega arith))) (pieces_end a.references.now reference_bytes c.loop-reference.reference-index (length a.references.now) (omega arith) c.put-place.ensures c.loop-reference.invariant.1)
 
 pub shape_of-out : goal.shape_of-out
 shape_of-out c = laid_length (returns c)

@@ -8,11 +8,11 @@ use Rattle.point_descriptors.proofs.add_points_in.Goals as goal
 
 pub add_points-requires : goal.add_points-requires
 add_points-requires c =
-    let within = head_within c.args.payload.now c.in-Before.before (sym c.read_head-head.ensures ∙ c.in-Before.is) in
+    let within = head_within c.args.payload.now c.in-Some.head (sym c.read_head.ensures ∙ c.in-Some.is) in
     (omega (arith, c.requires.0), within, c.requires.1, c.requires.2)
 
-pub returns-in-HeadDoesNotFit : goal.returns-in-HeadDoesNotFit
-returns-in-HeadDoesNotFit c = nothing_held c.args.places.now c.args.count _ (no_head c.args.base c.args.payload.now (sym c.in-HeadDoesNotFit.is ∙ c.read_head-head.ensures))
+pub returns-in-None : goal.returns-in-None
+returns-in-None c = nothing_held c.args.places.now c.args.count _ (no_head c.args.base c.args.payload.now (sym c.in-None.is ∙ c.read_head.ensures))
 
-pub returns-in-Before : goal.returns-in-Before
-returns-in-Before c = points_by c.args.places.now c.add_points.new.places c.args.count c.add_points.result c.args.base c.args.payload.now c.in-Before.before (sym c.in-Before.is ∙ c.read_head-head.ensures) c.add_points.ensures
+pub returns-in-Some : goal.returns-in-Some
+returns-in-Some c = points_by c.args.places.now c.add_points.new.places c.args.count c.add_points.result c.args.base c.args.payload.now c.in-Some.head (sym c.in-Some.is ∙ c.read_head.ensures) c.add_points.ensures

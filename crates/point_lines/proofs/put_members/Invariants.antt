@@ -1,4 +1,4 @@
--- `put_members` meets its contract. The invariant: the members so far are laid in after the empty text at the start. The measure is the number of members left.
+-- `put_members` meets its contract. The invariant: the members so far are laid in after the empty text at the start.
 -- Assumes nothing.
 use Rattle.point_lines.specs.Lines.{member_text}
 use Rattle.text.specs.Text.{Laid, texts}
@@ -6,8 +6,5 @@ use lib.ListN.{length}
 use Prim.Native.Nat.{◌-◌, ◌≤◌}
 use Rattle.point_lines.proofs.put_members.Given as goal
 
-abbrev pub invariant-loop-index : goal.invariant-loop-index
-invariant-loop-index l = (l.index ≤ length l.streams) × Laid l.initial.out l.initial.place (texts (member_text l.streams) l.index) l.place l.out
-
-abbrev pub decreases-loop-index : goal.decreases-loop-index
-decreases-loop-index l = length l.streams - l.index
+abbrev pub invariant-loop-stream : goal.invariant-loop-stream
+invariant-loop-stream l = (l.stream-index ≤ length l.streams) × Laid l.initial.out l.initial.place (texts (member_text l.streams) l.stream-index) l.place l.out

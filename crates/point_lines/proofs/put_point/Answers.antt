@@ -4,10 +4,6 @@ use Rattle.point_lines.specs.Lines.{point_line}
 use Rattle.text.proofs.Laws.{laid_then, laid_length}
 use Rattle.point_lines.proofs.put_point.Goals as goal
 
--- LEFT: no goal of today has the name slice-aggregate-put
--- slice-aggregate-put : tie.Need-slice-aggregate-put
--- slice-aggregate-put c = search rules
-
 pub returns : goal.returns
 unfolding point_line
 returns c =

@@ -7,11 +7,7 @@ use Rattle.point_lines.proofs.put_rate.Goals as goal
 pub returns-then-there : goal.returns-then-there
 returns-then-there c =
     let a = c.args in
-    laid_as (a_rate a.label.now a.number a.there c.if-there.true) c.put_labelled.ensures
-
--- LEFT: no goal of today has the name slice-aggregate-put
--- slice-aggregate-put : tie.Need-slice-aggregate-put
--- slice-aggregate-put c = search rules
+    laid_as (a_rate a.label.now a.number a.there c.if-there.true) (rw c.from.ensures at c.put_labelled.ensures)
 
 pub returns : goal.returns
 returns c =

@@ -4,14 +4,6 @@ use Rattle.point_lines.specs.Lines.{rates_text}
 use Rattle.text.proofs.Laws.{laid_then, laid_length}
 use Rattle.point_lines.proofs.put_rates.Goals as goal
 
--- LEFT: no goal of today has the name slice-aggregate-put-rate
--- slice-aggregate-put-rate : tie.Need-slice-aggregate-put-rate
--- slice-aggregate-put-rate c = search rules
-
--- LEFT: no goal of today has the name slice-aggregate-put-rate-2
--- slice-aggregate-put-rate-2 : tie.Need-slice-aggregate-put-rate-2
--- slice-aggregate-put-rate-2 c = search rules
-
 pub returns : goal.returns
 unfolding rates_text
 returns c = laid_then (laid_then c.put_frame_rate-place.ensures c.put_rate-place.ensures) c.put_rate.ensures

@@ -5,27 +5,11 @@ use Rattle.text.proofs.Laws.{laid_then, laid_as, laid_within, laid_length}
 use native.Mathlib.Omega.{arith}
 use Rattle.point_listing.proofs.put_lines.Goals as goal
 
--- LEFT: no goal of today has the name slice-aggregate-put
--- slice-aggregate-put : tie.Need-slice-aggregate-put invariant-loop decreases-loop
--- slice-aggregate-put c = search rules
-
 pub loop-index-init : goal.loop-index-init
 loop-index-init c = (omega arith, no_line c.args.layers c.args.program.now c.args.places.now _ _ (laid_within c.put-place.ensures))
 
-pub offset_bounds-places-index : goal.offset_bounds-places-index
-offset_bounds-places-index c = omega (arith, c.requires.1, c.loop-index.invariant.0)
-
-pub bounds-places-index : goal.bounds-places-index
-bounds-places-index c = omega (arith, c.loop-index-test.true)
-
 pub put_point_at-place-requires : goal.put_point_at-place-requires
 put_point_at-place-requires c = c.requires.0 c.loop-index.index c.loop-index-test.true
-
-pub overflow_add-index : goal.overflow_add-index
-overflow_add-index c = omega (arith, c.requires.1, c.loop-index.invariant.0)
-
-pub loop-index-smaller : goal.loop-index-smaller
-loop-index-smaller c = omega (arith, c.loop-index-test.true)
 
 pub loop-index-preserved : goal.loop-index-preserved
 loop-index-preserved c = (omega (arith, c.loop-index-test.true), line_laid c.args.layers c.args.program.now c.args.places.now c.loop-index.index c.loop-index-test.true c.loop-index.invariant.1 c.put_point_at-place.ensures)

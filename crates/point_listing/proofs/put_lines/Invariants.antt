@@ -9,6 +9,3 @@ use Rattle.point_listing.proofs.put_lines.Given as goal
 abbrev pub invariant-loop-index : goal.invariant-loop-index
 invariant-loop-index l =
     (l.index ≤ length l.places) × Laid l.initial.out l.initial.place (lines_to l.layers l.program l.places l.index) l.place l.out
-
-abbrev pub decreases-loop-index : goal.decreases-loop-index
-decreases-loop-index l = length l.places - l.index

@@ -7,8 +7,5 @@ use lib.ListN.{length}
 use Prim.Native.Nat.{◌-◌}
 use Rattle.point_rows.proofs.lay_points.Given as goal
 
-abbrev pub invariant-loop-i : goal.invariant-loop-i
-invariant-loop-i l = Laying (λ at. row_in l.layers (value_at l.program at)) l.places l.initial.out l.out l.next l.i
-
-abbrev pub decreases-loop-i : goal.decreases-loop-i
-decreases-loop-i l = length l.places - l.i
+abbrev pub invariant-loop-place : goal.invariant-loop-place
+invariant-loop-place l = Laying (λ at. row_in l.layers (value_at l.program at)) l.places l.initial.out l.out l.next l.place-index

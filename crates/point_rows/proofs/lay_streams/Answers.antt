@@ -7,43 +7,31 @@ use mathlib.Core.Path.{refl}
 use native.Mathlib.Omega.{arith}
 use Rattle.point_rows.proofs.lay_streams.Goals as goal
 
-pub loop-i-init : goal.loop-i-init
-loop-i-init c =
+pub loop-place-init : goal.loop-place-init
+loop-place-init c =
     let a = c.args in
     laying_start (λ at. streams_of a.layers (value_at a.program.now at)) a.places.now a.out.now
-
-pub bounds-places-i : goal.bounds-places-i
-bounds-places-i c =
-    let a = c.args in
-    let at = c.loop-i in
-    omega (arith, c.loop-i-test.true)
 
 pub put_streams-next-requires : goal.put_streams-next-requires
 put_streams-next-requires c =
     let a = c.args in
-    let at = c.loop-i in
-    c.requires at.i c.loop-i-test.true
+    let at = c.loop-place in
+    c.requires at.place-index c.loop-place-test.true
 
-pub loop-i-smaller : goal.loop-i-smaller
-loop-i-smaller c =
+pub loop-place-preserved : goal.loop-place-preserved
+loop-place-preserved c =
     let a = c.args in
-    let at = c.loop-i in
-    omega (arith, c.loop-i-test.true)
-
-pub loop-i-preserved : goal.loop-i-preserved
-loop-i-preserved c =
-    let a = c.args in
-    let at = c.loop-i in
-    laying_on (λ at. streams_of a.layers (value_at a.program.now at)) a.places.now a.out.now at.out at.next at.i at.invariant c.loop-i-test.true refl c.put_streams-next.ensures
+    let at = c.loop-place in
+    laying_on (λ at. streams_of a.layers (value_at a.program.now at)) a.places.now a.out.now at.out at.next at.place-index at.invariant c.loop-place-test.true refl c.put_streams-next.ensures
 
 pub shape_of-out : goal.shape_of-out
 shape_of-out c =
     let a = c.args in
-    let at = c.loop-i in
-    laying_length (λ at. streams_of a.layers (value_at a.program.now at)) a.places.now a.out.now at.out at.next at.i at.invariant
+    let at = c.loop-place in
+    laying_length (λ at. streams_of a.layers (value_at a.program.now at)) a.places.now a.out.now at.out at.next at.place-index at.invariant
 
 pub returns : goal.returns
 returns c =
     let a = c.args in
-    let at = c.loop-i in
-    laying_end (λ at. streams_of a.layers (value_at a.program.now at)) a.places.now a.out.now at.out at.next at.i at.invariant (omega (arith, c.loop-i-test.false))
+    let at = c.loop-place in
+    laying_end (λ at. streams_of a.layers (value_at a.program.now at)) a.places.now a.out.now at.out at.next at.place-index at.invariant (omega (arith, c.loop-place-test.false))

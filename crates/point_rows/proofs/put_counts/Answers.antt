@@ -11,4 +11,4 @@ pub head_at-head-requires : goal.head_at-head-requires
 head_at-head-requires c = (head_parts c.args.program.now (λ i. (c.shared_slice_known-1.given i).fits) c.args.place c.requires.0).at_within
 
 pub returns : goal.returns
-returns c = laid_as (λ i. (c.wide.ensures ∙ ap (λ (h : Head). h.num_ptl) c.head_at-head.ensures) i ∷ (c.wide-2.ensures ∙ ap (λ (h : Head). h.operation_points_count) c.head_at-head.ensures) i ∷ []) c.put_numbers.ensures
+returns c = laid_as (λ i. (c.from.ensures ∙ ap (λ (h : Head). h.num_ptl) c.head_at-head.ensures) i ∷ (c.from-2.ensures ∙ ap (λ (h : Head). h.operation_points_count) c.head_at-head.ensures) i ∷ []) c.put_numbers.ensures

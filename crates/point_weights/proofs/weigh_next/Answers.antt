@@ -1,24 +1,20 @@
--- `weigh_next` meets its contract: a row that is too wide is not counted.
+-- `weigh_next` meets its contract.
 -- Assumes nothing.
-use mathlib.Core.Path.{sym, ◌∙◌}
 use Rattle.point_fields.proofs.Rows.{row_fits}
 use native.Mathlib.Omega.{arith}
 use Rattle.point_weights.proofs.weigh_next.Goals as goal
 
-pub returns-then-row_too_wide : goal.returns-then-row_too_wide
-returns-then-row_too_wide c = (rw (sym c.row_too_wide.ensures ∙ c.if-row_too_wide.true), omega arith, omega arith, omega arith)
-
 pub overflow_cast-result : goal.overflow_cast-result
-overflow_cast-result c = let f = (row_fits c.args.row.now (sym c.row_too_wide.ensures ∙ c.if-row_too_wide.false)) in omega arith
+overflow_cast-result c = let f = row_fits c.args.row.now c.requires.1 in omega arith
 
 pub overflow_add-result : goal.overflow_add-result
-overflow_add-result c = let f = (row_fits c.args.row.now (sym c.row_too_wide.ensures ∙ c.if-row_too_wide.false)) in omega arith
+overflow_add-result c = let f = row_fits c.args.row.now c.requires.1 in omega arith
 
 pub overflow_cast-result-2 : goal.overflow_cast-result-2
-overflow_cast-result-2 c = let f = (row_fits c.args.row.now (sym c.row_too_wide.ensures ∙ c.if-row_too_wide.false)) in omega arith
+overflow_cast-result-2 c = let f = row_fits c.args.row.now c.requires.1 in omega arith
 
 pub overflow_add-result-2 : goal.overflow_add-result-2
-overflow_add-result-2 c = let f = (row_fits c.args.row.now (sym c.row_too_wide.ensures ∙ c.if-row_too_wide.false)) in omega arith
+overflow_add-result-2 c = let f = row_fits c.args.row.now c.requires.1 in omega arith
 
 pub returns : goal.returns
-returns c = let f = (row_fits c.args.row.now (sym c.row_too_wide.ensures ∙ c.if-row_too_wide.false)) in (rw (sym c.row_too_wide.ensures ∙ c.if-row_too_wide.false, c.fields_size.ensures.0), omega arith, omega arith, omega (arith, c.fields_size.ensures.1))
+returns c = let f = row_fits c.args.row.now c.requires.1 in (rw c.fields_size.ensures.0, omega arith, omega arith, omega (arith, c.fields_size.ensures.1))

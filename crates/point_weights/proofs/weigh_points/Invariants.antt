@@ -9,6 +9,3 @@ use Rattle.point_weights.proofs.weigh_points.Given as goal
 
 abbrev pub invariant-loop-i : goal.invariant-loop-i
 invariant-loop-i l = (l.i ≤ l.count) × (weighed_after l.weighed (twelves (l.count - l.i) (drop (l.i * 12) l.points)) ≡ weighed_after nothing_weighed (rows_in l.points)) × (l.weighed.references ≤ l.i * 255) × (l.weighed.layers ≤ l.i * 255) × (l.weighed.size ≤ l.i * 255)
-
-abbrev pub decreases-loop-i : goal.decreases-loop-i
-decreases-loop-i l = l.count - l.i

@@ -4,5 +4,5 @@ use Rattle.program_points.specs.Places.{head_or}
 use mathlib.Core.Path.{sym, ap}
 use Rattle.program_points.proofs.head_or.Goals as goal
 
-pub returns-in-HeadDoesNotFit : goal.returns-in-HeadDoesNotFit
-returns-in-HeadDoesNotFit c = ap head_or (sym c.in-HeadDoesNotFit.is)
+pub returns-in-None : goal.returns-in-None
+returns-in-None c = ap head_or (sym c.in-None.is)

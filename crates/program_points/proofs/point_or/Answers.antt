@@ -4,5 +4,5 @@ use Rattle.program_points.specs.Places.{point_or}
 use mathlib.Core.Path.{sym, ap}
 use Rattle.program_points.proofs.point_or.Goals as goal
 
-pub returns-in-Read : goal.returns-in-Read
-returns-in-Read c = ap point_or (sym c.in-Read.is)
+pub returns-in-Ok : goal.returns-in-Ok
+returns-in-Ok c = ap point_or (sym c.in-Ok.is)

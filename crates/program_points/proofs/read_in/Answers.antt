@@ -2,16 +2,17 @@
 -- Assumes nothing.
 use Rattle.program_points.proofs.Filled.{by_verdict}
 use Rattle.program_points.specs.Told.{refused_points}
-use Rattle.vocabulary.specs.declared.refusal.Refusal.TheVariants.{PointsDoNotFit, ReservedEsCount}
-use Rattle.operation_points.specs.declared.Filling.TheVariants.{Exact, Inexact, Reserved}
-use mathlib.Core.Path.{refl, ap, ◌∙◌}
+use Rattle.point_descriptors.specs.declared.Found.{Found}
+use Rattle.vocabulary.specs.declared.refusal.Refusal.{Refusal}
+use Rattle.std.specs.Prelude.{Err, Ok}
+use mathlib.Core.Path.{refl, ap₂, ◌∙◌}
 use Rattle.program_points.proofs.read_in.Goals as goal
 
-pub returns-in-Inexact : goal.returns-in-Inexact
-returns-in-Inexact c = by_verdict c.args.program.now c.args.layers c.args.found c.requires _ refl {verdict = Inexact} c.in-Inexact.is (c.refused.ensures ∙ ap (refused_points PointsDoNotFit c.args.layers) c.requires)
+pub returns-in-Err : goal.returns-in-Err
+returns-in-Err c =
+    let a = c.args in
+    by_verdict a.program.now a.layers a.found c.requires _ refl {verdict = Err c.in-Err.fault} c.in-Err.is
+    (c.refused.ensures ∙ ap₂ (λ (r : Refusal) (f : Found). refused_points r a.layers f) c.refusal_of.ensures c.requires)
 
-pub returns-in-Reserved : goal.returns-in-Reserved
-returns-in-Reserved c = by_verdict c.args.program.now c.args.layers c.args.found c.requires _ refl {verdict = Reserved} c.in-Reserved.is (c.refused-in-Reserved.ensures ∙ ap (refused_points ReservedEsCount c.args.layers) c.requires)
-
-pub returns-in-Exact : goal.returns-in-Exact
-returns-in-Exact c = by_verdict c.args.program.now c.args.layers c.args.found c.requires _ refl {verdict = Exact} c.in-Exact.is c.tell.ensures
+pub returns-in-Ok : goal.returns-in-Ok
+returns-in-Ok c = by_verdict c.args.program.now c.args.layers c.args.found c.requires _ refl {verdict = Ok tt} c.in-Ok.is c.tell.ensures

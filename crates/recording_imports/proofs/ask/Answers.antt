@@ -1,6 +1,6 @@
 -- `recording_imports::ask` meets its contract: the loop as it was read, and what its layers have for the target. Assumes nothing.
 use mathlib.Core.Path.{ap, ◌∙◌}
-use Rattle.es_loop.specs.declared.reader.Outcome.{Outcome}
+use Rattle.es_loop.specs.Answer.{Outcome}
 use Rattle.loop_layers.specs.declared.table.TableRead.{TableRead}
 use Rattle.recording_imports.specs.Imports.{outcome_for}
 use Rattle.recording_imports.proofs.ask.Goals as goal

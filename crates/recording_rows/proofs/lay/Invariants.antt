@@ -9,6 +9,3 @@ use Rattle.recording_rows.proofs.lay.Given as goal
 abbrev pub invariant-loop-i : goal.invariant-loop-i
 invariant-loop-i l =
     Laying l.table l.bytes l.first l.starts l.place (beside l.initial.indices l.initial.decodings l.initial.matches l.initial.trefs) l.i (beside l.indices l.decodings l.matches l.trefs)
-
-abbrev pub decreases-loop-i : goal.decreases-loop-i
-decreases-loop-i l = length l.starts - l.i

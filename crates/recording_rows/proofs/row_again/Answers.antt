@@ -5,7 +5,7 @@ use mathlib.Core.Path.{◌≡◌, sym, ap, ap₂, ◌∙◌}
 use mathlib.Core.List.{List}
 use lib.ListN.{get_or, drop}
 use Rattle.combinators.specs.Lists.{part_to_end}
-use Rattle.pes_reader.specs.declared.Answer.{Answer}
+use Rattle.pes_reader.specs.Answer.{Answer}
 use Rattle.pes_reader.specs.Reading.{read_of}
 use Rattle.packets.specs.Reading.{packet_of}
 use Rattle.packets.specs.Judging.{payload_at}

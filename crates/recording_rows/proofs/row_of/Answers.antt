@@ -3,8 +3,8 @@ use mathlib.Core.Path.{sym, ap}
 use Rattle.recording_rows.specs.Again.{row_of}
 use Rattle.recording_rows.proofs.row_of.Goals as goal
 
-pub returns-in-Read : goal.returns-in-Read
-returns-in-Read c = let a = c.args in sym (ap (row_of a.layer a.packet) c.in-Read.is)
+pub returns-in-Ok : goal.returns-in-Ok
+returns-in-Ok c = let a = c.args in sym (ap (row_of a.layer a.packet) c.in-Ok.is)
 
-pub returns-in-Refused : goal.returns-in-Refused
-returns-in-Refused c = let a = c.args in sym (ap (row_of a.layer a.packet) c.in-Refused.is)
+pub returns-in-Err : goal.returns-in-Err
+returns-in-Err c = let a = c.args in sym (ap (row_of a.layer a.packet) c.in-Err.is)

@@ -6,9 +6,9 @@ use Rattle.recordings.proofs.room_for.Goals as goal
 pub returns : goal.returns
 returns c =
     let a = c.args in
-    c.lesser-5.ensures
+    c.min-5.ensures
     ∙ ap (min a.starts)
-    (c.lesser-4.ensures
+    (c.min-4.ensures
     ∙ ap (min a.indices)
-    (c.lesser-3.ensures
-    ∙ ap (min a.decodings) (c.lesser-2.ensures ∙ ap (min a.matches) c.lesser.ensures)))
+    (c.min-3.ensures
+    ∙ ap (min a.decodings) (c.min-2.ensures ∙ ap (min a.matches) c.min.ensures)))

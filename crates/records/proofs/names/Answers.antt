@@ -20,7 +20,7 @@ returns-in-Extension c =
     let a = c.args in
     let extension = c.in-Extension.extension in
     let room : length a.embedded ≡ 63 = omega arith in
-    let all = all_listed a.embedded extension.num_embedded_layers c.listed_count.result room c.listed_count.ensures in
+    let all = all_listed a.embedded extension.num_embedded_layers c.listed_count-count.result room c.listed_count-count.ensures in
     c.names_in.ensures ∙ ap (λ (l : List LayerIndex). with_indices 0 (map plain l)) all ∙ sym (ap (λ (r : Record). names_of a.stream_type r a.embedded) c.in-Extension.is)
 
 pub returns-in-Implied : goal.returns-in-Implied

@@ -14,18 +14,18 @@ use Rattle.records.specs.Records.{plain, with_indices}
 use Rattle.extension.proofs.Bytes.{layer_byte}
 use Rattle.records.proofs.names_in_list.Goals as goal
 
-pub loop-i-init : goal.loop-i-init
-loop-i-init c = (omega arith, refl)
+pub loop-byte-init : goal.loop-byte-init
+loop-byte-init c = (omega arith, refl)
 
-pub loop-i-preserved : goal.loop-i-preserved
-loop-i-preserved c =
+pub loop-byte-preserved : goal.loop-byte-preserved
+loop-byte-preserved c =
     let list = c.args.list.now in
-    let loop = c.loop-i in
-    let byte : ℕ = get_or list loop.i 0 in
-    let here : drop loop.i list ≡ byte ∷ drop (loop.i + 1) list =
-    drop-cons list loop.i 0 (omega arith) ∙ ap (λ (n : ℕ). byte ∷ drop n list) (sym (add-one loop.i)) in (
+    let loop = c.loop-byte in
+    let byte : ℕ = get_or list loop.byte-index 0 in
+    let here : drop loop.byte-index list ≡ byte ∷ drop (loop.byte-index + 1) list =
+    drop-cons list loop.byte-index 0 (omega arith) ∙ ap (λ (n : ℕ). byte ∷ drop n list) (sym (add-one loop.byte-index)) in (
       omega arith,
-      ap (λ (set : ℕ). with_indices set (map plain (layers_of (drop (loop.i + 1) list))))
+      ap (λ (set : ℕ). with_indices set (map plain (layers_of (drop (loop.byte-index + 1) list))))
           (c.with_index-set.ensures ∙ ap (λ (x : LayerIndex). added loop.set (plain x)) (layer_byte byte))
           ∙ sym (ap (λ (l : List ℕ). with_indices loop.set (map plain (layers_of l))) here)
           ∙ loop.invariant.1,
@@ -34,5 +34,5 @@ loop-i-preserved c =
 pub returns : goal.returns
 returns c =
     let list = c.args.list.now in
-    let loop = c.loop-i in
-    sym (ap (λ (l : List ℕ). with_indices loop.set (map plain (layers_of l))) (drop_of_length-le list {i = loop.i} (omega arith))) ∙ loop.invariant.1
+    let loop = c.loop-byte in
+    sym (ap (λ (l : List ℕ). with_indices loop.set (map plain (layers_of l))) (drop_of_length-le list {i = loop.byte-index} (omega arith))) ∙ loop.invariant.1

@@ -8,9 +8,6 @@ use Rattle.extension.specs.Extension.{layers_of}
 use Rattle.records.specs.Records.{plain, with_indices}
 use Rattle.records.proofs.names_in_list.Given as goal
 
-abbrev pub invariant-loop-i : goal.invariant-loop-i
-invariant-loop-i l =
-    (l.i ≤ length l.list) × (with_indices l.set (map plain (layers_of (drop l.i l.list))) ≡ with_indices 0 (map plain (layers_of l.list)))
-
-abbrev pub decreases-loop-i : goal.decreases-loop-i
-decreases-loop-i l = length l.list - l.i
+abbrev pub invariant-loop-byte : goal.invariant-loop-byte
+invariant-loop-byte l =
+    (l.byte-index ≤ length l.list) × (with_indices l.set (map plain (layers_of (drop l.byte-index l.list))) ≡ with_indices 0 (map plain (layers_of l.list)))

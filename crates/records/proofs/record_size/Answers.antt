@@ -19,6 +19,6 @@ returns-in-Extension c =
     let room : length layers ≡ 63 = omega arith in
     let fit : any too_wide_in (record_tables (Extension c.in-Extension.extension) layers) ≡ false =
     sym (ap (λ (r : Record). any too_wide_in (record_tables r layers)) c.in-Extension.is) ∙ c.requires in (
-      sym (ap (λ (r : Record). length (gather bytes_in (record_tables r layers))) c.in-Extension.is ∙ record_size_lem (Extension c.in-Extension.extension) layers room fit),
+      rw c.from.ensures (sym (ap (λ (r : Record). length (gather bytes_in (record_tables r layers))) c.in-Extension.is ∙ record_size_lem (Extension c.in-Extension.extension) layers room fit)),
       omega (arith, count_small c.in-Extension.extension layers fit),
     )

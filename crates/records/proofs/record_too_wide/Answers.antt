@@ -1,14 +1,17 @@
 -- `record_too_wide` meets its contract: which arm was taken says which record it is, and its tables are tested in order.
 -- Assumes nothing.
+use Prim.Native.Nat.{ℕ}
 use mathlib.Core.Path.{◌≡◌, sym, ◌∙◌, ap}
 use native.Mathlib.Omega.{arith}
 use mathlib.Core.Bool.{true, not}
+use mathlib.Core.List.{map}
+use lib.ListN.{take}
 use Rattle.combinators.specs.Lists.{any}
 use Rattle.syntax.specs.Table.{fits}
 use Rattle.syntax.proofs.Laws.{fits_fit}
 use Rattle.syntax.proofs.Equations.{bounds}
 use Rattle.records.specs.declared.Record.{Record}
-use Rattle.extension.specs.Extension.{extension_head, extension_fields}
+use Rattle.extension.specs.Extension.{extension_head, extension_fields, layer_table}
 use Rattle.syntax.specs.Filled.{too_wide_in}
 use Rattle.records.specs.Records.{record_tables}
 use Rattle.hierarchy.proofs.Widths.{hierarchy_wide}
@@ -26,6 +29,7 @@ pub returns-then-extension_fits : goal.returns-then-extension_fits
 returns-then-extension_fits c =
     let layers = c.args.embedded in
     c.list_too_wide.ensures
+    ∙ ap (λ (n : ℕ). any too_wide_in (map layer_table (take n layers))) c.from.ensures
     ∙ extension_fine c.in-Extension.extension layers (sym c.extension_fits.ensures ∙ c.if-extension_fits.true)
     ∙ sym (ap (λ (r : Record). any too_wide_in (record_tables r layers)) c.in-Extension.is)
 

@@ -23,7 +23,7 @@ overflow_add-out c =
     let i = c.loop-i.i in
     let index : ℕ = get_or list i 0 in
     let six_bits : index < 64 =
-    layer_bound index (any_none list 0 layer_too_wide (length list) i c.loop-i-test.true (omega arith) (ap (any layer_too_wide) (take_all (length list) list (omega arith)) ∙ c.requires.1)) in
+    layer_bound index (any_none list 0 layer_too_wide (length list) i (omega arith) (omega arith) (ap (any layer_too_wide) (take_all (length list) list (omega arith)) ∙ c.requires.1)) in
     omega arith
 
 pub overflow_cast-out : goal.overflow_cast-out
@@ -32,7 +32,7 @@ overflow_cast-out c =
     let i = c.loop-i.i in
     let index : ℕ = get_or list i 0 in
     let six_bits : index < 64 =
-    layer_bound index (any_none list 0 layer_too_wide (length list) i c.loop-i-test.true (omega arith) (ap (any layer_too_wide) (take_all (length list) list (omega arith)) ∙ c.requires.1)) in
+    layer_bound index (any_none list 0 layer_too_wide (length list) i (omega arith) (omega arith) (ap (any layer_too_wide) (take_all (length list) list (omega arith)) ∙ c.requires.1)) in
     let small : 192 + index < 256 = omega arith in
     record { fits = small }
 

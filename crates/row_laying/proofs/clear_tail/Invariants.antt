@@ -8,6 +8,3 @@ use Rattle.row_laying.proofs.clear_tail.Given as goal
 
 abbrev pub invariant-loop-i : goal.invariant-loop-i
 invariant-loop-i l = (16 ≤ l.i) × (l.i ≤ 80) × (length l.row ≡ length l.initial.row) × (l.row ≡ sets l.initial.row 16 (replicate (l.i - 16) 0))
-
-abbrev pub decreases-loop-i : goal.decreases-loop-i
-decreases-loop-i l = 80 - l.i

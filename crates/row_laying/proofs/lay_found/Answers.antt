@@ -1,6 +1,7 @@
 -- `row_laying::lay_found` meets its contract: only an extension has a list, and it lies within the bytes.
 -- Assumes nothing.
 use Prim.Native.Nat.{ℕ, ◌-◌}
+use mathlib.Core.Logic.{inl, inr}
 use mathlib.Core.Path.{◌≡◌, refl, sym, ◌∙◌, ap, subst}
 use mathlib.Core.List.{List, ◌++◌}
 use native.Mathlib.Omega.{arith}
@@ -50,15 +51,10 @@ pub returns-in-NoRecord : goal.returns-in-NoRecord
 unfolding tail_of
 returns-in-NoRecord c =
     let a = c.args in
-    c.clear_tail.ensures
-    ∙ sym (ap (λ (r : Record). take 16 a.row.now ++ tail_of r (pad_to 63 no_layer (list_before a.info.now r a.end))) c.in-NoRecord.is)
-
-pub returns-in-Hierarchy : goal.returns-in-Hierarchy
-unfolding tail_of
-returns-in-Hierarchy c =
-    let a = c.args in
-    c.clear_tail-in-Hierarchy.ensures
-    ∙ sym (ap (λ (r : Record). take 16 a.row.now ++ tail_of r (pad_to 63 no_layer (list_before a.info.now r a.end))) c.in-Hierarchy.is)
+    elim c.in-NoRecord.is [
+      | inl e ↦ c.clear_tail.ensures ∙ sym (ap (λ (r : Record). take 16 a.row.now ++ tail_of r (pad_to 63 no_layer (list_before a.info.now r a.end))) e)
+      | inr f ↦ elim f [ inl w ↦ c.clear_tail.ensures ∙ sym (ap (λ (r : Record). take 16 a.row.now ++ tail_of r (pad_to 63 no_layer (list_before a.info.now r a.end))) w.1) | inr e ↦ c.clear_tail.ensures ∙ sym (ap (λ (r : Record). take 16 a.row.now ++ tail_of r (pad_to 63 no_layer (list_before a.info.now r a.end))) e) ]
+    ]
 
 pub returns-in-Extension : goal.returns-in-Extension
 returns-in-Extension c =
@@ -70,10 +66,3 @@ returns-in-Extension c =
     c.lay_listed.ensures
     ∙ ap (λ (l : List ℕ). take 16 a.row.now ++ l) (listed_tail c.in-Extension.extension a.info.now a.end _ inside room few refl)
     ∙ sym (ap (λ (r : Record). take 16 a.row.now ++ tail_of r (pad_to 63 no_layer (list_before a.info.now r a.end))) c.in-Extension.is)
-
-pub returns-in-Implied : goal.returns-in-Implied
-unfolding tail_of
-returns-in-Implied c =
-    let a = c.args in
-    c.clear_tail-in-Implied.ensures
-    ∙ sym (ap (λ (r : Record). take 16 a.row.now ++ tail_of r (pad_to 63 no_layer (list_before a.info.now r a.end))) c.in-Implied.is)

@@ -1,31 +1,17 @@
--- `row_laying::lay_head` meets its contract. The invariant: the numbers passed are stored.
+-- `row_laying::lay_head` meets its contract: the head is copied into the front of the row.
 -- Assumes nothing.
 use Prim.Native.Nat.{ℕ}
-use mathlib.Core.List.{List}
-use mathlib.Core.Path.{refl, sym, ap, ◌∙◌}
-use native.Mathlib.Nat.{zero-add}
+use mathlib.Core.List.{◌++◌}
+use mathlib.Core.Path.{◌≡◌, ◌∙◌, ap}
+use Rattle.std.proofs.Common.{rules}
+use borrow.Rule.Slice.PartMut.{put_mid}
 use native.Mathlib.Omega.{arith}
-use lib.ListN.{take, set, get_or, length-set}
-use lib.Seq.{sets, take_all}
-use Rattle.buffers.proofs.Laws.{one_more, sets_over}
+use lib.ListN.{length, drop}
 use Rattle.row_laying.proofs.lay_head.Goals as goal
-
-pub loop-i-init : goal.loop-i-init
-loop-i-init c = (omega arith, omega arith, refl)
-
-pub loop-i-preserved : goal.loop-i-preserved
-loop-i-preserved c =
-    let a = c.args in
-    let here = c.loop-i in (
-      omega arith,
-      simp length-set (omega arith),
-      ap (λ (l : List ℕ). set l here.i (get_or a.head here.i 0)) here.invariant.2
-          ∙ ap (λ (n : ℕ). set (sets a.row.now 0 (take here.i a.head)) n (get_or a.head here.i 0)) (sym (zero-add here.i))
-          ∙ one_more a.row.now 0 a.head here.i 0 (omega arith),
-    )
 
 pub returns : goal.returns
 returns c =
     let a = c.args in
-    let here = c.loop-i in
-    here.invariant.2 ∙ ap (sets a.row.now 0) (take_all here.i a.head (omega arith)) ∙ sets_over a.head a.row.now (omega arith)
+    let copied : c.copy_from_slice.new.self ≡ a.head = search rules in
+    let long : 16 ≡ length a.head = omega arith in
+    ap (put_mid 0 16 a.row.now) copied ∙ ap (λ (n : ℕ). a.head ++ drop n a.row.now) long

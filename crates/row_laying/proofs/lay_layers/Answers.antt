@@ -26,7 +26,7 @@ loop-i-preserved c =
     let loop = c.loop-i in (
       omega arith,
       simp length-set (omega arith),
-      rw (loop.invariant.2, c.wide.ensures)
+      rw (loop.invariant.2, c.from.ensures)
           (set_after (take 16 row) (pad_to 64 0 (map layer_number (take loop.i layers))) 16 loop.i _ (length-take-le 16 row (omega arith))
           ∙ ap (λ (l : List ℕ). take 16 row ++ l) (store_map 64 0 layer_number layers loop.i _ (omega arith) (omega arith))),
     )

@@ -10,6 +10,3 @@ use Rattle.row_laying.proofs.lay_layers.Given as goal
 
 abbrev pub invariant-loop-i : goal.invariant-loop-i
 invariant-loop-i l = (l.i ≤ l.end) × (length l.row ≡ 80) × (l.row ≡ take 16 l.initial.row ++ pad_to 64 0 (map layer_number (take l.i l.embedded)))
-
-abbrev pub decreases-loop-i : goal.decreases-loop-i
-decreases-loop-i l = l.end - l.i

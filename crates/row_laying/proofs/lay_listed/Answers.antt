@@ -35,7 +35,7 @@ loop-i-preserved c =
     let loop = c.loop-i in (
       omega arith,
       simp length-set (omega arith),
-      rw (loop.invariant.2, c.wide.ensures ∙ byte-number list loop.i)
+      rw (loop.invariant.2, c.from.ensures ∙ byte-number list loop.i)
           (set_after (take 16 row) (pad_to 64 0 (map layer_number (take loop.i layers))) 16 loop.i _ (length-take-le 16 row (omega arith))
           ∙ ap (λ (l : List ℕ). take 16 row ++ l) (store_map 64 0 layer_number layers loop.i (layer_index_of 0) (omega arith) (omega arith))),
     )

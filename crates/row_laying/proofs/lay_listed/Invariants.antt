@@ -11,6 +11,3 @@ use Rattle.row_laying.proofs.lay_listed.Given as goal
 
 abbrev pub invariant-loop-i : goal.invariant-loop-i
 invariant-loop-i l = (l.i ≤ length l.list) × (length l.row ≡ 80) × (l.row ≡ take 16 l.initial.row ++ pad_to 64 0 (map layer_number (take l.i (layers_of l.list))))
-
-abbrev pub decreases-loop-i : goal.decreases-loop-i
-decreases-loop-i l = length l.list - l.i

@@ -1,5 +1,6 @@
 -- `row_laying::lay_tail` meets its contract: only an extension counts embedded layers.
 -- Assumes nothing.
+use mathlib.Core.Logic.{inl, inr}
 use mathlib.Core.Path.{sym, ◌∙◌, ap}
 use mathlib.Core.List.{◌++◌}
 use lib.ListN.{take}
@@ -11,22 +12,13 @@ pub returns-in-NoRecord : goal.returns-in-NoRecord
 unfolding tail_of
 returns-in-NoRecord c =
     let a = c.args in
-    c.clear_tail.ensures ∙ sym (ap (λ (r : Record). take 16 a.row.now ++ tail_of r a.embedded) c.in-NoRecord.is)
-
-pub returns-in-Hierarchy : goal.returns-in-Hierarchy
-unfolding tail_of
-returns-in-Hierarchy c =
-    let a = c.args in
-    c.clear_tail-in-Hierarchy.ensures ∙ sym (ap (λ (r : Record). take 16 a.row.now ++ tail_of r a.embedded) c.in-Hierarchy.is)
+    elim c.in-NoRecord.is [
+      | inl e ↦ c.clear_tail.ensures ∙ sym (ap (λ (r : Record). take 16 a.row.now ++ tail_of r a.embedded) e)
+      | inr f ↦ elim f [ inl w ↦ c.clear_tail.ensures ∙ sym (ap (λ (r : Record). take 16 a.row.now ++ tail_of r a.embedded) w.1) | inr e ↦ c.clear_tail.ensures ∙ sym (ap (λ (r : Record). take 16 a.row.now ++ tail_of r a.embedded) e) ]
+    ]
 
 pub returns-in-Extension : goal.returns-in-Extension
 unfolding tail_of
 returns-in-Extension c =
     let a = c.args in
     c.lay_layers.ensures ∙ sym (ap (λ (r : Record). take 16 a.row.now ++ tail_of r a.embedded) c.in-Extension.is)
-
-pub returns-in-Implied : goal.returns-in-Implied
-unfolding tail_of
-returns-in-Implied c =
-    let a = c.args in
-    c.clear_tail-in-Implied.ensures ∙ sym (ap (λ (r : Record). take 16 a.row.now ++ tail_of r a.embedded) c.in-Implied.is)

@@ -11,6 +11,3 @@ use Rattle.row_taking.proofs.list_in.Given as goal
 
 abbrev pub invariant-loop-i : goal.invariant-loop-i
 invariant-loop-i l = (l.i ≤ l.count) × (l.layers ≡ pad_to 63 no_layer (map layer_of (take l.i l.list)))
-
-abbrev pub decreases-loop-i : goal.decreases-loop-i
-decreases-loop-i l = l.count - l.i

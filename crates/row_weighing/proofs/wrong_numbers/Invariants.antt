@@ -5,8 +5,5 @@ use lib.ListN.{length}
 use Rattle.judging.proofs.Loops.{Passed}
 use Rattle.row_weighing.proofs.wrong_numbers.Given as goal
 
-abbrev pub invariant-loop-i : goal.invariant-loop-i
-invariant-loop-i l = Passed l.own l.list l.marks l.i
-
-abbrev pub decreases-loop-i : goal.decreases-loop-i
-decreases-loop-i l = length l.list - l.i
+abbrev pub invariant-loop-number : goal.invariant-loop-number
+invariant-loop-number l = Passed l.own l.list l.marks l.number-index

@@ -7,6 +7,3 @@ use Rattle.row_writer.proofs.pair_in.Given as goal
 
 abbrev pub invariant-loop-i : goal.invariant-loop-i
 invariant-loop-i l = Viewed (entries_below l.numbers l.count) l.views l.i
-
-abbrev pub decreases-loop-i : goal.decreases-loop-i
-decreases-loop-i l = l.count - l.i

@@ -9,6 +9,3 @@ use Rattle.row_writer.proofs.put_rows.Given as goal
 
 abbrev pub invariant-loop-i : goal.invariant-loop-i
 invariant-loop-i l = (l.i ≤ l.count) × Laid l.initial.out 0 (loop_bytes (take l.i (entries_below l.numbers l.count))) l.place l.out
-
-abbrev pub decreases-loop-i : goal.decreases-loop-i
-decreases-loop-i l = l.count - l.i

@@ -7,6 +7,3 @@ use Rattle.row_writer.proofs.weigh_rows.Given as goal
 
 abbrev pub invariant-loop-i : goal.invariant-loop-i
 invariant-loop-i l = Weighing (entries_below l.numbers l.count) l.pids l.indices l.weighed l.i
-
-abbrev pub decreases-loop-i : goal.decreases-loop-i
-decreases-loop-i l = l.count - l.i

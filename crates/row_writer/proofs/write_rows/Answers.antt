@@ -5,6 +5,7 @@ use mathlib.Core.Path.{sym, ◌∙◌, subst}
 use mathlib.Core.List.{List}
 use native.Mathlib.Omega.{arith}
 use lib.ListN.{length, take}
+use Rattle.std.proofs.lemmas.Result.{err_from_is_err_and}
 use Rattle.buffers.specs.Buffers.{Laid}
 use Rattle.loop_entries.specs.declared.Entry.{Entry}
 use Rattle.loop_writer.specs.Layout.{loop_bytes}
@@ -31,28 +32,29 @@ pub put_rows-requires : goal.put_rows-requires
 put_rows-requires c =
     let room = length c.args.out.now in
     let weighed = c.weigh_rows in
-    (c.requires, subst (λ (size : ℕ). size ≤ room) weighed.ensures.size (decided_room weighed.result room c.in-Bytes.size (sym c.decide-answer.ensures ∙ c.in-Bytes.is)))
+    (c.requires, subst (λ (size : ℕ). size ≤ room) weighed.ensures.size (decided_room weighed.result room c.in_ok-size.size (sym c.decide.ensures ∙ c.in_ok-size.was)))
 
-pub returns-in-Refused : goal.returns-in-Refused
-returns-in-Refused c =
+pub returns-in_err-size : goal.returns-in_err-size
+returns-in_err-size c =
     let a = c.args in
     let numbers = a.numbers.now in
     let few : row_count numbers ≤ 201 = omega arith in
     let weighed = c.weigh_rows in
     let weighs : Weighs (take (row_count numbers) (entries_in numbers)) weighed.result =
     subst (λ (l : List Entry). Weighs l weighed.result) (all_given numbers few) weighed.ensures in
-    let decided = c.decide-answer in
-    decided-refused (row_count numbers) (entries_in numbers) a.out.now (none_too_wide numbers c.requires) few weighed.result weighs c.in-Refused.refusal (sym decided.ensures ∙ c.in-Refused.is)
+    let decided = c.decide in
+    let p = err_from_is_err_and c.from_residual.result c.from_residual.ensures.1 in
+    rw (p.1, p.2) (decided-refused (row_count numbers) (entries_in numbers) a.out.now (none_too_wide numbers c.requires) few weighed.result weighs _ (sym decided.ensures ∙ c.in_err-size.was))
 
-pub returns-in-Bytes : goal.returns-in-Bytes
-returns-in-Bytes c =
+pub returns : goal.returns
+returns c =
     let a = c.args in
     let numbers = a.numbers.now in
     let few : row_count numbers ≤ 201 = omega arith in
     let weighed = c.weigh_rows in
     let weighs : Weighs (take (row_count numbers) (entries_in numbers)) weighed.result =
     subst (λ (l : List Entry). Weighs l weighed.result) (all_given numbers few) weighed.ensures in
-    let decided = c.decide-answer in
+    let decided = c.decide in
     let laid = c.put_rows in
-    decided-written (row_count numbers) (entries_in numbers) a.out.now (none_too_wide numbers c.requires) few weighed.result weighs c.in-Bytes.size (sym decided.ensures ∙ c.in-Bytes.is) laid.result laid.new.out
+    decided-written (row_count numbers) (entries_in numbers) a.out.now (none_too_wide numbers c.requires) few weighed.result weighs c.in_ok-size.size (sym decided.ensures ∙ c.in_ok-size.was) laid.result laid.new.out
     (subst (λ (l : List Entry). Laid a.out.now 0 (loop_bytes l) laid.result laid.new.out) (all_given numbers few) laid.ensures)

@@ -1,5 +1,4 @@
--- `rows::first_out_of_range` meets its contract. The invariant: no row before this one is out of range. The measure is the
--- number of rows left. Assumes nothing.
+-- `rows::first_out_of_range` meets its contract. The invariant: no row before this one is out of range. Assumes nothing.
 use mathlib.Core.Path.{◌≡◌, sym, ◌∙◌}
 use native.Mathlib.Omega.{arith}
 use borrow.Author.Count.{below_more}
@@ -26,4 +25,4 @@ pub returns : goal.returns
 returns c =
     let a = c.args in
     let all : c.loop-row.row ≡ length a.indices.now = omega arith in
-    seek_end (out_of_range (table a.indices.now a.decodings.now a.matches.now)) _ _ all c.loop-row.invariant.1
+    sym all ∙ seek_end (out_of_range (table a.indices.now a.decodings.now a.matches.now)) _ _ all c.loop-row.invariant.1

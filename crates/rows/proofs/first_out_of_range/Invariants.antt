@@ -1,6 +1,5 @@
--- `rows::first_out_of_range` meets its contract. The invariant: no row before this one is out of range. The measure is the
--- number of rows left. Assumes nothing.
-use Prim.Native.Nat.{ℕ, ◌≤◌, ◌<◌, ◌-◌}
+-- `rows::first_out_of_range` meets its contract. The invariant: no row before this one is out of range. Assumes nothing.
+use Prim.Native.Nat.{ℕ, ◌≤◌, ◌<◌}
 use mathlib.Core.Bool.{false}
 use mathlib.Core.Path.{◌≡◌}
 use lib.ListN.{length}
@@ -11,6 +10,3 @@ abbrev pub invariant-loop-row : goal.invariant-loop-row
 invariant-loop-row l =
     (l.row ≤ length l.indices)
     × ((k : ℕ) → k < l.row → out_of_range (table l.indices l.decodings l.matches) k ≡ false)
-
-abbrev pub decreases-loop-row : goal.decreases-loop-row
-decreases-loop-row l = length l.indices - l.row

@@ -1,5 +1,4 @@
--- `spans::measure` meets its contract. The invariant, what is known after some rows, and each turn are in Measuring. The measure is the number of rows
--- left. Assumes nothing.
+-- `spans::measure` meets its contract. The invariant, what is known after some rows, and each turn are in Measuring. Assumes nothing.
 use Prim.Native.Nat.{ℕ, ◌+◌}
 use mathlib.Core.List.{[]}
 use mathlib.Core.Path.{ap₂}
@@ -13,9 +12,6 @@ use Rattle.spans.proofs.measure.Goals as goal
 pub loop-row-init : goal.loop-row-init
 loop-row-init c = measured_start _ _ _
 
-pub overflow_cast-indices : goal.overflow_cast-indices
-overflow_cast-indices c = omega (arith, c.shared_slice_known-in-loop-row-2-1.given c.loop-row.row)
-
 pub loop-row-preserved : goal.loop-row-preserved
 loop-row-preserved c =
     let at = c.loop-row in
@@ -24,7 +20,7 @@ loop-row-preserved c =
     c.loop-row-test.true (omega arith)
     c.start_of-start.result _
     c.start_of-start.ensures
-    c.key_of-key.ensures _ c.member-counts.ensures _ _ c.lower-least.ensures c.raise-greatest.ensures
+    c.key_of-key.ensures _ (rw c.from.ensures at c.member-counts.ensures) _ _ c.lower-least.ensures c.raise-greatest.ensures
 
 pub overflow_add-result : goal.overflow_add-result
 overflow_add-result c =

@@ -1,5 +1,4 @@
--- `spans::start_of` meets its contract (Measuring has the laws). The invariant: no row before this one is of the closure. The measure is the number of
--- rows left. Assumes nothing.
+-- `spans::start_of` meets its contract (Measuring has the laws). The invariant: no row before this one is of the closure. Assumes nothing.
 use mathlib.Core.List.{[]}
 use mathlib.Core.Path.{◌≡◌, sym, ◌∙◌}
 use native.Mathlib.Omega.{arith}
@@ -12,20 +11,17 @@ use Rattle.spans.proofs.start_of.Goals as goal
 pub loop-row-init : goal.loop-row-init
 loop-row-init c = (omega arith, λ k h. absurd (omega arith))
 
-pub overflow_cast-indices : goal.overflow_cast-indices
-overflow_cast-indices c = omega (arith, c.shared_slice_known-in-loop-row-1.given c.loop-row.row)
-
 pub returns-then-member : goal.returns-then-member
 returns-then-member c =
     let at = c.loop-row in
     let a = c.args in
     start_here (table a.indices.now a.decodings.now []) a.closure at.row c.loop-row-test.true at.invariant.1
-    (sym c.member.ensures ∙ c.if-member.true)
+    (rw c.from.ensures at (sym c.member.ensures ∙ c.if-member.true))
 
 pub loop-row-preserved : goal.loop-row-preserved
 loop-row-preserved c =
     let at = c.loop-row in
-    (omega arith, below_more _ _ at.invariant.1 (sym c.member.ensures ∙ c.if-member.false))
+    (omega arith, below_more _ _ at.invariant.1 (rw c.from.ensures at (sym c.member.ensures ∙ c.if-member.false)))
 
 pub returns : goal.returns
 returns c =

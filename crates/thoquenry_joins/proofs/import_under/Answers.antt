@@ -6,7 +6,7 @@ use mathlib.Core.List.{List}
 use mathlib.Core.Path.{refl, sym, ◌∙◌, ap}
 use lib.ListN.{length}
 use Rattle.closure.specs.declared.Layers.{Layers}
-use Rattle.es_loop.specs.declared.reader.Outcome.{Outcome}
+use Rattle.es_loop.specs.Answer.{Outcome}
 use Rattle.loop_layers.specs.declared.layer_sets.LayersRead.{LayersRead}
 use Rattle.rows.specs.Table.{Table, table}
 use Rattle.unit_lists.specs.Sequence.{Lists, lists}
@@ -21,14 +21,14 @@ abbrev leaves : Outcome → Layers → ℕ → Table → Lists → List ℕ → 
 leaves outcome layers target t before summary =
     join_reply layers t (with_summary (length summary) (import_for outcome layers target t (room_of before))) before summary
 
-pub returns-in-Accepted : goal.returns-in-Accepted
-returns-in-Accepted c =
+pub returns-in-Ok : goal.returns-in-Ok
+returns-in-Ok c =
     let a = c.args in
     let t = table a.indices.now a.decodings.now a.matches.now in
     let before = lists a.numbers.now a.lags.now a.sizes.now in
     let read = c.read_layers-read in
     let all_of_it = left_as
-    (sym (ap (λ (o : Outcome). leaves o read.result.layers a.target t before a.summary.now) c.in-Accepted.is)
+    (sym (ap (λ (o : Outcome). leaves o read.result.layers a.target t before a.summary.now) c.in-Ok.is)
     ∙ ap (λ (r : LayersRead). leaves r.outcome r.layers a.target t before a.summary.now) read.ensures)
     (c.join_over.ensures.answer, (c.join_over.ensures.content, c.join_over.ensures.summed)) in record {
       answer = all_of_it.0;
@@ -36,14 +36,14 @@ returns-in-Accepted c =
       summed = all_of_it.1.1;
     }
 
-pub returns-in-Refused : goal.returns-in-Refused
-returns-in-Refused c =
+pub returns-in-Err : goal.returns-in-Err
+returns-in-Err c =
     let a = c.args in
     let t = table a.indices.now a.decodings.now a.matches.now in
     let before = lists a.numbers.now a.lags.now a.sizes.now in
     let read = c.read_layers-read in
     let all_of_it = left_as
-    (sym (ap (λ (o : Outcome). leaves o read.result.layers a.target t before a.summary.now) c.in-Refused.is)
+    (sym (ap (λ (o : Outcome). leaves o read.result.layers a.target t before a.summary.now) c.in-Err.is)
     ∙ ap (λ (r : LayersRead). leaves r.outcome r.layers a.target t before a.summary.now) read.ensures)
     (c.refused.ensures, (refl, refl)) in record {
       answer = all_of_it.0;

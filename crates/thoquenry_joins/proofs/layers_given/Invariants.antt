@@ -8,6 +8,3 @@ use Rattle.thoquenry_joins.proofs.layers_given.Given as goal
 
 abbrev pub invariant-loop-i : goal.invariant-loop-i
 invariant-loop-i l = (l.i ≤ l.end) × (l.named ≡ pad_to 64 0 (take l.i l.embedded))
-
-abbrev pub decreases-loop-i : goal.decreases-loop-i
-decreases-loop-i l = l.end - l.i

@@ -4,7 +4,7 @@ use mathlib.Core.Path.{sym, ◌∙◌, ap}
 use mathlib.Core.List.{[], ◌∷◌}
 use lib.ListN.{length-set}
 use Rattle.buffers.proofs.Laws.{sets_over}
-use Rattle.join_answers.specs.declared.answer.Joined.{Joined}
+use Rattle.join_answers.specs.Answer.{Joined}
 use Rattle.thoquenry_joins.specs.Joins.{joined_answer, summary_after}
 use native.Mathlib.Omega.{arith}
 use Rattle.thoquenry_joins.proofs.summarise.Goals as goal
@@ -12,17 +12,17 @@ use Rattle.thoquenry_joins.proofs.summarise.Goals as goal
 pub bounds-summary-1 : goal.bounds-summary-1
 bounds-summary-1 c = simp length-set (omega arith)
 
-pub returns-in-Units : goal.returns-in-Units
-returns-in-Units c =
+pub returns-in-Ok : goal.returns-in-Ok
+returns-in-Ok c =
     let a = c.args in record {
-      answer = c.accepted.ensures ∙ sym (ap joined_answer c.in-Units.is);
-      content = sets_over (c.in-Units.closure ∷ c.in-Units.units ∷ []) a.summary.now c.requires ∙ sym (ap (λ (j : Joined). summary_after j a.summary.now) c.in-Units.is);
+      answer = c.accepted.ensures ∙ sym (ap joined_answer c.in-Ok.is);
+      content = sets_over (c.in-Ok.found.closure ∷ c.in-Ok.found.units ∷ []) a.summary.now c.requires ∙ sym (ap (λ (j : Joined). summary_after j a.summary.now) c.in-Ok.is);
     }
 
-pub returns-in-Refused : goal.returns-in-Refused
-returns-in-Refused c =
+pub returns-in-Err : goal.returns-in-Err
+returns-in-Err c =
     let a = c.args in
-    let told = c.in-Refused.is in record {
+    let told = c.in-Err.is in record {
       answer = c.refused.ensures ∙ sym (ap joined_answer told);
       content = sym (ap (λ (j : Joined). summary_after j a.summary.now) told);
     }

@@ -6,5 +6,5 @@ use Rattle.thoquenry_pieces.proofs.shortest.Goals as goal
 pub returns : goal.returns
 returns c =
     let a = c.args in
-    c.lesser-4.ensures
-    ∙ ap (min a.indices) (c.lesser-3.ensures ∙ ap (min a.decodings) (c.lesser-2.ensures ∙ ap (min a.matches) c.lesser.ensures))
+    c.min-4.ensures
+    ∙ ap (min a.indices) (c.min-3.ensures ∙ ap (min a.decodings) (c.min-2.ensures ∙ ap (min a.matches) c.min.ensures))

@@ -8,8 +8,8 @@ returns-then-state-ne-STATE_BYTES c = state_wrong c.args.bytes.now c.args.state.
 pub returns-then-counts-ne-STATE_NUMBERS : goal.returns-then-counts-ne-STATE_NUMBERS
 returns-then-counts-ne-STATE_NUMBERS c = counts_wrong c.args.bytes.now c.args.state.now c.args.counts.now c.if-state-ne-STATE_BYTES.false c.if-counts-ne-STATE_NUMBERS.true c.not_a_call-then-counts-ne-STATE_NUMBERS.ensures
 
-pub returns-in-Accepted : goal.returns-in-Accepted
-returns-in-Accepted c = loop_begins c.args.bytes.now c.args.state.now c.args.counts.now c.if-state-ne-STATE_BYTES.false c.if-counts-ne-STATE_NUMBERS.false c.read_table-read.ensures c.in-Accepted.is c.begin.ensures
+pub returns-in-Ok : goal.returns-in-Ok
+returns-in-Ok c = loop_begins c.args.bytes.now c.args.state.now c.args.counts.now c.if-state-ne-STATE_BYTES.false c.if-counts-ne-STATE_NUMBERS.false c.read_table-read.ensures c.in-Ok.is c.begin.ensures
 
-pub returns-in-Refused : goal.returns-in-Refused
-returns-in-Refused c = loop_refuses c.args.bytes.now c.args.state.now c.args.counts.now c.if-state-ne-STATE_BYTES.false c.if-counts-ne-STATE_NUMBERS.false c.read_table-read.ensures c.in-Refused.is c.refused.ensures
+pub returns-in-Err : goal.returns-in-Err
+returns-in-Err c = loop_refuses c.args.bytes.now c.args.state.now c.args.counts.now c.if-state-ne-STATE_BYTES.false c.if-counts-ne-STATE_NUMBERS.false c.read_table-read.ensures c.in-Err.is c.refused.ensures

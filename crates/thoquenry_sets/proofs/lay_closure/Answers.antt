@@ -3,7 +3,7 @@
 use Prim.Native.Nat.{ℕ}
 use mathlib.Core.Path.{sym, ap, ap₂, ◌∙◌}
 use mathlib.Core.List.{[], ◌∷◌}
-use Rattle.closure.specs.declared.Closure.{Closure}
+use Rattle.closure.specs.Answer.{Closure}
 use Rattle.sets.specs.Sets.{size}
 use Rattle.buffers.specs.Buffers.{over}
 use Rattle.buffers.proofs.Laws.{sets_over}
@@ -16,18 +16,18 @@ pub returns-then-closure-lt1 : goal.returns-then-closure-lt1
 returns-then-closure-lt1 c =
     let a = c.args in
     ap (λ (n : ℕ). reply n a.closure.now) c.refused.ensures
-    ∙ no_room a.closure.now (reply (accepted (size c.in-Complete.members)) (over (c.in-Complete.members ∷ []) a.closure.now)) c.if-closure-lt1.true
-    ∙ sym (ap (λ (f : Closure). closure_laid f a.closure.now) c.in-Complete.is)
+    ∙ no_room a.closure.now (reply (accepted (size c.in-Ok.members)) (over (c.in-Ok.members ∷ []) a.closure.now)) c.if-closure-lt1.true
+    ∙ sym (ap (λ (f : Closure). closure_laid f a.closure.now) c.in-Ok.is)
 
 pub returns-else-closure-lt1 : goal.returns-else-closure-lt1
 returns-else-closure-lt1 c =
     let a = c.args in
-    ap₂ reply (c.accepted.ensures ∙ ap accepted c.size.ensures) (sets_over (c.in-Complete.members ∷ []) a.closure.now c.if-closure-lt1.false)
-    ∙ has_room a.closure.now (reply (accepted (size c.in-Complete.members)) (over (c.in-Complete.members ∷ []) a.closure.now)) c.if-closure-lt1.false
-    ∙ sym (ap (λ (f : Closure). closure_laid f a.closure.now) c.in-Complete.is)
+    ap₂ reply (c.accepted.ensures ∙ ap accepted c.size.ensures) (sets_over (c.in-Ok.members ∷ []) a.closure.now c.if-closure-lt1.false)
+    ∙ has_room a.closure.now (reply (accepted (size c.in-Ok.members)) (over (c.in-Ok.members ∷ []) a.closure.now)) c.if-closure-lt1.false
+    ∙ sym (ap (λ (f : Closure). closure_laid f a.closure.now) c.in-Ok.is)
 
-pub returns-in-Refused : goal.returns-in-Refused
-returns-in-Refused c =
+pub returns-in-Err : goal.returns-in-Err
+returns-in-Err c =
     let a = c.args in
-    ap (λ (n : ℕ). reply n a.closure.now) c.refused-in-Refused.ensures
-    ∙ sym (ap (λ (f : Closure). closure_laid f a.closure.now) c.in-Refused.is)
+    ap (λ (n : ℕ). reply n a.closure.now) c.refused-in-Err.ensures
+    ∙ sym (ap (λ (f : Closure). closure_laid f a.closure.now) c.in-Err.is)

@@ -3,7 +3,7 @@
 use Prim.Native.Nat.{ℕ}
 use mathlib.Core.Path.{sym, ap, ◌∙◌}
 use Rattle.thoquenry_sets.specs.Calls.{set_reply, read_into}
-use Rattle.c_answers.specs.declared.Asked.{Asked}
+use Rattle.c_answers.specs.Answer.{Asked}
 use Rattle.thoquenry_sets.proofs.Replies.{read_no_layers, read_no_stored, read_asked}
 use Rattle.thoquenry_sets.proofs.thq_set_read.Goals as goal
 
@@ -21,16 +21,16 @@ returns-then-stored-ne-SET_STORED c =
 pub read_into-requires : goal.read_into-requires
 read_into-requires c = (c.if-layers-ne-SET_LAYERS.false, c.if-stored-ne-SET_STORED.false)
 
-pub returns-in-Known : goal.returns-in-Known
-returns-in-Known c =
+pub returns-in-Some : goal.returns-in-Some
+returns-in-Some c =
     let a = c.args in
     c.read_into.ensures
-    ∙ ap (λ (k : Asked). read_into k a.bytes.now a.layers.now a.stored.now) (sym c.in-Known.is)
+    ∙ ap (λ (k : Asked). read_into k a.bytes.now a.layers.now a.stored.now) (sym c.in-Some.is)
     ∙ read_asked a.reading a.bytes.now a.layers.now a.stored.now c.if-layers-ne-SET_LAYERS.false c.if-stored-ne-SET_STORED.false c.reading_of-asked.result c.reading_of-asked.ensures
 
-pub returns-in-Neither : goal.returns-in-Neither
-returns-in-Neither c =
+pub returns-in-None : goal.returns-in-None
+returns-in-None c =
     let a = c.args in
-    ap (λ (n : ℕ). set_reply n a.layers.now a.stored.now) c.not_a_call-in-Neither.ensures
-    ∙ ap (λ (k : Asked). read_into k a.bytes.now a.layers.now a.stored.now) (sym c.in-Neither.is)
+    ap (λ (n : ℕ). set_reply n a.layers.now a.stored.now) c.not_a_call-in-None.ensures
+    ∙ ap (λ (k : Asked). read_into k a.bytes.now a.layers.now a.stored.now) (sym c.in-None.is)
     ∙ read_asked a.reading a.bytes.now a.layers.now a.stored.now c.if-layers-ne-SET_LAYERS.false c.if-stored-ne-SET_STORED.false c.reading_of-asked.result c.reading_of-asked.ensures

@@ -8,6 +8,3 @@ use Rattle.unit_lines.proofs.put_lags.Given as goal
 
 abbrev pub invariant-loop-i : goal.invariant-loop-i
 invariant-loop-i l = (l.i ≤ length l.lags) × Laid l.initial.out l.initial.place (texts (lag_at l.lags) l.i) l.place l.out
-
-abbrev pub decreases-loop-i : goal.decreases-loop-i
-decreases-loop-i l = length l.lags - l.i

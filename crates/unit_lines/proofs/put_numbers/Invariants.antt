@@ -8,6 +8,3 @@ use Rattle.unit_lines.proofs.put_numbers.Given as goal
 
 abbrev pub invariant-loop-i : goal.invariant-loop-i
 invariant-loop-i l = (l.i ≤ length l.numbers) × Laid l.initial.out l.initial.place (texts (number_at l.numbers) l.i) l.place l.out
-
-abbrev pub decreases-loop-i : goal.decreases-loop-i
-decreases-loop-i l = length l.numbers - l.i

@@ -1,7 +1,5 @@
--- `unit_lists::write_heads` meets its contract. The invariant, the units of the heads so far written, and each turn are in Filling. The measure is the number
--- of heads left. Assumes nothing.
+-- `unit_lists::write_heads` meets its contract. The invariant, the units of the heads so far written, and each turn are in Filling. Assumes nothing.
 use native.Mathlib.Omega.{arith}
-use lib.ListN.{get_or}
 use Rattle.unit_lists.proofs.Filling.{filled_start, filled_more, filled_end, long_numbers, long_lags, long_sizes, unit_rows, room_numbers, room_lags, room_sizes}
 use Rattle.unit_lists.proofs.write_heads.Goals as goal
 
@@ -11,20 +9,14 @@ loop-unit-init c = filled_start _ _ _ _ _ _ _ _
 pub bounds-indices-head : goal.bounds-indices-head
 bounds-indices-head c = c.requires.row c.loop-unit.unit c.loop-unit-test.true
 
-pub overflow_cast-layer : goal.overflow_cast-layer
-overflow_cast-layer c =
-    let loop = c.loop-unit in
-    let inside = c.loop-unit-test.true in
-    omega (arith, c.shared_slice_known-in-loop-unit-2-1.given (get_or c.args.heads.now loop.unit 0))
-
 pub offset_bounds-own-layer : goal.offset_bounds-own-layer
 offset_bounds-own-layer c =
     let loop = c.loop-unit in
     let inside = c.loop-unit-test.true in
-    omega (arith, c.requires.layer loop.unit inside)
+    omega (arith, c.requires.layer loop.unit inside, c.from-layer.ensures)
 
 pub bounds-own-layer : goal.bounds-own-layer
-bounds-own-layer c = c.requires.layer c.loop-unit.unit c.loop-unit-test.true
+bounds-own-layer c = omega (arith, c.requires.layer c.loop-unit.unit c.loop-unit-test.true, c.from-layer.ensures)
 
 pub offset_bounds-places-head : goal.offset_bounds-places-head
 offset_bounds-places-head c =
@@ -54,13 +46,13 @@ pub overflow_add-first : goal.overflow_add-first
 overflow_add-first c =
     let loop = c.loop-unit in
     let inside = c.loop-unit-test.true in
-    omega (arith, c.requires.inside loop.unit inside, c.size-size.ensures, c.well_formed)
+    omega (arith, c.requires.inside loop.unit inside, (rw c.from-layer.ensures at c.size-size.ensures), c.well_formed)
 
 pub write_unit-requires : goal.write_unit-requires
 write_unit-requires c =
     let loop = c.loop-unit in
     let inside = c.loop-unit-test.true in
-    let size = c.size-size.ensures in (
+    let size = (rw c.from-layer.ensures at c.size-size.ensures) in (
       unit_rows _ _ _ _ _ _ _ _ _ _ _ _ _ loop.invariant c.requires inside _ size,
       room_numbers _ _ _ _ _ _ _ _ _ _ _ _ _ loop.invariant c.requires inside _ size,
       room_lags _ _ _ _ _ _ _ _ _ _ _ _ _ loop.invariant c.requires inside _ size,
@@ -76,19 +68,19 @@ pub bounds-sizes-unit : goal.bounds-sizes-unit
 bounds-sizes-unit c =
     let loop = c.loop-unit in
     let inside = c.loop-unit-test.true in
-    room_sizes _ _ _ _ _ _ _ _ _ _ _ _ _ loop.invariant c.requires inside _ c.size-size.ensures
+    room_sizes _ _ _ _ _ _ _ _ _ _ _ _ _ loop.invariant c.requires inside _ (rw c.from-layer.ensures at c.size-size.ensures)
 
 pub overflow_add-at : goal.overflow_add-at
 overflow_add-at c =
     let loop = c.loop-unit in
     let inside = c.loop-unit-test.true in
-    omega (arith, room_numbers _ _ _ _ _ _ _ _ _ _ _ _ _ loop.invariant c.requires inside _ c.size-size.ensures, long_numbers _ _ _ _ _ _ _ _ _ _ _ _ _ loop.invariant, c.well_formed)
+    omega (arith, room_numbers _ _ _ _ _ _ _ _ _ _ _ _ _ loop.invariant c.requires inside _ (rw c.from-layer.ensures at c.size-size.ensures), long_numbers _ _ _ _ _ _ _ _ _ _ _ _ _ loop.invariant, c.well_formed)
 
 pub loop-unit-preserved : goal.loop-unit-preserved
 loop-unit-preserved c =
     let loop = c.loop-unit in
     let inside = c.loop-unit-test.true in
-    filled_more _ _ _ _ _ _ _ _ _ _ _ _ _ loop.invariant c.requires inside _ c.size-size.ensures _ _ c.write_unit.ensures.content
+    filled_more _ _ _ _ _ _ _ _ _ _ _ _ _ loop.invariant c.requires inside _ (rw c.from-layer.ensures at c.size-size.ensures) _ _ c.write_unit.ensures.content
     c.write_unit.ensures.beside
 
 pub shape_of-numbers : goal.shape_of-numbers

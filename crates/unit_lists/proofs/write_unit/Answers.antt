@@ -1,5 +1,4 @@
--- `unit_lists::write_unit` meets its contract. The invariant, what is left of the unit stored from here on, and each turn are in Laying. The measure is
--- the number of rows left. Assumes nothing.
+-- `unit_lists::write_unit` meets its contract. The invariant, what is left of the unit stored from here on, and each turn are in Laying. Assumes nothing.
 use mathlib.Core.Path.{◌∙◌}
 use native.Mathlib.Omega.{arith}
 use mir.Syntax.{w64}

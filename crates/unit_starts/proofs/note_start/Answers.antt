@@ -6,18 +6,6 @@ use Rattle.scanning.specs.declared.events.Event.{Event}
 use Rattle.unit_starts.specs.Finding.{row_in, packet_in}
 use Rattle.unit_starts.proofs.note_start.Goals as goal
 
-pub returns-in-Nothing : goal.returns-in-Nothing
-returns-in-Nothing c =
-    let a = c.args in sym (ap (λ (e : Event). sets a.starts.now a.at (map packet_in (row_in e))) c.in-Nothing.is)
-
-pub returns-in-Fault : goal.returns-in-Fault
-returns-in-Fault c =
-    let a = c.args in sym (ap (λ (e : Event). sets a.starts.now a.at (map packet_in (row_in e))) c.in-Fault.is)
-
-pub returns-in-NotRead : goal.returns-in-NotRead
-returns-in-NotRead c =
-    let a = c.args in sym (ap (λ (e : Event). sets a.starts.now a.at (map packet_in (row_in e))) c.in-NotRead.is)
-
 pub returns-in-Unit : goal.returns-in-Unit
 returns-in-Unit c =
     let a = c.args in

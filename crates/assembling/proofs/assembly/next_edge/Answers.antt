@@ -13,11 +13,11 @@ returns-then-not-member c =
 pub returns-then-upper-next : goal.returns-then-upper-next
 returns-then-upper-next c =
     next_upper c.args.closure c.args.embedded c.args.edge _ c.requires c.upper_of-upper.ensures _
-    (c.lowest-next.ensures
-    ∙ ap lowest (c.without.ensures ∙ ap (without c.args.embedded) c.below.ensures)) c.if-upper-next.true
+    (c.from-next.ensures ∙ c.lowest.ensures
+    ∙ ap lowest (c.without-left.ensures ∙ ap (without c.args.embedded) c.below.ensures)) c.if-upper-next.true
 
 pub returns : goal.returns
 returns c =
     next_lower c.args.closure c.args.embedded c.args.edge _ c.requires c.upper_of-upper.ensures _
-    (c.lowest-next.ensures
-    ∙ ap lowest (c.without.ensures ∙ ap (without c.args.embedded) c.below.ensures)) c.if-upper-next.false
+    (c.from-next.ensures ∙ c.lowest.ensures
+    ∙ ap lowest (c.without-left.ensures ∙ ap (without c.args.embedded) c.below.ensures)) c.if-upper-next.false

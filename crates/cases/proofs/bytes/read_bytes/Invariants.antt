@@ -1,12 +1,7 @@
--- `cases::read_bytes` meets its contract. The loop's invariant: no more is passed than there is, and no more is kept than the
--- room has.
+-- `cases::read_bytes` meets its contract. The loop's invariant: no more is kept than the room has.
 -- Assumes nothing.
-use Prim.Native.Nat.{◌≤◌, ◌-◌}
-use lib.ListN.{length}
+use Rattle.std.proofs.Common.{◌≤◌}
 use Rattle.cases.proofs.bytes.read_bytes.Given as goal
 
-abbrev pub invariant-loop-at : goal.invariant-loop-at
-invariant-loop-at l = (l.at ≤ length l.words) × (l.count ≤ 2048)
-
-abbrev pub decreases-loop-at : goal.decreases-loop-at
-decreases-loop-at l = length l.words - l.at
+abbrev pub invariant-loop-word : goal.invariant-loop-word
+invariant-loop-word l = (goal.iterator-loop-word).can_next l.word-iterator × (goal.iterator-loop-word).is_finite l.word-iterator × (l.count ≤ 2048)

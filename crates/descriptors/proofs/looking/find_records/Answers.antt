@@ -2,14 +2,13 @@
 -- come to what is seen of all; and the list of the first record lies within the bytes.
 -- Assumes nothing.
 use Prim.Native.Nat.{ℕ, ◌+◌, ◌-◌, ◌≤◌}
-use borrow.Author.Tests.{not-true, not-false}
 use native.Mathlib.Omega.{arith}
 use mathlib.Core.Path.{◌≡◌, ◌∙◌, ap, sym, subst}
 use mathlib.Core.List.{List}
 use native.Mathlib.Nat.{add-sub_cancel_left}
 use lib.ListN.{length, take, drop, drop_of_length-le}
 use Rattle.combinators.specs.Lists.{part_to_end}
-use Rattle.descriptor_heads.proofs.Heads.{framed_not, framed_fits}
+use Rattle.descriptor_heads.proofs.Heads.{framed_other, framed_fits}
 use Rattle.descriptors.proofs.Walk.{left_length, stop, next}
 use Rattle.descriptor_heads.specs.Head.{descriptor_tag, descriptor_length}
 use Rattle.descriptors.specs.Looking.{Kind, kinds_of, payload_kind, seen_of}
@@ -24,18 +23,17 @@ loop-at-init c =
     let a = c.args in
     (omega arith, rw c.nothing_found-found.ensures tt, rw c.nothing_found-found.ensures (steps_see (kinds_of a.reading a.info.now)))
 
-pub returns-then-not-first : goal.returns-then-not-first
-returns-then-not-first c =
+pub returns-in_default : goal.returns-in_default
+returns-in_default c =
     let a = c.args in
     let loop = c.loop-at in
     let info = a.info.now in
     let left : List ℕ = take (length info - loop.at) (drop loop.at info) in
     let rest : left ≡ drop loop.at info = part_to_end info loop.at in
     let long = left_length a.reading info left loop.at rest in
-    let first = c.first_descriptor-first.result in
     (rw c.unfit.ensures (
       stop a.reading info left loop.at rest (seen_by info loop.found) loop.invariant.2 (omega arith)
-          (framed_not left first c.first_descriptor-first.ensures (not-true first.fits c.if-not-first.true)),
+          (framed_other left c.first_descriptor.result c.first_descriptor.ensures c.in_default.not-Some),
       loop.invariant.1,
     ))
 
@@ -47,8 +45,8 @@ slice_bounds-look_at-count c =
     let left : List ℕ = take (length info - loop.at) (drop loop.at info) in
     let rest : left ≡ drop loop.at info = part_to_end info loop.at in
     let long = left_length a.reading info left loop.at rest in
-    let first = c.first_descriptor-first.result in
-    let framed = framed_fits left first c.first_descriptor-first.ensures (not-false first.fits c.if-not-first.false) in
+    let first = c.in-Some.first in
+    let framed = framed_fits left c.first_descriptor.result c.first_descriptor.ensures first c.in-Some.is in
     let fits = framed.0 in
     let is_end : first.end ≡ 2 + descriptor_length left = framed.2 in
     omega arith
@@ -61,8 +59,8 @@ slice_bounds-look_at-start c =
     let left : List ℕ = take (length info - loop.at) (drop loop.at info) in
     let rest : left ≡ drop loop.at info = part_to_end info loop.at in
     let long = left_length a.reading info left loop.at rest in
-    let first = c.first_descriptor-first.result in
-    let framed = framed_fits left first c.first_descriptor-first.ensures (not-false first.fits c.if-not-first.false) in
+    let first = c.in-Some.first in
+    let framed = framed_fits left c.first_descriptor.result c.first_descriptor.ensures first c.in-Some.is in
     let fits = framed.0 in
     let is_end : first.end ≡ 2 + descriptor_length left = framed.2 in
     omega arith
@@ -75,8 +73,8 @@ slice_bounds-look_at-end c =
     let left : List ℕ = take (length info - loop.at) (drop loop.at info) in
     let rest : left ≡ drop loop.at info = part_to_end info loop.at in
     let long = left_length a.reading info left loop.at rest in
-    let first = c.first_descriptor-first.result in
-    let framed = framed_fits left first c.first_descriptor-first.ensures (not-false first.fits c.if-not-first.false) in
+    let first = c.in-Some.first in
+    let framed = framed_fits left c.first_descriptor.result c.first_descriptor.ensures first c.in-Some.is in
     let fits = framed.0 in
     let is_end : first.end ≡ 2 + descriptor_length left = framed.2 in
     omega arith
@@ -89,8 +87,8 @@ overflow_add-at c =
     let left : List ℕ = take (length info - loop.at) (drop loop.at info) in
     let rest : left ≡ drop loop.at info = part_to_end info loop.at in
     let long = left_length a.reading info left loop.at rest in
-    let first = c.first_descriptor-first.result in
-    let framed = framed_fits left first c.first_descriptor-first.ensures (not-false first.fits c.if-not-first.false) in
+    let first = c.in-Some.first in
+    let framed = framed_fits left c.first_descriptor.result c.first_descriptor.ensures first c.in-Some.is in
     let fits = framed.0 in
     let is_end : first.end ≡ 2 + descriptor_length left = framed.2 in
     omega arith
@@ -103,8 +101,8 @@ loop-at-smaller c =
     let left : List ℕ = take (length info - loop.at) (drop loop.at info) in
     let rest : left ≡ drop loop.at info = part_to_end info loop.at in
     let long = left_length a.reading info left loop.at rest in
-    let first = c.first_descriptor-first.result in
-    let framed = framed_fits left first c.first_descriptor-first.ensures (not-false first.fits c.if-not-first.false) in
+    let first = c.in-Some.first in
+    let framed = framed_fits left c.first_descriptor.result c.first_descriptor.ensures first c.in-Some.is in
     let fits = framed.0 in
     let is_end : first.end ≡ 2 + descriptor_length left = framed.2 in
     omega arith
@@ -117,8 +115,8 @@ loop-at-preserved c =
     let left : List ℕ = take (length info - loop.at) (drop loop.at info) in
     let rest : left ≡ drop loop.at info = part_to_end info loop.at in
     let long = left_length a.reading info left loop.at rest in
-    let first = c.first_descriptor-first.result in
-    let framed = framed_fits left first c.first_descriptor-first.ensures (not-false first.fits c.if-not-first.false) in
+    let first = c.in-Some.first in
+    let framed = framed_fits left c.first_descriptor.result c.first_descriptor.ensures first c.in-Some.is in
     let fits = framed.0 in
     let is_end : first.end ≡ 2 + descriptor_length left = framed.2 in
     let n : ℕ = descriptor_length left in

@@ -42,17 +42,7 @@ read_embedded-requires c =
     let same : a.end - start ≡ num = omega arith in
     let list : List ℕ = take num (drop start a.info.now) in
     let long : length list ≡ num = length-take-le num (drop start a.info.now) (omega (arith, length-drop start a.info.now)) in
-    rw same (omega arith)
-
-pub returns-in-NoRecord : goal.returns-in-NoRecord
-returns-in-NoRecord c =
-    let a = c.args in
-    c.no_layers.ensures ∙ sym (ap (λ (r : Record). pad_to 63 no_layer (list_before a.info.now r a.end)) c.in-NoRecord.is)
-
-pub returns-in-Hierarchy : goal.returns-in-Hierarchy
-returns-in-Hierarchy c =
-    let a = c.args in
-    c.no_layers-in-Hierarchy.ensures ∙ sym (ap (λ (r : Record). pad_to 63 no_layer (list_before a.info.now r a.end)) c.in-Hierarchy.is)
+    rw (c.from.ensures, same) (omega arith)
 
 pub returns-in-Extension : goal.returns-in-Extension
 returns-in-Extension c =
@@ -65,10 +55,6 @@ returns-in-Extension c =
     let start : ℕ = a.end - num in
     let same : a.end - start ≡ num = omega arith in
     c.read_embedded.ensures
+    ∙ ap (λ (n : ℕ). pad_to 63 no_layer (layers_of (take (a.end - (a.end - n)) (drop (a.end - n) a.info.now)))) c.from.ensures
     ∙ ap (λ (n : ℕ). pad_to 63 no_layer (layers_of (take n (drop start a.info.now)))) same
     ∙ sym (ap (λ (r : Record). pad_to 63 no_layer (list_before a.info.now r a.end)) c.in-Extension.is)
-
-pub returns-in-Implied : goal.returns-in-Implied
-returns-in-Implied c =
-    let a = c.args in
-    c.no_layers-in-Implied.ensures ∙ sym (ap (λ (r : Record). pad_to 63 no_layer (list_before a.info.now r a.end)) c.in-Implied.is)

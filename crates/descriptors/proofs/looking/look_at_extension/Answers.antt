@@ -1,6 +1,6 @@
 -- `descriptors::look_at_extension` meets its contract: the tests on the way to each return say which kind of descriptor it is.
 -- Assumes nothing.
-use Prim.Native.Nat.{◌+◌}
+use Prim.Native.Nat.{ℕ, ◌+◌}
 use native.Mathlib.Omega.{arith}
 use mathlib.Core.Path.{◌≡◌, ◌∙◌, ap, sym, subst}
 use mathlib.Core.Logic.{◌≢◌}
@@ -26,14 +26,14 @@ returns-then-payload-lt7 c =
     let p = c.args.payload.now in
     sym (ap look_of (extension_wrong p (omega arith) c.if-payload-ne6.false (omega arith)))
 
-pub returns-then-payload-extension : goal.returns-then-payload-extension
-returns-then-payload-extension c =
+pub returns-then-payload-from : goal.returns-then-payload-from
+returns-then-payload-from c =
     let p = c.args.payload.now in
-    sym (ap look_of (extension_wrong p (omega arith) c.if-payload-ne6.false (subst (λ (x : ExtensionRecord). length p ≢ 7 + x.num_embedded_layers) c.read_extension-extension.ensures c.if-payload-extension.true)))
+    sym (ap look_of (extension_wrong p (omega arith) c.if-payload-ne6.false (subst (λ (x : ExtensionRecord). length p ≢ 7 + x.num_embedded_layers) c.read_extension-extension.ensures (subst (λ (n : ℕ). length p ≢ 7 + n) c.from.ensures c.if-payload-from.true))))
 
 pub returns : goal.returns
 returns c =
     let p = c.args.payload.now in
     let e = c.read_extension-extension.ensures in
     ap (λ (x : ExtensionRecord). LookExtension x) e
-    ∙ sym (ap look_of (extension_right p (omega arith) c.if-payload-ne6.false (subst (λ (x : ExtensionRecord). length p ≡ 7 + x.num_embedded_layers) e c.if-payload-extension.false)))
+    ∙ sym (ap look_of (extension_right p (omega arith) c.if-payload-ne6.false (subst (λ (x : ExtensionRecord). length p ≡ 7 + x.num_embedded_layers) e (subst (λ (n : ℕ). length p ≡ 7 + n) c.from.ensures c.if-payload-from.false))))

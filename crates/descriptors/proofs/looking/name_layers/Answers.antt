@@ -1,7 +1,6 @@
 -- `descriptors::name_layers` meets its contract. The loop's invariant: the first record among the bytes left is the first of all.
 -- Assumes nothing.
 use Prim.Native.Nat.{ℕ, ◌+◌, ◌-◌}
-use borrow.Author.Tests.{not-true, not-false}
 use native.Mathlib.Omega.{arith}
 use mathlib.Core.Path.{◌≡◌, refl, sym, ◌∙◌, ap, subst}
 use mathlib.Core.List.{List, ◌++◌}
@@ -13,7 +12,7 @@ use Rattle.descriptor_heads.specs.Head.{descriptor_tag, descriptor_length}
 use Rattle.records.specs.Records.{is_layer}
 use Rattle.descriptors.specs.Looking.{Kind, Held, held_in, kinds_of, payload_kind, seen_of}
 use Rattle.descriptors.specs.Finding.{named_in, named_by}
-use Rattle.descriptor_heads.proofs.Heads.{framed_not, framed_fits}
+use Rattle.descriptor_heads.proofs.Heads.{framed_other, framed_fits}
 use Rattle.descriptors.proofs.Walk.{left_length, kinds_stop, kinds_next}
 use Rattle.descriptors.proofs.Finding.{first_named, none_named}
 use Rattle.descriptors.proofs.looking.name_layers.Goals as goal
@@ -21,17 +20,16 @@ use Rattle.descriptors.proofs.looking.name_layers.Goals as goal
 pub loop-at-init : goal.loop-at-init
 loop-at-init c = (omega arith, λ stream_type. refl)
 
-pub returns-then-not-first : goal.returns-then-not-first
-returns-then-not-first c stream_type =
+pub returns-in_default : goal.returns-in_default
+returns-in_default c stream_type =
     let a = c.args in
     let loop = c.loop-at in
     let info = a.info.now in
     let left : List ℕ = take (length info - loop.at) (drop loop.at info) in
     let rest : left ≡ drop loop.at info = part_to_end info loop.at in
     let long = left_length a.reading info left loop.at rest in
-    let first = c.first_descriptor-first in
     c.nothing_named.ensures stream_type
-    ∙ sym (ap (λ (ks : List Kind). named_in stream_type (gather held_in ks)) (kinds_stop a.reading info left loop.at rest (omega arith) (framed_not left first.result first.ensures (not-true first.result.fits c.if-not-first.true))))
+    ∙ sym (ap (λ (ks : List Kind). named_in stream_type (gather held_in ks)) (kinds_stop a.reading info left loop.at rest (omega arith) (framed_other left c.first_descriptor.result c.first_descriptor.ensures c.in_default.not-Some)))
     ∙ loop.invariant.1 stream_type
 
 pub slice_bounds-named_at-count : goal.slice_bounds-named_at-count
@@ -42,10 +40,10 @@ slice_bounds-named_at-count c =
     let left : List ℕ = take (length info - loop.at) (drop loop.at info) in
     let rest : left ≡ drop loop.at info = part_to_end info loop.at in
     let long = left_length a.reading info left loop.at rest in
-    let first = c.first_descriptor-first in
-    let framed = framed_fits left first.result first.ensures (not-false first.result.fits c.if-not-first.false) in
+    let first = c.in-Some.first in
+    let framed = framed_fits left c.first_descriptor.result c.first_descriptor.ensures first c.in-Some.is in
     let fits = framed.0 in
-    let is_end : first.result.end ≡ 2 + descriptor_length left = framed.2 in
+    let is_end : first.end ≡ 2 + descriptor_length left = framed.2 in
     omega arith
 
 pub slice_bounds-named_at-start : goal.slice_bounds-named_at-start
@@ -56,10 +54,10 @@ slice_bounds-named_at-start c =
     let left : List ℕ = take (length info - loop.at) (drop loop.at info) in
     let rest : left ≡ drop loop.at info = part_to_end info loop.at in
     let long = left_length a.reading info left loop.at rest in
-    let first = c.first_descriptor-first in
-    let framed = framed_fits left first.result first.ensures (not-false first.result.fits c.if-not-first.false) in
+    let first = c.in-Some.first in
+    let framed = framed_fits left c.first_descriptor.result c.first_descriptor.ensures first c.in-Some.is in
     let fits = framed.0 in
-    let is_end : first.result.end ≡ 2 + descriptor_length left = framed.2 in
+    let is_end : first.end ≡ 2 + descriptor_length left = framed.2 in
     omega arith
 
 pub slice_bounds-named_at-end : goal.slice_bounds-named_at-end
@@ -70,10 +68,10 @@ slice_bounds-named_at-end c =
     let left : List ℕ = take (length info - loop.at) (drop loop.at info) in
     let rest : left ≡ drop loop.at info = part_to_end info loop.at in
     let long = left_length a.reading info left loop.at rest in
-    let first = c.first_descriptor-first in
-    let framed = framed_fits left first.result first.ensures (not-false first.result.fits c.if-not-first.false) in
+    let first = c.in-Some.first in
+    let framed = framed_fits left c.first_descriptor.result c.first_descriptor.ensures first c.in-Some.is in
     let fits = framed.0 in
-    let is_end : first.result.end ≡ 2 + descriptor_length left = framed.2 in
+    let is_end : first.end ≡ 2 + descriptor_length left = framed.2 in
     omega arith
 
 pub returns-then-is_layer : goal.returns-then-is_layer
@@ -84,17 +82,17 @@ returns-then-is_layer c stream_type =
     let left : List ℕ = take (length info - loop.at) (drop loop.at info) in
     let rest : left ≡ drop loop.at info = part_to_end info loop.at in
     let long = left_length a.reading info left loop.at rest in
-    let first = c.first_descriptor-first in
-    let framed = framed_fits left first.result first.ensures (not-false first.result.fits c.if-not-first.false) in
+    let first = c.in-Some.first in
+    let framed = framed_fits left c.first_descriptor.result c.first_descriptor.ensures first c.in-Some.is in
     let fits = framed.0 in
-    let is_end : first.result.end ≡ 2 + descriptor_length left = framed.2 in
+    let is_end : first.end ≡ 2 + descriptor_length left = framed.2 in
     let n : ℕ = descriptor_length left in
     let kind : Kind = payload_kind a.reading (descriptor_tag left) (take n (drop 2 left)) in
     let named = c.named_at-named in
     let is-named : named.result ≡ named_in stream_type (held_in kind) =
     named.ensures stream_type
-    ∙ ap (λ (m : ℕ). named_in stream_type (held_in (payload_kind a.reading first.result.tag (take (m - 2) (drop 2 left))))) is_end
-    ∙ ap (λ (m : ℕ). named_in stream_type (held_in (payload_kind a.reading first.result.tag (take m (drop 2 left))))) (add-sub_cancel_left 2 n)
+    ∙ ap (λ (m : ℕ). named_in stream_type (held_in (payload_kind a.reading first.tag (take (m - 2) (drop 2 left))))) is_end
+    ∙ ap (λ (m : ℕ). named_in stream_type (held_in (payload_kind a.reading first.tag (take m (drop 2 left))))) (add-sub_cancel_left 2 n)
     ∙ ap (λ (t : ℕ). named_in stream_type (held_in (payload_kind a.reading t (take n (drop 2 left))))) framed.1 in
     let others : List Held = gather held_in (kinds_of a.reading (drop (loop.at + (2 + n)) info)) in
     let whether : is_layer (named_in stream_type (held_in kind)).«record» ≡ c.is_layer.result =
@@ -111,10 +109,10 @@ overflow_add-at c =
     let left : List ℕ = take (length info - loop.at) (drop loop.at info) in
     let rest : left ≡ drop loop.at info = part_to_end info loop.at in
     let long = left_length a.reading info left loop.at rest in
-    let first = c.first_descriptor-first in
-    let framed = framed_fits left first.result first.ensures (not-false first.result.fits c.if-not-first.false) in
+    let first = c.in-Some.first in
+    let framed = framed_fits left c.first_descriptor.result c.first_descriptor.ensures first c.in-Some.is in
     let fits = framed.0 in
-    let is_end : first.result.end ≡ 2 + descriptor_length left = framed.2 in
+    let is_end : first.end ≡ 2 + descriptor_length left = framed.2 in
     omega arith
 
 pub loop-at-smaller : goal.loop-at-smaller
@@ -125,10 +123,10 @@ loop-at-smaller c =
     let left : List ℕ = take (length info - loop.at) (drop loop.at info) in
     let rest : left ≡ drop loop.at info = part_to_end info loop.at in
     let long = left_length a.reading info left loop.at rest in
-    let first = c.first_descriptor-first in
-    let framed = framed_fits left first.result first.ensures (not-false first.result.fits c.if-not-first.false) in
+    let first = c.in-Some.first in
+    let framed = framed_fits left c.first_descriptor.result c.first_descriptor.ensures first c.in-Some.is in
     let fits = framed.0 in
-    let is_end : first.result.end ≡ 2 + descriptor_length left = framed.2 in
+    let is_end : first.end ≡ 2 + descriptor_length left = framed.2 in
     omega arith
 
 pub loop-at-preserved : goal.loop-at-preserved
@@ -139,10 +137,10 @@ loop-at-preserved c =
     let left : List ℕ = take (length info - loop.at) (drop loop.at info) in
     let rest : left ≡ drop loop.at info = part_to_end info loop.at in
     let long = left_length a.reading info left loop.at rest in
-    let first = c.first_descriptor-first in
-    let framed = framed_fits left first.result first.ensures (not-false first.result.fits c.if-not-first.false) in
+    let first = c.in-Some.first in
+    let framed = framed_fits left c.first_descriptor.result c.first_descriptor.ensures first c.in-Some.is in
     let fits = framed.0 in
-    let is_end : first.result.end ≡ 2 + descriptor_length left = framed.2 in
+    let is_end : first.end ≡ 2 + descriptor_length left = framed.2 in
     let n : ℕ = descriptor_length left in
     let kind : Kind = payload_kind a.reading (descriptor_tag left) (take n (drop 2 left)) in
     let named = c.named_at-named in
@@ -151,8 +149,8 @@ loop-at-preserved c =
       λ stream_type.
           let is-named : named.result ≡ named_in stream_type (held_in kind) =
           named.ensures stream_type
-          ∙ ap (λ (m : ℕ). named_in stream_type (held_in (payload_kind a.reading first.result.tag (take (m - 2) (drop 2 left))))) is_end
-          ∙ ap (λ (m : ℕ). named_in stream_type (held_in (payload_kind a.reading first.result.tag (take m (drop 2 left))))) (add-sub_cancel_left 2 n)
+          ∙ ap (λ (m : ℕ). named_in stream_type (held_in (payload_kind a.reading first.tag (take (m - 2) (drop 2 left))))) is_end
+          ∙ ap (λ (m : ℕ). named_in stream_type (held_in (payload_kind a.reading first.tag (take m (drop 2 left))))) (add-sub_cancel_left 2 n)
           ∙ ap (λ (t : ℕ). named_in stream_type (held_in (payload_kind a.reading t (take n (drop 2 left))))) framed.1 in
           let whether : is_layer (named_in stream_type (held_in kind)).«record» ≡ c.is_layer.result =
           sym (c.is_layer.ensures ∙ ap (λ (x : Named). is_layer x.«record») is-named) in

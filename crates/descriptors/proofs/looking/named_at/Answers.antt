@@ -1,6 +1,7 @@
 -- `descriptors::named_at` meets its contract: the look says what is named.
 -- Assumes nothing.
 use Prim.Native.Nat.{ℕ}
+use mathlib.Core.Logic.{inl, inr}
 use mathlib.Core.Path.{sym, ◌∙◌, ap, subst}
 use mathlib.Core.List.{List, map}
 use Rattle.combinators.specs.Lists.{part_to_end}
@@ -37,17 +38,14 @@ returns-in-Skipped c stream_type =
     let p = a.payload.now in
     let kind = payload_kind a.reading a.tag p in
     let look = c.look_at in
-    let said = subst (λ (l : Look). Names p l (named_in stream_type (held_in kind))) (sym look.ensures ∙ c.in-Skipped.is) (look_names stream_type p kind (payload_shaped p a.reading a.tag)) in
-    c.nothing_named.ensures stream_type ∙ sym said
-
-pub returns-in-WrongLength : goal.returns-in-WrongLength
-returns-in-WrongLength c stream_type =
-    let a = c.args in
-    let p = a.payload.now in
-    let kind = payload_kind a.reading a.tag p in
-    let look = c.look_at in
-    let said = subst (λ (l : Look). Names p l (named_in stream_type (held_in kind))) (sym look.ensures ∙ c.in-WrongLength.is) (look_names stream_type p kind (payload_shaped p a.reading a.tag)) in
-    c.nothing_named-in-WrongLength.ensures stream_type ∙ sym said
+    elim c.in-Skipped.is [
+      | inl e ↦
+          let said = subst (λ (l : Look). Names p l (named_in stream_type (held_in kind))) (sym look.ensures ∙ e) (look_names stream_type p kind (payload_shaped p a.reading a.tag)) in
+          c.nothing_named.ensures stream_type ∙ sym said
+      | inr e ↦
+          let said = subst (λ (l : Look). Names p l (named_in stream_type (held_in kind))) (sym look.ensures ∙ e) (look_names stream_type p kind (payload_shaped p a.reading a.tag)) in
+          c.nothing_named.ensures stream_type ∙ sym said
+    ]
 
 pub returns-in-Hierarchy : goal.returns-in-Hierarchy
 returns-in-Hierarchy c stream_type =

@@ -9,18 +9,3 @@ pub returns-in-NoRecord : goal.returns-in-NoRecord
 returns-in-NoRecord c =
     let a = c.args in
     sym (ap (λ (first : Record). besides_found first a.found a.«record» a.end) c.in-NoRecord.is)
-
-pub returns-in-Hierarchy : goal.returns-in-Hierarchy
-returns-in-Hierarchy c =
-    let a = c.args in
-    c.with_second.ensures ∙ sym (ap (λ (first : Record). besides_found first a.found a.«record» a.end) c.in-Hierarchy.is)
-
-pub returns-in-Extension : goal.returns-in-Extension
-returns-in-Extension c =
-    let a = c.args in
-    c.with_second-in-Extension.ensures ∙ sym (ap (λ (first : Record). besides_found first a.found a.«record» a.end) c.in-Extension.is)
-
-pub returns-in-Implied : goal.returns-in-Implied
-returns-in-Implied c =
-    let a = c.args in
-    c.with_second-in-Implied.ensures ∙ sym (ap (λ (first : Record). besides_found first a.found a.«record» a.end) c.in-Implied.is)

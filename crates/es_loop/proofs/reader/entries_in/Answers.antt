@@ -10,7 +10,7 @@ use Rattle.combinators.proofs.Padding.{store_map}
 use Rattle.loop_entries.specs.declared.Entry.{Entry}
 use Rattle.loop_entries.specs.declared.Stream.{Stream}
 use Rattle.loop_entries.specs.Entries.{no_stream, blank_entry, streams_of, entry_of, entries_of}
-use Rattle.es_loop.proofs.Judged.{sound}
+use Rattle.es_loop.proofs.Verdicts.{sound}
 use Rattle.loop_entries.proofs.Front.{left_at, left_long}
 use Rattle.es_loop.proofs.Walk.{cursor_start, size_5, size_fits, stands_here, inside_here, next_here, counted_all}
 use Rattle.es_loop.proofs.reader.entries_in.Goals as goal

@@ -1,6 +1,7 @@
 -- `es_loop::judge_entries` meets its contract. The invariant: where the walk stands, and what the judging pass knows of the entries so far. Each turn is
 -- one step of both, and the ways out are `does_not_fit`, `end_refused` and `end_accepted`.
 -- Assumes nothing.
+use Rattle.std.specs.Prelude.{Err}
 use Prim.Native.Nat.{ℕ, ◌≤◌, ◌<◌}
 use native.Mathlib.Omega.{arith}
 use mathlib.Core.Path.{◌≡◌, refl, ◌∙◌, ap, sym}
@@ -11,7 +12,6 @@ use lib.ListN.{length, take}
 use lib.Seq.{length-take-le}
 use Rattle.vocabulary.specs.declared.refusal.Refusal.{Refusal}
 use Rattle.loop_entries.specs.declared.Stream.{Stream}
-use Rattle.es_loop.specs.declared.verdict.Verdict.TheVariants.{Refused as Refuses}
 use Rattle.records.specs.Records.{index_of}
 use Rattle.implied.specs.Rule.{given}
 use Rattle.loop_faults.specs.Conditions.{fault_at, lower_of, stream_in}
@@ -175,7 +175,7 @@ pub returns-then-fault-lt-NO_FAULT : goal.returns-then-fault-lt-NO_FAULT
 returns-then-fault-lt-NO_FAULT c =
     let a = c.args in
     let loop = c.loop-at in
-    ap (λ (r : Refusal). Refuses r) c.refusal_of.ensures
+    ap (λ (r : Refusal). Err r) c.refusal_of.ensures
     ∙ end_refused a.reading a.bytes.now loop.fault loop.count loop.at loop.invariant.0 loop.invariant.1.lowest c.loop-at-test.false c.if-fault-lt-NO_FAULT.true
 
 pub returns : goal.returns

@@ -1,13 +1,12 @@
 -- `joining::answer::join_long` meets its contract: the two cases of the definition are the two answers of `closure_of`, and the work space holds as many rows as there
 -- may be. Assumes nothing.
 use Prim.Native.Nat.{ℕ}
-use mathlib.Core.Path.{refl, sym, ◌∙◌, ap}
+use mathlib.Core.Path.{sym, ◌∙◌}
 use lib.ListN.{length}
-use Rattle.closure.specs.Closures.{closure_of}
 use Rattle.rows.specs.Table.{table}
 use Rattle.heads.proofs.Orderly.{closed}
 use Rattle.unit_lists.specs.Sequence.{lists}
-use Rattle.join_answers.specs.Joining.{joined_in, room_of, most_long}
+use Rattle.join_answers.specs.Joining.{room_of, most_long}
 use Rattle.join_answers.specs.Steps.{spaces}
 use Rattle.joining.proofs.Held.{most_held}
 use Rattle.joining.proofs.Answering.{same_lists}
@@ -22,7 +21,7 @@ most c =
 
 pub join_table-requires : goal.join_table-requires
 join_table-requires c = (
-  closed _ _ _ (sym c.closure_of-found.ensures ∙ c.in-Complete.is),
+  closed _ _ _ (sym c.closure_of.ensures ∙ c.in_ok-set.was),
   most_held _ _ _ _ _ _ _ _ c.most_long-most.ensures,
 )
 
@@ -56,23 +55,9 @@ shape_of-lags c = c.lags-1.given
 pub shape_of-sizes : goal.shape_of-sizes
 shape_of-sizes c = c.sizes-1.given
 
-pub returns-in-Complete : goal.returns-in-Complete
-returns-in-Complete c =
+pub returns-clause-content : goal.returns-clause-content
+returns-clause-content c =
     let a = c.args in
     let t = table a.indices.now a.decodings.now a.matches.now in
     let before = lists a.numbers.now a.lags.now a.sizes.now in
-    let is = sym c.closure_of-found.ensures ∙ c.in-Complete.is in record {
-      answer = c.join_table.ensures.answer
-          ∙ sym (ap (joined_in c.most_long-most.result a.layers t (room_of before)) is)
-          ∙ ap (λ (n : ℕ). joined_in n a.layers t (room_of before) (closure_of a.layers a.target)) c.most_long-most.ensures;
-      content = c.join_table.ensures.content ∙ same_lists _ a.layers t _ (room_of before) _ c.join_table.ensures.answer before;
-    }
-
-pub returns-in-Refused : goal.returns-in-Refused
-returns-in-Refused c =
-    let a = c.args in
-    let t = table a.indices.now a.decodings.now a.matches.now in
-    let before = lists a.numbers.now a.lags.now a.sizes.now in record {
-      answer = sym (ap (joined_in (most (goal.at.returns-in-Refused c).After-most_long-most) a.layers t (room_of before)) (sym c.closure_of-found.ensures ∙ c.in-Refused.is));
-      content = refl;
-    }
+    c.join_table.ensures.content ∙ same_lists _ a.layers t _ (room_of before) _ c.join_table.ensures.answer before

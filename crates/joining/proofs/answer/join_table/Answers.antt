@@ -1,21 +1,21 @@
 -- `joining::answer::join_table` meets its contract: each arm is a case of the definition by the verdict on the table.
 -- Assumes nothing.
-use mathlib.Core.Path.{refl, sym, ◌∙◌, ap}
+use mathlib.Core.Path.{sym, ◌∙◌}
 use Rattle.rows.specs.Table.{Table, table}
 use Rattle.rows.proofs.Verdicts.{sound, shape_short}
 use Rattle.heads.proofs.Orderly.{orderly_by}
 use Rattle.unit_lists.specs.Sequence.{lists}
-use Rattle.join_answers.specs.declared.answer.Joined.{Joined}
-use Rattle.join_answers.specs.Joining.{frame_of, units_joined, joined_by, room_of}
+use Rattle.join_answers.specs.Answer.{Joined}
+use Rattle.join_answers.specs.Joining.{frame_of, units_joined, room_of}
 use Rattle.joining.proofs.Held.{fewer_held}
 use Rattle.joining.proofs.answer.join_table.Goals as goal
-use Rattle.joining.proofs.answer.join_table.Goals.{After-judge-verdict}
+use Rattle.joining.proofs.answer.join_table.Goals.{After-judge}
 
-abbrev table_in : After-judge-verdict → Table
+abbrev table_in : After-judge → Table
 table_in c = table c.args.indices.now c.args.decodings.now c.args.matches.now
 
 -- the answer for a table in order
-abbrev units : After-judge-verdict → Joined
+abbrev units : After-judge → Joined
 units c =
     units_joined (table_in c) (frame_of c.args.layers c.args.closure (table_in c))
     (room_of (lists c.args.numbers.now c.args.lags.now c.args.sizes.now))
@@ -23,9 +23,9 @@ units c =
 pub join_ordered-requires : goal.join_ordered-requires
 join_ordered-requires c =
     let a = c.args in
-    let known = sound a.most (table_in (goal.at.join_ordered-requires c).After-judge-verdict) a.closure (sym c.judge-verdict.ensures ∙ c.in-InOrder.is) in (
-      (a.target, orderly_by a.layers a.target a.closure c.requires.0 a.most (table_in (goal.at.join_ordered-requires c).After-judge-verdict) known),
-      fewer_held _ _ _ _ _ _ _ _ _ c.requires.1 (shape_short a.most (table_in (goal.at.join_ordered-requires c).After-judge-verdict) known.shape),
+    let known = sound a.most (table_in (goal.at.join_ordered-requires c).After-judge) a.closure (sym c.judge.ensures ∙ c.in_ok-judge.was) in (
+      (a.target, orderly_by a.layers a.target a.closure c.requires.0 a.most (table_in (goal.at.join_ordered-requires c).After-judge) known),
+      fewer_held _ _ _ _ _ _ _ _ _ c.requires.1 (shape_short a.most (table_in (goal.at.join_ordered-requires c).After-judge) known.shape),
     )
 
 pub shape_of-order : goal.shape_of-order
@@ -57,21 +57,3 @@ shape_of-lags c = c.lags-1.given
 
 pub shape_of-sizes : goal.shape_of-sizes
 shape_of-sizes c = c.sizes-1.given
-
-pub returns-in-InOrder : goal.returns-in-InOrder
-returns-in-InOrder c = record {
-  answer = c.join_ordered.ensures.answer ∙ sym (ap (joined_by (units (goal.at.returns-in-InOrder c).After-judge-verdict)) (sym c.judge-verdict.ensures ∙ c.in-InOrder.is));
-  content = c.join_ordered.ensures.content;
-}
-
-pub returns-in-OutOfRange : goal.returns-in-OutOfRange
-returns-in-OutOfRange c = record {
-  answer = sym (ap (joined_by (units (goal.at.returns-in-OutOfRange c).After-judge-verdict)) (sym c.judge-verdict.ensures ∙ c.in-OutOfRange.is));
-  content = refl;
-}
-
-pub returns-in-OrderBroken : goal.returns-in-OrderBroken
-returns-in-OrderBroken c = record {
-  answer = sym (ap (joined_by (units (goal.at.returns-in-OrderBroken c).After-judge-verdict)) (sym c.judge-verdict.ensures ∙ c.in-OrderBroken.is));
-  content = refl;
-}

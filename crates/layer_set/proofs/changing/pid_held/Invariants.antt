@@ -7,7 +7,4 @@ use Rattle.layer_set.specs.Sets.{entry_at, held_at}
 use Rattle.layer_set.proofs.changing.pid_held.Given as goal
 
 abbrev pub invariant-loop-index : goal.invariant-loop-index
-invariant-loop-index l = (l.index ≤ 64) × ((k : ℕ) → k < l.index → held_at l.present (entry_at l.entries k) k l.pid ≡ false)
-
-abbrev pub decreases-loop-index : goal.decreases-loop-index
-decreases-loop-index l = 64 - l.index
+invariant-loop-index l = (l.index ≤ 64) × ((k : ℕ) → k < l.index → held_at l.present (entry_at l.entry-items k) k l.pid ≡ false)

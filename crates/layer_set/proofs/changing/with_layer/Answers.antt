@@ -1,6 +1,5 @@
 -- `with_layer` meets its contract: the entry and what it names are put at its index, and the stored values follow.
 -- Assumes nothing.
-use Rattle.kept_closures.specs.Kept.{columns}
 use Rattle.layer_set.proofs.Parts.{with_parts}
 use Rattle.layer_set.proofs.changing.with_layer.Goals as goal
 
@@ -11,5 +10,5 @@ returns c =
     let names = c.names-names in
     let added = c.add-present in
     with_parts a.«set» a.entry slot.result names.result added.result added.new.embedded
-    (columns added.new.closures added.new.sizes added.new.absents)
+    added.new.self
     slot.ensures.0 names.ensures added.ensures.answer.0 added.ensures.answer.1 added.ensures.content

@@ -8,6 +8,3 @@ use Rattle.layer_set_rows.proofs.laying.lay_entries.Given as goal
 
 abbrev pub invariant-loop-i : goal.invariant-loop-i
 invariant-loop-i l = (l.i ≤ 64) × (length l.rows ≡ 5120) × (take (l.i * 80) l.rows ≡ rows_of (take l.i l.entries))
-
-abbrev pub decreases-loop-i : goal.decreases-loop-i
-decreases-loop-i l = 64 - l.i

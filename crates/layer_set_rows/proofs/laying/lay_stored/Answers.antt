@@ -5,7 +5,6 @@ use Prim.Native.Nat.{◌≤◌, ◌<◌}
 use mathlib.Core.Path.{sym, ◌∙◌}
 use native.Mathlib.Omega.{arith}
 use lib.ListN.{length, length-set}
-use Rattle.kept_closures.specs.Kept.{columns}
 use Rattle.combinators.specs.Each.{each_only}
 use Rattle.layer_set_rows.specs.Buffers.{number_of, stored_numbers}
 use Rattle.layer_set_rows.proofs.laying.lay_stored.Goals as goal
@@ -20,7 +19,7 @@ loop-place-preserved c =
     let inside : at.place < length at.stored = omega (arith, at.invariant.1) in (
       omega arith,
       length-set at.stored at.place c.stored_number.result ∙ at.invariant.1,
-      put_next (number_of (columns a.closures.now a.sizes.now a.absents.now)) at.stored at.place c.stored_number.result inside c.stored_number.ensures at.invariant.2,
+      put_next (number_of a.kept.now) at.stored at.place c.stored_number.result inside c.stored_number.ensures at.invariant.2,
     )
 
 pub shape_of-stored : goal.shape_of-stored
@@ -32,4 +31,4 @@ returns c =
     let a = c.args in
     let at = c.loop-place in
     let end : 192 ≤ at.place = omega arith in
-    each_only (number_of (columns a.closures.now a.sizes.now a.absents.now)) at.stored 192 0 at.invariant.1 (λ k h. at.invariant.2 k (omega arith))
+    each_only (number_of a.kept.now) at.stored 192 0 at.invariant.1 (λ k h. at.invariant.2 k (omega arith))

@@ -8,6 +8,3 @@ use Rattle.layer_set_rows.proofs.taking.placed_in.Given as goal
 
 abbrev pub invariant-loop-i : goal.invariant-loop-i
 invariant-loop-i l = (l.i ≤ 64) × (l.placed ≡ placed_of (entries_below l.rows l.i))
-
-abbrev pub decreases-loop-i : goal.decreases-loop-i
-decreases-loop-i l = 64 - l.i

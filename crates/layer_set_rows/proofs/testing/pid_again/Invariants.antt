@@ -9,6 +9,3 @@ use Rattle.layer_set_rows.proofs.testing.pid_again.Given as goal
 
 abbrev pub invariant-loop-lower : goal.invariant-loop-lower
 invariant-loop-lower l = (l.lower ≤ l.index) × ((k : ℕ) → k < l.lower → layer_with (get_or l.rows (k * 80 + 2) 0) (get_or l.rows (k * 80 + 1) 0) l.pid ≡ false)
-
-abbrev pub decreases-loop-lower : goal.decreases-loop-lower
-decreases-loop-lower l = l.index - l.lower

@@ -8,6 +8,3 @@ use Rattle.layer_set_rows.proofs.testing.rows_right.Given as goal
 
 abbrev pub invariant-loop-index : goal.invariant-loop-index
 invariant-loop-index l = (l.index ≤ 64) × ((k : ℕ) → k < l.index → row_fine l.rows k ≡ true)
-
-abbrev pub decreases-loop-index : goal.decreases-loop-index
-decreases-loop-index l = 64 - l.index

@@ -9,6 +9,3 @@ use Rattle.layer_set_rows.proofs.testing.same_numbers.Given as goal
 
 abbrev pub invariant-loop-i : goal.invariant-loop-i
 invariant-loop-i l = (l.i ≤ 80) × ((k : ℕ) → k < l.i → eqb (get_or l.row k 0) (get_or l.other k 0) ≡ true)
-
-abbrev pub decreases-loop-i : goal.decreases-loop-i
-decreases-loop-i l = 80 - l.i

@@ -8,7 +8,6 @@ use borrow.Author.Count.{below_more}
 use borrow.Author.Tests.{eq-eqb, ne_eqb}
 use lib.Dec.{eqb}
 use lib.ListN.{get_or}
-use Rattle.kept_closures.specs.Kept.{columns}
 use Rattle.combinators.specs.Below.{at_every}
 use Rattle.layer_set_rows.proofs.Tests.{not_every}
 use Rattle.layer_set_rows.specs.Buffers.{number_of, stored_holds}
@@ -18,7 +17,7 @@ pub returns-then-stored-ne192 : goal.returns-then-stored-ne192
 unfolding stored_holds
 returns-then-stored-ne192 c =
     let a = c.args in
-    sym (ap (λ (b : Bool). b && every (λ k. eqb (get_or a.stored.now k 0) (number_of (columns a.closures.now a.sizes.now a.absents.now) k)) 192) (ne_eqb _ _ c.if-stored-ne192.true))
+    sym (ap (λ (b : Bool). b && every (λ k. eqb (get_or a.stored.now k 0) (number_of a.kept.now k)) 192) (ne_eqb _ _ c.if-stored-ne192.true))
 
 pub loop-place-init : goal.loop-place-init
 loop-place-init c = (omega arith, λ k h. absurd (omega arith))
@@ -30,7 +29,7 @@ returns-then-stored-place c =
     let at = c.loop-place in
     let long = c.if-stored-ne192.false in
     sym (ap₂ ◌&&◌ (eq-eqb _ _ long)
-    (not_every (λ k. eqb (get_or a.stored.now k 0) (number_of (columns a.closures.now a.sizes.now a.absents.now) k)) 192 at.place (omega arith)
+    (not_every (λ k. eqb (get_or a.stored.now k 0) (number_of a.kept.now k)) 192 at.place (omega arith)
     (ap (eqb (get_or a.stored.now at.place 0)) (sym c.stored_number.ensures) ∙ ne_eqb _ _ c.if-stored-place.true)))
 
 pub loop-place-preserved : goal.loop-place-preserved
@@ -48,4 +47,4 @@ returns c =
     let at = c.loop-place in
     let long = c.if-stored-ne192.false in
     sym (ap₂ ◌&&◌ (eq-eqb _ _ long)
-    (at_every (λ k. eqb (get_or a.stored.now k 0) (number_of (columns a.closures.now a.sizes.now a.absents.now) k)) 192 (λ k h. at.invariant.1 k (omega arith))))
+    (at_every (λ k. eqb (get_or a.stored.now k 0) (number_of a.kept.now k)) 192 (λ k h. at.invariant.1 k (omega arith))))

@@ -1,8 +1,8 @@
 -- `loop_layers::read_layers` meets its contract: the verdict says whether the layers of the loop are laid out.
 -- Assumes nothing.
+use Rattle.std.specs.Prelude.{Err, Ok}
 use mathlib.Core.Path.{◌∙◌, ap, sym}
 use Rattle.closure.specs.declared.Layers.{Layers}
-use Rattle.es_loop.specs.declared.reader.Outcome.TheVariants.{Accepted, Refused}
 use Rattle.loop_entries.specs.Entries.{streams_of}
 use Rattle.es_loop.specs.Reading.{answer_by}
 use Rattle.loop_layers.specs.Layers.{layers_of}
@@ -14,19 +14,19 @@ use Rattle.loop_layers.proofs.layer_sets.read_layers.Goals as goal
 pub layers_in-requires : goal.layers_in-requires
 layers_in-requires c =
     let a = c.args in
-    counted_verdict a.reading a.bytes.now (sym c.judge.ensures ∙ c.in-Entries.is)
+    counted_verdict a.reading a.bytes.now (sym c.judge.ensures ∙ c.in-Ok.is)
 
-pub returns-in-Entries : goal.returns-in-Entries
-returns-in-Entries c =
+pub returns-in-Ok : goal.returns-in-Ok
+returns-in-Ok c =
     let a = c.args in
-    let verdict = sym c.judge.ensures ∙ c.in-Entries.is in
-    ap (λ (l : Layers). record { outcome = Accepted; layers = l })
+    let verdict = sym c.judge.ensures ∙ c.in-Ok.is in
+    ap (λ (l : Layers). record { outcome = Ok tt; layers = l })
     (c.layers_in.ensures ∙ ap layers_of (sym (entries_read_lem (streams_of a.reading a.bytes.now))))
     ∙ ap (λ v. layers_in (answer_by (streams_of a.reading a.bytes.now) v)) (sym verdict)
 
-pub returns-in-Refused : goal.returns-in-Refused
-returns-in-Refused c =
+pub returns-in-Err : goal.returns-in-Err
+returns-in-Err c =
     let a = c.args in
-    let verdict = sym c.judge.ensures ∙ c.in-Refused.is in
-    ap (λ (l : Layers). record { outcome = Refused c.in-Refused.refusal; layers = l }) c.no_layers.ensures
+    let verdict = sym c.judge.ensures ∙ c.in-Err.is in
+    ap (λ (l : Layers). record { outcome = Err c.in-Err.refusal; layers = l }) c.no_layers.ensures
     ∙ ap (λ v. layers_in (answer_by (streams_of a.reading a.bytes.now) v)) (sym verdict)

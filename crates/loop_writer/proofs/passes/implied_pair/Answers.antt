@@ -1,11 +1,9 @@
 -- `implied_pair` meets its contract. The invariant: what was kept so far, continued over the entries that are left, comes to the rule over all.
 -- Assumes nothing.
-use Prim.Native.Nat.{ℕ}
-use mathlib.Core.Path.{◌≡◌, ◌∙◌}
+use mathlib.Core.Path.{refl, ◌∙◌}
 use mathlib.Core.List.{List, []}
 use native.Mathlib.Omega.{arith}
-use lib.ListN.{length, take, get_or}
-use lib.Seq.{length-take-le, get_or-take}
+use lib.ListN.{take, get_or}
 use Rattle.records.specs.declared.Record.TheVariants.{NoRecord}
 use Rattle.loop_entries.specs.declared.Entry.{Entry}
 use Rattle.loop_writer.proofs.Pairs.{viewed_start, viewed_next, viewed_end}
@@ -15,24 +13,18 @@ use Rattle.loop_writer.proofs.passes.implied_pair.Goals as goal
 abbrev pastEnd : Entry
 pastEnd = record { stream_type = 0; pid = 0; «record» = NoRecord; embedded = [] }
 
-pub loop-i-init : goal.loop-i-init
-loop-i-init c =
+pub loop-entry-init : goal.loop-entry-init
+loop-entry-init c =
     let a = c.args in
     rw c.no_views-views.ensures (viewed_start (take a.count a.entries))
 
-pub loop-i-preserved : goal.loop-i-preserved
-loop-i-preserved c =
-    let a = c.args in
-    let loop = c.loop-i in
-    let array : List Entry = a.entries in
-    let count : ℕ = a.count in
-    let long : length (take count array) ≡ count = length-take-le count array (omega arith) in
-    viewed_next (take count array) loop.views loop.i loop.invariant (omega arith) pastEnd (get_or array loop.i pastEnd)
-    (get_or-take count array loop.i pastEnd (omega arith)) c.view_of-views.result c.view_of-views.ensures
+pub loop-entry-preserved : goal.loop-entry-preserved
+loop-entry-preserved c =
+    let loop = c.loop-entry in
+    let items : List Entry = take c.args.count c.args.entries in
+    viewed_next items loop.views loop.entry-index loop.invariant (omega arith) pastEnd (get_or items loop.entry-index pastEnd) refl c.view_of-views.result c.view_of-views.ensures
 
 pub returns : goal.returns
 returns c =
-    let a = c.args in
-    let loop = c.loop-i in
-    let long : length (take a.count a.entries) ≡ a.count = length-take-le a.count a.entries (omega arith) in
-    c.is_pair.ensures ∙ viewed_end (take a.count a.entries) loop.views loop.i loop.invariant (omega arith)
+    let loop = c.loop-entry in
+    c.is_pair.ensures ∙ viewed_end (take c.args.count c.args.entries) loop.views loop.entry-index loop.invariant (omega arith)

@@ -1,13 +1,13 @@
 -- `weigh` meets its contract. The invariant is what is known of the entries weighed.
 -- Assumes nothing.
 use Prim.Native.Nat.{ℕ}
-use mathlib.Core.Path.{◌≡◌, ◌∙◌, ap}
+use mathlib.Core.Path.{◌≡◌, refl, ◌∙◌, ap}
 use mathlib.Core.Bool.{Bool}
 use mathlib.Core.List.{List, []}
 use native.Mathlib.Omega.{arith}
 use lib.ListN.{length, take, get_or}
-use lib.Seq.{length-take-le, get_or-take}
-use Rattle.combinators.specs.Lists.{any_none}
+use lib.Seq.{length-take-le}
+use Rattle.combinators.specs.Lists.{any_false, get_d_nth}
 use Rattle.records.specs.declared.Record.TheVariants.{NoRecord}
 use Rattle.loop_entries.specs.declared.Entry.{Entry}
 use Rattle.loop_writer.specs.Layout.{too_wide}
@@ -27,24 +27,23 @@ loop-i-init c =
 pub weigh_next-weighed-requires : goal.weigh_next-weighed-requires
 weigh_next-weighed-requires c =
     let loop = c.loop-i in
-    let fine = any_none c.args.entries pastEnd too_wide c.args.count loop.i (omega arith) (omega arith) c.requires.1 in
+    let items : List Entry = take c.args.count c.args.entries in
+    let few : length items ≡ c.args.count = length-take-le c.args.count c.args.entries (omega arith) in
+    let fine = any_false too_wide c.requires.1 (get_d_nth items loop.i pastEnd (omega arith)) in
     (fine, loop.invariant.small, omega arith)
 
 pub loop-i-preserved : goal.loop-i-preserved
 loop-i-preserved c =
     let loop = c.loop-i in
-    let array : List Entry = c.args.entries in
-    let count : ℕ = c.args.count in
-    let long : length (take count array) ≡ count = length-take-le count array (omega arith) in
-    let fine = any_none array pastEnd too_wide count loop.i (omega arith) (omega arith) c.requires.1 in
+    let items : List Entry = take c.args.count c.args.entries in
+    let fine = any_false too_wide c.requires.1 (get_d_nth items loop.i pastEnd (omega arith)) in
     let next = c.weigh_next-weighed in
     let gives = c.gives-given in
-    let is_given_lem = gives.ensures ∙ ap (λ (b : Bool). given_to b (get_or array loop.i pastEnd)) c.requires.2 in
-    weighing_next (take count array) loop.pids loop.indices loop.weighed loop.i loop.invariant (omega arith) pastEnd (get_or array loop.i pastEnd)
-    (get_or-take count array loop.i pastEnd (omega arith)) fine gives.result is_given_lem next.ensures.value.2 next.result _ _ next.ensures.value.0 next.ensures.value.1 next.ensures.pids_after.0 next.ensures.pids_after.1
+    let is_given_lem = gives.ensures ∙ ap (λ (b : Bool). given_to b (get_or items loop.i pastEnd)) c.requires.2 in
+    weighing_next items loop.pids loop.indices loop.weighed loop.i loop.invariant (omega arith) pastEnd (get_or items loop.i pastEnd)
+    refl fine gives.result is_given_lem next.ensures.value.2 next.result _ _ next.ensures.value.0 next.ensures.value.1 next.ensures.pids_after.0 next.ensures.pids_after.1
 
 pub returns : goal.returns
 returns c =
     let loop = c.loop-i in
-    let long : length (take c.args.count c.args.entries) ≡ c.args.count = length-take-le c.args.count c.args.entries (omega arith) in
     weighing_end (take c.args.count c.args.entries) loop.pids loop.indices loop.weighed loop.i loop.invariant (omega arith)

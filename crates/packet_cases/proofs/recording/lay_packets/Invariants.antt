@@ -1,10 +1,11 @@
--- `packet_cases::lay_packets` is safe and ends: each place stays within what it is a place of, and what is left falls.
+-- `packet_cases::lay_packets` is safe and ends: what is laid stays within the room, and the parts come to an end.
 -- Assumes nothing.
-use Rattle.std.proofs.Common.{◌≡◌, ◌≤◌, ◌-◌, length}
+use Rattle.std.proofs.Common.{◌≡◌, ◌≤◌, length}
 use Rattle.packet_cases.proofs.recording.lay_packets.Given as goal
 
-abbrev pub invariant-loop-at : goal.invariant-loop-at
-invariant-loop-at l = (l.count ≤ length l.room) × (l.at ≤ length l.words) × (length l.room ≡ length l.initial.room)
-
-abbrev pub decreases-loop-at : goal.decreases-loop-at
-decreases-loop-at l = length l.words - l.at
+abbrev pub invariant-loop-part : goal.invariant-loop-part
+invariant-loop-part l =
+    (l.count ≤ length l.room)
+    × (length l.room ≡ length l.initial.room)
+    × goal.iterator-loop-part.can_next l.part-iterator
+    × goal.iterator-loop-part.is_finite l.part-iterator

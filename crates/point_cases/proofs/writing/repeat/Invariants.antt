@@ -5,6 +5,3 @@ use Rattle.point_cases.proofs.writing.repeat.Given as goal
 
 abbrev pub invariant-loop-at : goal.invariant-loop-at
 invariant-loop-at l = (l.count ≤ l.at) × (l.end ≤ 3084)
-
-abbrev pub decreases-loop-at : goal.decreases-loop-at
-decreases-loop-at l = l.end - l.at

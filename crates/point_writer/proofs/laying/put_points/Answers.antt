@@ -8,10 +8,6 @@ use Rattle.point_writer.proofs.Walking.{walking_start, walking_next, walking_end
 use native.Mathlib.Omega.{arith}
 use Rattle.point_writer.proofs.laying.put_points.Goals as goal
 
--- LEFT: no goal of today has the name slice-aggregate-put
--- slice-aggregate-put : tie.Need-slice-aggregate-put invariant-loop decreases-loop
--- slice-aggregate-put c = search rules
-
 pub loop-i-init : goal.loop-i-init
 loop-i-init c = walking_start c.args.points.now c.args.references.now c.args.layers.now c.put-place.ensures c.requires.points_value.0 c.requires.points_value_2.0 c.requires.points_value_2.1
 

@@ -1,4 +1,4 @@
--- `assembling::assembly::first_as_far` meets its contract. The invariant: every place below `low` lies less far ahead, and every place from
+-- `row_index::search::first_as_far` meets its contract. The invariant: every place below `low` lies less far ahead, and every place from
 -- `high` on as far or farther (Searching). The measure is the number of places between. Assumes nothing.
 use Prim.Native.Nat.{ℕ, ◌≤◌, ◌<◌, ◌-◌}
 use lib.ListN.{get_or}

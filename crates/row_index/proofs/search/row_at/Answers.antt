@@ -1,4 +1,4 @@
--- `assembling::assembly::row_at` meets its contract: a row of the layer that has the time is the answer, however it was come by (Searching).
+-- `row_index::search::row_at` meets its contract: a row of the layer that has the time is the answer, however it was come by (Searching).
 -- Assumes nothing.
 use Prim.Native.Nat.{◌+◌, ◌<◌}
 use mathlib.Core.Path.{refl}

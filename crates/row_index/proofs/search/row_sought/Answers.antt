@@ -1,4 +1,4 @@
--- `assembling::assembly::row_sought` meets its contract: a row that has the time can only stand at the place that was reached (Searching).
+-- `row_index::search::row_sought` meets its contract: a row that has the time can only stand at the place that was reached (Searching).
 -- Assumes nothing.
 use Prim.Native.Nat.{◌+◌, ◌<◌}
 use mathlib.Core.Path.{refl}

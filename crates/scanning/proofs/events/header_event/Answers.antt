@@ -3,12 +3,12 @@ use mathlib.Core.Path.{sym, ap}
 use Rattle.scanning.specs.Events.{header_event}
 use Rattle.scanning.proofs.events.header_event.Goals as goal
 
-pub returns-in-Read : goal.returns-in-Read
-returns-in-Read c =
+pub returns-in-Ok : goal.returns-in-Ok
+returns-in-Ok c =
     let a = c.args in
-    sym (ap (header_event a.layer a.packet) c.in-Read.is)
+    sym (ap (header_event a.layer a.packet) c.in-Ok.is)
 
-pub returns-in-Refused : goal.returns-in-Refused
-returns-in-Refused c =
+pub returns-in-Err : goal.returns-in-Err
+returns-in-Err c =
     let a = c.args in
-    sym (ap (header_event a.layer a.packet) c.in-Refused.is)
+    sym (ap (header_event a.layer a.packet) c.in-Err.is)

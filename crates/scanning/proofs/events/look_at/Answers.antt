@@ -39,13 +39,13 @@ follow_last-given-requires c =
     let a = c.args in
     let packet = take (packet_bytes * a.step + packet_bytes - packet_bytes * a.step) (drop (packet_bytes * a.step) a.bytes.now) in
     let long : length packet ≡ 188 = ap length (part_is_packet a.bytes.now a.step) ∙ packet_long a.bytes.now a.step c.requires.0 in
-    (c.requires.1 (get_or a.table.now c.pid_of.result 0), omega (arith, c.if-layer-gt63.false), long)
+    (c.requires.1 c.from-slot.result, omega (arith, c.from-slot.ensures, c.if-layer-gt63.false), long)
 
 pub step_event-requires : goal.step_event-requires
 step_event-requires c =
     let a = c.args in
     let packet = take (packet_bytes * a.step + packet_bytes - packet_bytes * a.step) (drop (packet_bytes * a.step) a.bytes.now) in
-    let layer = get_or a.table.now c.pid_of.result 0 in
+    let layer = c.from-slot.result in
     let before = last_at a.kept.now a.bytes.now layer (get_or a.ends.now layer 0) in
     let long : length packet ≡ 188 = ap length (part_is_packet a.bytes.now a.step) ∙ packet_long a.bytes.now a.step c.requires.0 in
     subst (λ (s : Step). start_in s ≤ length packet) (sym c.follow_last-given.ensures) (subst (λ (n : ℕ). start_in (step_of before packet) ≤ n) (sym long) (start_within before packet))
@@ -54,15 +54,18 @@ pub returns : goal.returns
 returns c =
     let a = c.args in
     let packet = take (packet_bytes * a.step + packet_bytes - packet_bytes * a.step) (drop (packet_bytes * a.step) a.bytes.now) in
-    let layer = get_or a.table.now c.pid_of.result 0 in
+    let layer = c.from-slot.result in
     let end = get_or a.ends.now layer 0 in
     let both = looked_on a.table.now a.kept.now a.bytes.now a.ends.now a.step a.number packet (part_is_packet a.bytes.now a.step)
     (λ i. (c.shared_slice_known-3-1.given i).fits) c.if-packet-ne71.false
-    layer (ap (λ (n : ℕ). get_or a.table.now n 0) c.pid_of.ensures) c.if-layer-gt63.false in
+    layer (c.from-slot.ensures ∙ ap (λ (n : ℕ). get_or a.table.now n 0) c.pid_of.ensures) (omega (arith, c.from-slot.ensures, c.if-layer-gt63.false)) in
     let step : c.follow_last-given.result ≡ step_of (last_at a.kept.now a.bytes.now layer end) packet = c.follow_last-given.ensures in
     let after : c.end_after.result ≡ last_by (step_of (last_at a.kept.now a.bytes.now layer end) packet) end (packet_bytes * a.step + packet_bytes) =
     c.end_after.ensures ∙ ap (λ (s : Step). last_by s end (packet_bytes * a.step + packet_bytes)) step in record {
-      gives = c.step_event.ensures ∙ ap (step_event layer a.number packet) step ∙ both.0;
+      gives = c.step_event.ensures
+          ∙ ap (λ (l : ℕ). step_event l a.number packet c.follow_last-given.result) (sym c.from-slot.ensures)
+          ∙ ap (step_event layer a.number packet) step
+          ∙ both.0;
       lasts = ap (λ (e : ℕ). lasts_of a.kept.now a.bytes.now (set a.ends.now layer e)) after ∙ both.1;
       within = ends_set a.kept.now a.bytes.now a.ends.now layer c.end_after.result
           (subst (LastWithin a.kept.now a.bytes.now layer) (sym c.end_after.ensures)

@@ -1,7 +1,10 @@
--- `scanning::skipping::pass_each` meets its contract. The invariant: all packets so far are passed over. The measure is the number of packets left.
+-- `scanning::skipping::pass_each` meets its contract. The invariant: all packets so far are passed over.
 -- Assumes nothing.
 use native.Mathlib.Omega.{arith}
+use Prim.Native.Nat.{ℕ}
 use mathlib.Core.Bool.{true, false}
+use mathlib.Core.Path.{◌≡◌, subst}
+use Rattle.scanning.specs.Events.{Passes}
 use Rattle.scanning.proofs.Looking.{passes_none, passes_by}
 use Rattle.scanning.proofs.skipping.pass_each.Goals as goal
 
@@ -24,4 +27,7 @@ loop-number-preserved c =
     passes_by a.table.now a.kept.now a.bytes.now a.ends.now a.from a.packets c.loop-number.invariant (omega arith) true (c.if-not-pass_one.false) c.pass_one.ensures
 
 pub returns : goal.returns
-returns c = c.loop-number.invariant
+returns c =
+    let a = c.args in
+    let all : c.loop-number.number ≡ a.packets = omega (arith, c.loop-number.invariant.inside) in
+    subst (λ (n : ℕ). Passes a.table.now a.kept.now a.bytes.now a.ends.now a.from a.packets n c.loop-number.ends) all c.loop-number.invariant

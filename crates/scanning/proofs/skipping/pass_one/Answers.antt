@@ -31,7 +31,7 @@ returns-then-end-lt-PACKET_BYTES c =
 pub bounds-bytes-end : goal.bounds-bytes-end
 bounds-bytes-end c =
     let a = c.args in
-    let layer = get_or a.table.now c.pid_of.result 0 in
+    let layer = c.from-slot.result in
     let inside : get_or a.ends.now layer 0 ≤ length a.bytes.now = place_inside (c.requires.1 layer) (λ e. omega arith) in
     omega arith
 
@@ -44,8 +44,8 @@ pub returns : goal.returns
 returns c =
     let a = c.args in
     let packet = take (packet_bytes * a.step + packet_bytes - packet_bytes * a.step) (drop (packet_bytes * a.step) a.bytes.now) in
-    let layer = get_or a.table.now c.pid_of.result 0 in
+    let layer = c.from-slot.result in
     passes_ordinary a.table.now a.kept.now a.bytes.now a.ends.now c.requires.1 a.step (a.step + 1) (omega arith) packet (part_is_packet a.bytes.now a.step)
-    (λ i. (c.shared_slice_known-3-1.given i).fits) c.if-packet-ne71.false layer (ap (λ (n : ℕ). get_or a.table.now n 0) c.pid_of.ensures) c.if-layer-gt63.false
+    (λ i. (c.shared_slice_known-3-1.given i).fits) c.if-packet-ne71.false layer (c.from-slot.ensures ∙ ap (λ (n : ℕ). get_or a.table.now n 0) c.pid_of.ensures) (omega (arith, c.from-slot.ensures, c.if-layer-gt63.false))
     (omega (arith, c.requires.0)) (λ i. (c.shared_slice_known-8-1.given i).fits) c.if-end-lt-PACKET_BYTES.false
     (sym c.ordinary_after.ensures ∙ c.if-not-ordinary_after.false)

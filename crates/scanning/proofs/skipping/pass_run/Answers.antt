@@ -2,7 +2,7 @@
 -- Assumes nothing.
 use native.Mathlib.Omega.{arith}
 use Prim.Native.Nat.{ℕ, ◌+◌, ◌-◌, ◌*◌}
-use mathlib.Core.Path.{◌≡◌, ap, subst}
+use mathlib.Core.Path.{◌≡◌, ap, subst, ◌∙◌}
 use lib.ListN.{get_or, set}
 use Rattle.packets.specs.Reading.{packet_bytes}
 use Rattle.scanning.specs.Events.{Passes}
@@ -31,9 +31,9 @@ pub returns : goal.returns
 returns c =
     let a = c.args in
     let before = a.from - 1 in
-    let layer = get_or a.table.now c.pid_of.result 0 in
+    let layer = c.from-slot.result in
     let from : before + 1 ≡ a.from = omega arith in
     subst (λ (n : ℕ). Passes a.table.now a.kept.now a.bytes.now a.ends.now n a.packets (c.run_from-last.result + 1) (set a.ends.now layer (packet_bytes * c.run_from-last.result + packet_bytes))) from
     (passes_run a.table.now a.kept.now a.bytes.now a.ends.now c.requires.3 before a.packets (get_or a.bytes.now (packet_bytes * before + 1) 0) (get_or a.bytes.now (packet_bytes * before + 2) 0) layer
-    (omega (arith, c.if-second-ge64.false)) (ap (λ (n : ℕ). get_or a.table.now n 0) c.pid_of.ensures) c.if-layer-gt63.false c.requires.2
+    (omega (arith, c.if-second-ge64.false)) (c.from-slot.ensures ∙ ap (λ (n : ℕ). get_or a.table.now n 0) c.pid_of.ensures) (omega (arith, c.from-slot.ensures, c.if-layer-gt63.false)) c.requires.2
     (λ i. (c.shared_slice_known-4-1.given i).fits) c.if-end-at.false c.run_from-last.ensures.run c.run_from-last.ensures.inside)

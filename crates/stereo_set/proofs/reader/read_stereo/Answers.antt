@@ -8,15 +8,15 @@ use Rattle.stereo_set.proofs.Walk.{counted_verdict}
 use Rattle.stereo_set.proofs.reader.read_stereo.Goals as goal
 
 pub find_layers-requires : goal.find_layers-requires
-find_layers-requires c = counted_verdict c.args.bytes.now (sym c.judge.ensures ∙ c.in-Entries.is)
+find_layers-requires c = counted_verdict c.args.bytes.now (sym c.judge.ensures ∙ c.in-Ok.is)
 
-pub returns-in-Refused : goal.returns-in-Refused
-returns-in-Refused c = c.refused.ensures ∙ ap (stereo_by c.args.bytes.now) (sym c.in-Refused.is ∙ c.judge.ensures)
+pub returns-in-Err : goal.returns-in-Err
+returns-in-Err c = c.refused.ensures ∙ ap (stereo_by c.args.bytes.now) (sym c.in-Err.is ∙ c.judge.ensures)
 
-pub returns-in-Entries : goal.returns-in-Entries
-returns-in-Entries c =
+pub returns-in-Ok : goal.returns-in-Ok
+returns-in-Ok c =
     let bytes = c.args.bytes.now in
     c.set_of.ensures
     ∙ ap set_by c.find_layers.ensures
     ∙ kept_set (views_in bytes)
-    ∙ ap (stereo_by bytes) (sym c.in-Entries.is ∙ c.judge.ensures)
+    ∙ ap (stereo_by bytes) (sym c.in-Ok.is ∙ c.judge.ensures)

@@ -1,5 +1,6 @@
 -- `judge_second` meets its contract: which arm was taken says what was found.
 -- Assumes nothing.
+use mathlib.Core.Logic.{inl, inr}
 use mathlib.Core.Path.{◌∙◌, ap, sym}
 use Rattle.mvc_descriptors.specs.declared.Found.{Found}
 use Rattle.mvc_descriptors.specs.declared.Found.TheVariants.{One}
@@ -9,14 +10,13 @@ use Rattle.stereo_set.proofs.set.judge_second.Goals as goal
 pub returns-in-Missing : goal.returns-in-Missing
 returns-in-Missing c =
     let a = c.args in
-    c.refused.ensures ∙ sym (ap (λ (f : Found). found_judged a.base (One a.base_extension) a.second f) c.in-Missing.is)
+    c.refused.ensures
+    ∙ elim c.in-Missing.is [
+      | inl e ↦ sym (ap (λ (f : Found). found_judged a.base (One a.base_extension) a.second f) e)
+      | inr e ↦ sym (ap (λ (f : Found). found_judged a.base (One a.base_extension) a.second f) e)
+    ]
 
 pub returns-in-One : goal.returns-in-One
 returns-in-One c =
     let a = c.args in
     c.judge_ranges.ensures ∙ sym (ap (λ (f : Found). found_judged a.base (One a.base_extension) a.second f) c.in-One.is)
-
-pub returns-in-Wrong : goal.returns-in-Wrong
-returns-in-Wrong c =
-    let a = c.args in
-    c.refused-in-Wrong.ensures ∙ sym (ap (λ (f : Found). found_judged a.base (One a.base_extension) a.second f) c.in-Wrong.is)

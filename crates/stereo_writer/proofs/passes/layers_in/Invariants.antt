@@ -11,6 +11,3 @@ use Rattle.stereo_writer.proofs.passes.layers_in.Given as goal
 
 abbrev pub invariant-loop-i : goal.invariant-loop-i
 invariant-loop-i l = (l.i ≤ l.count) × (l.layers ≡ layers_after no_views (map (view_for l.base l.second) (take l.i (entries_below l.numbers l.count))))
-
-abbrev pub decreases-loop-i : goal.decreases-loop-i
-decreases-loop-i l = l.count - l.i

@@ -9,6 +9,3 @@ use Rattle.stereo_writer.proofs.passes.put_stereo_entries.Given as goal
 
 abbrev pub invariant-loop-i : goal.invariant-loop-i
 invariant-loop-i l = (l.i ≤ l.count) × Laid l.initial.out 0 (stereo_bytes l.base l.second (take l.i (entries_below l.numbers l.count))) l.place l.out
-
-abbrev pub decreases-loop-i : goal.decreases-loop-i
-decreases-loop-i l = l.count - l.i

@@ -2,6 +2,7 @@
 -- Assumes nothing.
 use mathlib.Core.Path.{◌≡◌, ◌∙◌, ap, sym}
 use mathlib.Core.List.{List, map}
+use Rattle.std.proofs.lemmas.Result.{err_from_is_err_and}
 use Rattle.loop_entries.specs.declared.Entry.{Entry}
 use Rattle.entry_rows.specs.Rows.{row_count, entries_below}
 use Rattle.stereo_set.specs.declared.set.StereoRead.{StereoRead}
@@ -18,23 +19,24 @@ returns-then-out-size c =
     let entries : List Entry = entries_below a.numbers.now (row_count a.numbers.now) in
     let is_set : set_for a.base a.second entries ≡ c.set_of-set.result =
     sym (c.set_of-set.ensures ∙ ap set_by c.layers_in.ensures ∙ kept_set (map (view_for a.base a.second) entries)) in
-    let is-outcome = ap (λ (r : StereoRead). r.outcome) is_set ∙ c.in-Accepted.is in
+    let is-outcome = ap (λ (r : StereoRead). r.outcome) is_set ∙ c.in_ok-set.was in
     no_room a.base a.second entries a.out.now is-outcome a.size (c.requires.as_long is-outcome) c.if-out-size.true
 
-pub returns-in-Refused : goal.returns-in-Refused
-returns-in-Refused c =
+pub returns-in_err-set : goal.returns-in_err-set
+returns-in_err-set c =
     let a = c.args in
     let entries : List Entry = entries_below a.numbers.now (row_count a.numbers.now) in
     let is_set : set_for a.base a.second entries ≡ c.set_of-set.result =
     sym (c.set_of-set.ensures ∙ ap set_by c.layers_in.ensures ∙ kept_set (map (view_for a.base a.second) entries)) in
-    let is-outcome = ap (λ (r : StereoRead). r.outcome) is_set ∙ c.in-Refused.is in
-    set_refused a.base a.second entries a.out.now c.in-Refused.refusal is-outcome
+    let is-outcome = ap (λ (r : StereoRead). r.outcome) is_set ∙ c.in_err-set.was in
+    let p = err_from_is_err_and c.from_residual.result c.from_residual.ensures.1 in
+    rw (p.1, p.2) (set_refused a.base a.second entries a.out.now _ is-outcome)
 
-pub returns-else-out-size : goal.returns-else-out-size
-returns-else-out-size c =
+pub returns : goal.returns
+returns c =
     let a = c.args in
     let entries : List Entry = entries_below a.numbers.now (row_count a.numbers.now) in
     let is_set : set_for a.base a.second entries ≡ c.set_of-set.result =
     sym (c.set_of-set.ensures ∙ ap set_by c.layers_in.ensures ∙ kept_set (map (view_for a.base a.second) entries)) in
-    let is-outcome = ap (λ (r : StereoRead). r.outcome) is_set ∙ c.in-Accepted.is in
+    let is-outcome = ap (λ (r : StereoRead). r.outcome) is_set ∙ c.in_ok-set.was in
     all_written a.base a.second entries a.out.now is-outcome a.size (c.requires.as_long is-outcome) c.if-out-size.false c.put_stereo_entries.ensures

@@ -5,6 +5,7 @@ use mathlib.Core.Path.{◌∙◌, ap, sym}
 use mathlib.Core.List.{List}
 use native.Mathlib.Omega.{arith}
 use lib.ListN.{length}
+use Rattle.std.proofs.lemmas.Result.{err_from_is_err_and}
 use Rattle.loop_entries.specs.declared.Entry.{Entry}
 use Rattle.entry_rows.specs.Rows.{row_count, entries_below}
 use Rattle.entry_rows.proofs.Judged.{length_entries}
@@ -46,20 +47,8 @@ write_set-requires c =
       as_long = λ is_set. ap (λ (n : ℕ). n + 20) size ∙ sym (set_size a.base a.second entries is_set);
     }
 
-pub returns-in-Refused : goal.returns-in-Refused
-returns-in-Refused c =
-    let a = c.args in
-    let numbers = a.numbers.now in
-    let entries : List Entry = entries_below numbers (row_count numbers) in
-    let long = length_entries numbers (row_count numbers) in
-    let weighed = c.weigh_rows-weighed in
-    let size = weighed.ensures.size in
-    let few : length entries ≤ 201 = omega arith in
-    let short : length (loop_bytes entries) + 20 ≤ 1008 = omega arith in
-    loop_refuses a.base a.second entries a.out.now few short weighed.result weighed.ensures c.in-Refused.refusal (sym c.decide-judged.ensures ∙ c.in-Refused.is)
-
-pub returns-in-Bytes : goal.returns-in-Bytes
-returns-in-Bytes c =
+pub returns-in_err-decide : goal.returns-in_err-decide
+returns-in_err-decide c =
     let a = c.args in
     let numbers = a.numbers.now in
     let entries : List Entry = entries_below numbers (row_count numbers) in
@@ -68,4 +57,17 @@ returns-in-Bytes c =
     let size = weighed.ensures.size in
     let few : length entries ≤ 201 = omega (arith, c.if-numbers-gt-MOST_ENTRIES.false) in
     let short : length (loop_bytes entries) + 20 ≤ 1008 = omega (arith, c.if-size.false) in
-    as_the_set a.base a.second entries a.out.now few short weighed.result weighed.ensures c.in-Bytes.field-0 (sym c.decide-judged.ensures ∙ c.in-Bytes.is) c.write_set.ensures
+    let p = err_from_is_err_and c.from_residual.result c.from_residual.ensures.1 in
+    rw (p.1, p.2) (loop_refuses a.base a.second entries a.out.now few short weighed.result weighed.ensures _ (sym c.decide.ensures ∙ c.in_err-decide.was))
+
+pub returns : goal.returns
+returns c =
+    let a = c.args in
+    let numbers = a.numbers.now in
+    let entries : List Entry = entries_below numbers (row_count numbers) in
+    let long = length_entries numbers (row_count numbers) in
+    let weighed = c.weigh_rows-weighed in
+    let size = weighed.ensures.size in
+    let few : length entries ≤ 201 = omega (arith, c.if-numbers-gt-MOST_ENTRIES.false) in
+    let short : length (loop_bytes entries) + 20 ≤ 1008 = omega (arith, c.if-size.false) in
+    as_the_set a.base a.second entries a.out.now few short weighed.result weighed.ensures _ (sym c.decide.ensures ∙ c.in_ok-decide.was) c.write_set.ensures

@@ -1,4 +1,4 @@
--- `stream_lists::insertion::place_of` meets its contract (Placed has the turns). The measure is what is left of the list. Assumes nothing.
+-- `stream_lists::insertion::place_of` meets its contract (Placed has the turns). Assumes nothing.
 use mathlib.Core.Path.{◌≡◌, sym, ◌∙◌}
 use native.Mathlib.Nat.{zero-add}
 use native.Mathlib.Omega.{arith}
@@ -34,4 +34,5 @@ returns c =
     let a = c.args in
     let at = c.loop-at in
     let long : length (take a.count a.members.now) ≡ a.count = length-take-le a.count a.members.now (omega arith) in
-    place_none a.index at.at (take a.count a.members.now) (omega arith) at.invariant.1
+    let all : a.count ≡ at.at = omega arith in
+    all ∙ place_none a.index at.at (take a.count a.members.now) (omega arith) at.invariant.1

@@ -1,11 +1,11 @@
 -- `loops::lay_accepted` meets its contract: the rows where there is room for them.
 -- Assumes nothing.
+use Rattle.es_loop.specs.Answer.{entries_judged}
 use Prim.Native.Nat.{ℕ, ◌*◌, ◌≤◌}
 use mathlib.Core.Path.{◌≡◌, sym, ◌∙◌, ap}
 use mathlib.Core.List.{List, map}
 use lib.ListN.{length, length-map}
 use Rattle.loop_entries.specs.declared.Entry.{Entry}
-use Rattle.es_loop.specs.declared.verdict.Verdict.TheVariants.{Entries}
 use Rattle.loop_entries.specs.Entries.{streams_of, entry_of}
 use Rattle.thoquenry.proofs.Replies.{answers, buffers, counted, few_counted, no_room_for_rows, room_for_rows}
 use native.Mathlib.Omega.{arith}
@@ -31,7 +31,7 @@ put_rows-requires c =
     let a = c.args in
     let is-count = counted a.reading a.bytes.now a.count a.pair c.requires in
     let enough : a.count * 80 ≤ length a.entries.now = omega arith in record {
-      bytes_value = c.requires ∙ ap (λ (n : ℕ). Entries n a.pair) is-count;
+      bytes_value = c.requires ∙ ap (λ (n : ℕ). entries_judged n a.pair) is-count;
       bytes_in_bounds = rw (← is-count) enough;
     }
 

@@ -2,7 +2,7 @@
 -- Assumes nothing.
 use mathlib.Core.Path.{sym, ◌∙◌, ap}
 use mathlib.Core.List.{[], ◌∷◌}
-use Rattle.closure.specs.declared.Closure.{Closure}
+use Rattle.closure.specs.Answer.{Closure}
 use Rattle.sets.specs.Sets.{size}
 use Rattle.buffers.specs.Buffers.{over}
 use Rattle.buffers.proofs.Laws.{sets_over}
@@ -15,8 +15,8 @@ pub returns-then-set-lt1 : goal.returns-then-set-lt1
 returns-then-set-lt1 c =
     let a = c.args in
     let same =
-    no_room 1 a.set.now (reply (accepted (size c.in-Complete.members)) (over (c.in-Complete.members ∷ []) a.set.now)) c.if-set-lt1.true
-    ∙ sym (ap (λ (f : Closure). closure_laid f a.set.now) c.in-Complete.is) in record {
+    no_room 1 a.set.now (reply (accepted (size c.in-Ok.members)) (over (c.in-Ok.members ∷ []) a.set.now)) c.if-set-lt1.true
+    ∙ sym (ap (λ (f : Closure). closure_laid f a.set.now) c.in-Ok.is) in record {
       answer = c.refused.ensures ∙ answers same;
       content = buffers same;
     }
@@ -25,16 +25,16 @@ pub returns-else-set-lt1 : goal.returns-else-set-lt1
 returns-else-set-lt1 c =
     let a = c.args in
     let same =
-    has_room 1 a.set.now (reply (accepted (size c.in-Complete.members)) (over (c.in-Complete.members ∷ []) a.set.now)) c.if-set-lt1.false
-    ∙ sym (ap (λ (f : Closure). closure_laid f a.set.now) c.in-Complete.is) in record {
+    has_room 1 a.set.now (reply (accepted (size c.in-Ok.members)) (over (c.in-Ok.members ∷ []) a.set.now)) c.if-set-lt1.false
+    ∙ sym (ap (λ (f : Closure). closure_laid f a.set.now) c.in-Ok.is) in record {
       answer = c.accepted.ensures ∙ ap accepted c.size.ensures ∙ answers same;
-      content = sets_over (c.in-Complete.members ∷ []) a.set.now c.if-set-lt1.false ∙ buffers same;
+      content = sets_over (c.in-Ok.members ∷ []) a.set.now c.if-set-lt1.false ∙ buffers same;
     }
 
-pub returns-in-Refused : goal.returns-in-Refused
-returns-in-Refused c =
+pub returns-in-Err : goal.returns-in-Err
+returns-in-Err c =
     let a = c.args in
-    let same = sym (ap (λ (f : Closure). closure_laid f a.set.now) c.in-Refused.is) in record {
-      answer = c.refused-in-Refused.ensures ∙ answers same;
+    let same = sym (ap (λ (f : Closure). closure_laid f a.set.now) c.in-Err.is) in record {
+      answer = c.refused-in-Err.ensures ∙ answers same;
       content = buffers same;
     }

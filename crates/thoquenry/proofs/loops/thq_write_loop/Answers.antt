@@ -16,20 +16,20 @@ returns-then-some_too_wide c =
 pub write_rows-written-requires : goal.write_rows-written-requires
 write_rows-written-requires c = sym c.some_too_wide.ensures ∙ c.if-some_too_wide.false
 
-pub returns-in-Bytes : goal.returns-in-Bytes
-returns-in-Bytes c =
+pub returns-in-Ok : goal.returns-in-Ok
+returns-in-Ok c =
     let a = c.args in
     let written = c.write_rows-written in
     let same = none_wide a.entries.now a.out.now (sym c.some_too_wide.ensures ∙ c.if-some_too_wide.false) in record {
-      answer = c.accepted.ensures ∙ sym (ap loop_written c.in-Bytes.is) ∙ ap loop_written written.ensures.0 ∙ answers same;
+      answer = c.accepted.ensures ∙ sym (ap loop_written c.in-Ok.is) ∙ ap loop_written written.ensures.0 ∙ answers same;
       content = written.ensures.1 ∙ buffers same;
     }
 
-pub returns-in-Refused : goal.returns-in-Refused
-returns-in-Refused c =
+pub returns-in-Err : goal.returns-in-Err
+returns-in-Err c =
     let a = c.args in
     let written = c.write_rows-written in
     let same = none_wide a.entries.now a.out.now (sym c.some_too_wide.ensures ∙ c.if-some_too_wide.false) in record {
-      answer = c.refused-in-Refused.ensures ∙ sym (ap loop_written c.in-Refused.is) ∙ ap loop_written written.ensures.0 ∙ answers same;
+      answer = c.refused-in-Err.ensures ∙ sym (ap loop_written c.in-Err.is) ∙ ap loop_written written.ensures.0 ∙ answers same;
       content = written.ensures.1 ∙ buffers same;
     }

@@ -8,7 +8,7 @@ use borrow.Author.Tests.{lt-ltb, le-ltb}
 use lib.Dec.{eqb, ltb}
 use Rattle.vocabulary.specs.declared.refusal.Refusal.TheVariants.{TooWide}
 use Rattle.stamps.specs.declared.Times.{Times}
-use Rattle.pes_writer.specs.declared.Written.{Written}
+use Rattle.pes_writer.specs.Answer.{Written}
 use Rattle.pes_writer.specs.Writing.{header_of, buffer_of}
 use Rattle.c_answers.specs.Answers.{Reply, unchanged}
 use Rattle.thoquenry.specs.Times.{bytes_written, times_written}
@@ -31,24 +31,24 @@ returns-then-with_tref-gt1 c =
       content = buffers same;
     }
 
-pub returns-in-Bytes : goal.returns-in-Bytes
-returns-in-Bytes c =
+pub returns-in-Ok : goal.returns-in-Ok
+returns-in-Ok c =
     let a = c.args in
     let written = c.write-written in
     let given = times a.pts a.decoding a.matching in
     let choice = eqb a.with_tref 1 in
     let same = by-choice a.with_tref a.out.now (times_written given choice a.out.now) _ (le-ltb 1 a.with_tref c.if-with_tref-gt1.false) in record {
-      answer = c.accepted.ensures ∙ sym (ap bytes_written c.in-Bytes.is) ∙ ap bytes_written written.ensures.value ∙ answers same;
+      answer = c.accepted.ensures ∙ sym (ap bytes_written c.in-Ok.is) ∙ ap bytes_written written.ensures.value ∙ answers same;
       content = written.ensures.out_after ∙ ap (λ (w : Written). buffer_of w (header_of given choice) a.out.now) written.ensures.value ∙ buffers same;
     }
 
-pub returns-in-Refused : goal.returns-in-Refused
-returns-in-Refused c =
+pub returns-in-Err : goal.returns-in-Err
+returns-in-Err c =
     let a = c.args in
     let written = c.write-written in
     let given = times a.pts a.decoding a.matching in
     let choice = eqb a.with_tref 1 in
     let same = by-choice a.with_tref a.out.now (times_written given choice a.out.now) _ (le-ltb 1 a.with_tref c.if-with_tref-gt1.false) in record {
-      answer = c.refused-in-Refused.ensures ∙ sym (ap bytes_written c.in-Refused.is) ∙ ap bytes_written written.ensures.value ∙ answers same;
+      answer = c.refused-in-Err.ensures ∙ sym (ap bytes_written c.in-Err.is) ∙ ap bytes_written written.ensures.value ∙ answers same;
       content = written.ensures.out_after ∙ ap (λ (w : Written). buffer_of w (header_of given choice) a.out.now) written.ensures.value ∙ buffers same;
     }

@@ -67,8 +67,8 @@ write_stereo-written-requires c =
           ∙ extension_fits extensions 8 (row_fits extensions 8 (sym c.extension_too_wide-2.ensures ∙ c.if-extension_too_wide-2.false)),
     )
 
-pub returns-in-Bytes : goal.returns-in-Bytes
-returns-in-Bytes c =
+pub returns-in-Ok : goal.returns-in-Ok
+returns-in-Ok c =
     let a = c.args in
     let entries = a.entries.now in
     let extensions = a.extensions.now in
@@ -84,12 +84,12 @@ returns-in-Bytes c =
     let is-content =
     written.ensures.1
     ∙ ap₂ (λ (x y : MvcExtension). stereo_content x y given out) c.extension_at-base.ensures c.extension_at-second.ensures in record {
-      answer = c.accepted.ensures ∙ sym (ap set_written (sym is_answer ∙ c.in-Bytes.is)) ∙ answers entries extensions out same;
+      answer = c.accepted.ensures ∙ sym (ap set_written (sym is_answer ∙ c.in-Ok.is)) ∙ answers entries extensions out same;
       content = is-content ∙ buffers entries extensions out same;
     }
 
-pub returns-in-Refused : goal.returns-in-Refused
-returns-in-Refused c =
+pub returns-in-Err : goal.returns-in-Err
+returns-in-Err c =
     let a = c.args in
     let entries = a.entries.now in
     let extensions = a.extensions.now in
@@ -105,6 +105,6 @@ returns-in-Refused c =
     let is-content =
     written.ensures.1
     ∙ ap₂ (λ (x y : MvcExtension). stereo_content x y given out) c.extension_at-base.ensures c.extension_at-second.ensures in record {
-      answer = c.refused-in-Refused.ensures ∙ sym (ap set_written (sym is_answer ∙ c.in-Refused.is)) ∙ answers entries extensions out same;
+      answer = c.refused-in-Err.ensures ∙ sym (ap set_written (sym is_answer ∙ c.in-Err.is)) ∙ answers entries extensions out same;
       content = is-content ∙ buffers entries extensions out same;
     }
