@@ -1,5 +1,5 @@
 #!/bin/sh
-# linked.sh: the tests of the library that others link. The archive and the shared object are built; the declarations agree; C, Rust
+# linked.sh: the tests of the library that others link. The archive and the shared object are built; the declarations agree; the archive asks for no more than it did; C, Rust
 # and Python call them on document 01's worked examples and run their own examples, those of docs/USING.md among them; a library that is missing is
 # told with its remedy; every call is compared with the independent implementation on generated inputs, by a fixed seed; and small real recordings
 # are read. It prints a line for each part and fails if anything fails.
@@ -40,6 +40,13 @@ build() {
 declarations() {
     x86_64-linux-gnu-nm -D --defined-only target/lib/libthoquenry.so | awk '$2 == "T" { print $3 }' >target/linked/offered
     python3 -B tests/declarations.py target/linked/offered
+}
+
+# What the archive asks of whoever links it: two functions of C's library, so that a program without that library can bring them.
+asked_for() {
+    asked=$(x86_64-linux-gnu-nm -u target/lib/libthoquenry.a | awk '$1 == "U" && $2 !~ /^thq_/ { print $2 }' | sort -u | tr '\n' ' ')
+    [ "$asked" = "memcpy memset " ] || { echo "the archive asks for: $asked"; return 1; }
+    echo "the archive asks for memcpy and memset alone"
 }
 
 called_from_c() {
@@ -96,6 +103,7 @@ compared() {
 
 part library '^archive' build
 part declarations 'agree' declarations
+part asks '^the archive asks' asked_for
 part c '^ok' called_from_c
 part rust '^[1-9][0-9]* tests passed' called_from_rust
 part python '^Ran [1-9]' called_from_python

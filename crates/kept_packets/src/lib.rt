@@ -22,7 +22,7 @@ fn settle_one(kept: &mut [u8], bytes: &[u8], slot: usize, end: usize) -> usize
         return end;
     }
     let start = end - PACKET_BYTES;
-    buffers::put_whole(kept, PACKET_BYTES * slot, &bytes[start..end]);
+    one_by_one::put_whole(kept, PACKET_BYTES * slot, &bytes[start..end]);
     KEPT
 }
 

@@ -39,7 +39,7 @@ fn put_lists(out: &mut [u8], at: usize, row: &[u32], references: &[u8], layers: 
     let first = buffers::put(out, at, &head);
     let second = put_references(out, first, references);
     let third = buffers::put(out, second, &count);
-    buffers::put(out, third, layers)
+    one_by_one::put(out, third, layers)
 }
 
 // THE POINT laid into `out` from place `at` on.

@@ -20,9 +20,7 @@ pub fn put_numbers(out: &mut [u32], at: usize, numbers: &[u32]) -> usize
     requires { at + length numbers.now ≤ length out.old }
     ensures { Laid out.old at numbers.now result out.new }
 {
-    let end = at + numbers.len();
-    out[at..end].copy_from_slice(numbers);
-    end
+    one_by_one::put_whole(out, at, numbers)
 }
 
 // Bytes without their first bit, which is reserved in a reference.
@@ -79,7 +77,7 @@ fn put_profiles(out: &mut [u8], at: usize, program: &[u8], place: usize) -> usiz
     let head = head_at(program, place);
     let first = place + 1;
     let end = first + head.num_ptl as usize * 12;
-    buffers::put(out, at, &program[first..end])
+    one_by_one::put(out, at, &program[first..end])
 }
 
 // The row of the point at a place.
@@ -137,7 +135,7 @@ fn put_flags(out: &mut [u8], at: usize, program: &[u8], place: usize) -> usize
     let point = point_at(program, place);
     let first = place + point.flags_at;
     let end = first + point.num_es_in_op as usize;
-    buffers::put(out, at, &program[first..end])
+    one_by_one::put(out, at, &program[first..end])
 }
 
 // The members of its stream list.
@@ -149,7 +147,7 @@ fn put_streams(out: &mut [u8], at: usize, program: &[u8], place: usize, layers: 
     let list = built.list;
     let members = list.members;
     let count = list.count;
-    buffers::put(out, at, &members[..count])
+    one_by_one::put(out, at, &members[..count])
 }
 
 // All of each kind, one function for each list.

@@ -18,7 +18,7 @@ pub fn put_before_points(out: &mut [u8], profiles: &[u8], points: usize, behind:
     let head = [63, behind as u8, 5, 192 + (profiles.len() / ROW) as u8];
     let count = [points as u8];
     let first = buffers::put(out, 0, &head);
-    let second = buffers::put(out, first, profiles);
+    let second = one_by_one::put(out, first, profiles);
     buffers::put(out, second, &count)
 }
 

@@ -104,7 +104,7 @@ fn put_numbers(starts: &[u64], numbers: &mut [u64])
     requires { length starts.now ≤ length numbers.old }
     ensures { numbers.new ≡ sets numbers.old 0 starts.now }
 {
-    numbers[..starts.len()].copy_from_slice(starts);
+    one_by_one::put_whole(numbers, 0, starts);
 }
 
 // All columns: the rows of the units that start in these packets, from the front on.
