@@ -19,11 +19,12 @@ const SET_LAYERS: usize = 5120;
 
 const SET_STORED: usize = 192;
 
-// Whether the stored numbers are those of the set.
+// Whether the stored numbers are those of the set. Its columns are taken out first: lent where they stand, they would hold the whole set on the stack once more.
 fn stored_right(set: LayerSet, stored: &[u64]) -> bool
     ensures { result ≡ stored_holds (stored_in «set») stored.now }
 {
-    layer_set_rows::stored_holds(&set.stored, stored)
+    let kept = set.stored;
+    layer_set_rows::stored_holds(&kept, stored)
 }
 
 // A set laid into its buffers. Counts its layers.
@@ -32,9 +33,10 @@ fn lay_set(set: LayerSet, layers: &mut [u16], stored: &mut [u64]) -> u64
     ensures { set_reply result layers.new stored.new ≡ set_laid «set» }
 {
     let entries = set.entries;
+    let kept = set.stored;
     let present = set.layers.present;
     layer_set_rows::lay_entries(entries, layers);
-    layer_set_rows::lay_stored(&set.stored, stored);
+    layer_set_rows::lay_stored(&kept, stored);
     accepted(sets::size(present))
 }
 
