@@ -78,15 +78,12 @@ fn print_refusal<W: Write>(out: &mut W, refusal: Refusal) -> Result<()> {
 
 // The whole answer for one loop.
 pub fn print<W: Write>(out: &mut W, read: LoopRead) -> Result<()> {
-    let outcome = read.outcome;
-    let entries = read.entries;
-    match outcome {
+    match read.outcome {
         Ok(()) => {
             say_number(out, b"accepted ", read.count)?;
             say(out, b"\n")?;
-            print_entries(out, read.count, entries)?;
+            print_entries(out, read.count, read.entries)
         }
-        Err(refusal) => print_refusal(out, refusal)?,
+        Err(refusal) => print_refusal(out, refusal),
     }
-    Ok(())
 }

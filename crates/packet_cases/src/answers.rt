@@ -87,6 +87,14 @@ pub fn print_units<W: Write>(out: &mut W, answer: u64, lists: &Lists) -> Result<
     print_each(out, units, lists)
 }
 
+// Lags to their end, behind a label, in one write.
+pub fn print_lags<W: Write>(out: &mut W, label: &str, lags: &[i64]) -> Result<()> {
+    let mut line = [0; 4096];
+    let end = unit_lines::put_lags(&mut line, 0, lags);
+    write!(out, "{label}")?;
+    out.write_all(&line[..end])
+}
+
 // A list to its end, behind a label.
 pub fn print_list<W: Write, T: Display>(out: &mut W, label: &str, list: &[T]) -> Result<()> {
     write!(out, "{label}")?;

@@ -21,23 +21,25 @@ struct Pieces {
 }
 
 impl Pieces {
-    // From the start of a recording to its end, or to the loop's refusal.
-    fn read(recording: Recording<'_>, cut: Cut) -> Pieces {
-        let mut pieces = Pieces {
+    fn empty() -> Pieces {
+        Pieces {
             begun: 0,
             state: [0; 20412],
             counts: [0; 72],
             rows: Rows::empty(),
-        };
-        pieces.begun = thoquenry_pieces::thq_packets_start(
-            recording.streams,
-            &mut pieces.state,
-            &mut pieces.counts,
-        );
-        if !answers::is_refusal(pieces.begun) {
-            pieces.feed_all(recording.packets, cut);
         }
-        pieces
+    }
+
+    // From the start of a recording to its end, or to the loop's refusal. In place, as it has 34 KB, and a case reads its recording four times.
+    fn read(&mut self, recording: Recording<'_>, cut: Cut) {
+        self.begun = thoquenry_pieces::thq_packets_start(
+            recording.streams,
+            &mut self.state,
+            &mut self.counts,
+        );
+        if !answers::is_refusal(self.begun) {
+            self.feed_all(recording.packets, cut);
+        }
     }
 
     fn feed(&mut self, piece: &[u8]) {
@@ -83,14 +85,12 @@ impl Pieces {
         thoquenry_pieces::thq_packets_told(&self.state, &self.counts)
     }
 
-    // The loop's refusal, or the import of all pieces; and the lists.
-    fn units(&self, streams: &[u8], target: u64) -> (u64, Lists) {
-        let mut lists = Lists::empty();
+    // The loop's refusal, or the import of all pieces, into the lists.
+    fn units(&self, streams: &[u8], target: u64, lists: &mut Lists) -> u64 {
         if answers::is_refusal(self.begun) {
-            return (self.begun, lists);
+            return self.begun;
         }
-        let answer = self.join(streams, target, &mut lists);
-        (answer, lists)
+        self.join(streams, target, lists)
     }
 
     fn join(&self, streams: &[u8], target: u64, lists: &mut Lists) -> u64 {
@@ -139,7 +139,8 @@ fn compare<W: Write, F: Fn(&Pieces) -> (u64, bool)>(
     requires { F.IsAlwaysCallable outcome }
 {
     for size in [smallest(recording.packets.len()), 61, 188, 1000] {
-        let pieces = Pieces::read(recording, Cut::Every(size));
+        let mut pieces = Pieces::empty();
+        pieces.read(recording, Cut::Every(size));
         let (answer, same) = outcome(&pieces);
         if !same {
             write!(out, "differs in pieces of {size} bytes: ")?;
@@ -174,7 +175,8 @@ pub fn compare_units<W: Write>(
     lists: &Lists,
 ) -> Result<()> {
     compare(out, recording, |pieces| {
-        let (joined, left) = pieces.units(recording.streams, target);
+        let mut left = Lists::empty();
+        let joined = pieces.units(recording.streams, target, &mut left);
         (joined, joined == answer && left == *lists)
     })
 }
@@ -186,8 +188,10 @@ pub fn answer_cut<W: Write>(
     recording: Recording<'_>,
     target: u64,
 ) -> Result<()> {
-    let pieces = Pieces::read(recording, Cut::At(lengths));
+    let mut pieces = Pieces::empty();
+    pieces.read(recording, Cut::At(lengths));
     answers::print_rows(out, pieces.told(), &pieces.rows)?;
-    let (answer, lists) = pieces.units(recording.streams, target);
+    let mut lists = Lists::empty();
+    let answer = pieces.units(recording.streams, target, &mut lists);
     answers::print_units(out, answer, &lists)
 }

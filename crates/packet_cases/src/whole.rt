@@ -85,7 +85,7 @@ pub fn answer_lists<W: Write>(
     );
     answers::print_answer(out, answer)?;
     answers::print_list(out, "\n  leaves numbers", numbers)?;
-    answers::print_list(out, " lags", lags)?;
+    answers::print_lags(out, " lags", lags)?;
     answers::print_list(out, " sizes", sizes)?;
     answers::print_list(out, " summary", summary)?;
     out.write_all(b"\n")

@@ -1,5 +1,6 @@
 // What is printed: the answers of the two functions for C, and their lists, one a line.
 use super::reading::Lists;
+use cases::say_number;
 use std::fmt::Display;
 use std::io::{Result, Write};
 
@@ -48,26 +49,26 @@ fn print_bytes<W: Write>(out: &mut W, label: &str, bytes: &[u8]) -> Result<()> {
     out.write_all(b"\n")
 }
 
-// The table's names for the twelve numbers of a point.
+// The table's names for the twelve numbers of a point, each with what stands before it and behind it: a number is then two writes, where `write!` with
+// the name in it takes four.
 static NAMES: [&str; 12] = [
-    "target_ols",
-    "ES_count",
-    "numEsInOp",
-    "avg_bit_rate_info_flag",
-    "max_bit_rate_info_flag",
-    "constant_frame_rate_info_idc",
-    "applicable_temporal_id",
-    "frame_rate_indicator",
-    "avg_bit_rate",
-    "max_bit_rate",
-    "streams",
-    "closed",
+    "  point target_ols ",
+    " ES_count ",
+    " numEsInOp ",
+    " avg_bit_rate_info_flag ",
+    " max_bit_rate_info_flag ",
+    " constant_frame_rate_info_idc ",
+    " applicable_temporal_id ",
+    " frame_rate_indicator ",
+    " avg_bit_rate ",
+    " max_bit_rate ",
+    " streams ",
+    " closed ",
 ];
 
 fn print_point<W: Write>(out: &mut W, point: &[u32]) -> Result<()> {
-    out.write_all(b"  point")?;
     for (name, value) in NAMES.iter().zip(point) {
-        write!(out, " {name} {value}")?;
+        say_number(out, name.as_bytes(), *value)?;
     }
     out.write_all(b"\n")
 }
