@@ -29,7 +29,7 @@ fn heading_of(letter: u8) -> Option<Heading> {
 }
 
 // What a line has given so far.
-#[derive(Drop)]
+#[derive(Clone, Copy)]
 pub struct Case {
     pub layers: Layers,
     pub target: u64,

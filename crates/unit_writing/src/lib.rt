@@ -13,21 +13,21 @@ use std::io::Write;
 const LONGEST_LINE: usize = 2753;
 
 // The columns of rows.
-#[derive(Drop)]
+#[derive(Clone, Copy)]
 pub struct Rows<'a> {
-    pub indices: &'a mut [u8],
-    pub decodings: &'a mut [u64],
-    pub matches: &'a mut [u64],
-    pub trefs: &'a mut [u8],
-    pub packets: &'a mut [u64],
+    pub indices: &'a [u8],
+    pub decodings: &'a [u64],
+    pub matches: &'a [u64],
+    pub trefs: &'a [u8],
+    pub packets: &'a [u64],
 }
 
 // The lists of units: row numbers and lags, and how many of them each unit has.
-#[derive(Drop)]
+#[derive(Clone, Copy)]
 pub struct Units<'a> {
-    pub numbers: &'a mut [u64],
-    pub lags: &'a mut [i64],
-    pub sizes: &'a mut [u64],
+    pub numbers: &'a [u64],
+    pub lags: &'a [i64],
+    pub sizes: &'a [u64],
 }
 
 // Where it is written: to standard output, through a text; and the path of the file in which the command is told what was written, empty where nobody is.

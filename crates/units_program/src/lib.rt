@@ -9,8 +9,47 @@ mod reading;
 
 pub use asking::{Question, asked};
 use std::str;
-pub use unit_writing::{Rows, Units};
 use unit_writing::{Answer, Output};
+
+// The columns that rows are read into. (Beside those of `unit_writing`, which are only looked at there: whoever writes rows need not be able to change them.)
+#[derive(Drop)]
+pub struct Rows<'a> {
+    pub indices: &'a mut [u8],
+    pub decodings: &'a mut [u64],
+    pub matches: &'a mut [u64],
+    pub trefs: &'a mut [u8],
+    pub packets: &'a mut [u64],
+}
+
+impl Rows<'_> {
+    fn read(&self) -> unit_writing::Rows<'_> {
+        unit_writing::Rows {
+            indices: self.indices,
+            decodings: self.decodings,
+            matches: self.matches,
+            trefs: self.trefs,
+            packets: self.packets,
+        }
+    }
+}
+
+// The lists that units are joined into: row numbers and lags, and how many of them each unit has.
+#[derive(Drop)]
+pub struct Units<'a> {
+    pub numbers: &'a mut [u64],
+    pub lags: &'a mut [i64],
+    pub sizes: &'a mut [u64],
+}
+
+impl Units<'_> {
+    fn joined(&self) -> unit_writing::Units<'_> {
+        unit_writing::Units {
+            numbers: self.numbers,
+            lags: self.lags,
+            sizes: self.sizes,
+        }
+    }
+}
 
 // The work space of joining, a place in each list for every row.
 #[derive(Drop)]
@@ -116,7 +155,12 @@ impl Room<'_> {
                 rows: self.recording.held(),
                 units,
             };
-            output.write_answer(answer, bytes, &self.recording.rows, &self.units);
+            output.write_answer(
+                answer,
+                bytes,
+                &self.recording.rows.read(),
+                &self.units.joined(),
+            );
         }
     }
 }
